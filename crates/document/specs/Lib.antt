@@ -1,0 +1,36 @@
+-- Document 01 as definitions, in its order. A reader must believe these files and nothing else.
+
+-- "What the build holds"
+pub mod Areas
+pub mod Values
+pub mod Stores
+-- "The line"
+pub mod Sum
+pub mod Doubling
+pub mod Pairing
+pub mod Message
+pub mod Answer
+-- "Numbers that refuse"
+pub mod Numbers
+pub mod Refusals
+pub mod Calls
+pub mod AnswerWriter
+pub mod CommandWriter
+pub mod AnswerReader
+-- "Commands"
+pub mod Kinds
+pub mod Fields
+pub mod Variables
+pub mod Scope
+pub mod Gate
+pub mod Commands
+-- "The recorder"
+pub mod Plan
+pub mod Trigger
+pub mod Run
+pub mod Recorder
+pub mod Sets
+-- since reset, and "Staples to try"
+pub mod Happenings
+pub mod Staples
+pub mod Orders
