@@ -1,4 +1,4 @@
--- Cases 1 to 13, and the order of the refusals, hold of the definitions: all of them by one computation.
+-- Cases 1 to 13 and the further rows hold of the definitions: all of them by one computation.
 use mathlib.Core.Path.{_≡_, refl}
 use mathlib.Core.List.{List, _++_, map}
 use Rattle.document.specs.Kinds.{kindOf}
@@ -10,12 +10,12 @@ use Rattle.document.specs.Run.{ranTick, memoryAfterTick}
 use Rattle.document.specs.Refusals.{refusal}
 use Rattle.document.specs.Commands.{carriedOut, answered}
 use Rattle.document.specs.Staples.{Case, shown, staples}
-use Rattle.document.specs.Orders.{orders}
+use Rattle.document.specs.Further.{orders, notServedCases}
 
 abbrev pub table : List Case
-unfolding staples orders
-table = staples ++ orders
+unfolding staples orders notServedCases
+table = staples ++ orders ++ notServedCases
 
 pub staples-hold : map shown table ≡ map (λ (c : Case). c .shows) table
-unfolding staples orders answerOnWire heard finishedBy kindOf refusal carriedOut answered planIn fires ranTick memoryAfterTick
+unfolding staples orders notServedCases answerOnWire heard finishedBy kindOf refusal carriedOut answered planIn fires ranTick memoryAfterTick
 staples-hold = refl

@@ -1,5 +1,5 @@
 -- The answer reader, over the bytes since the reading began: what a further byte gives.
-use mathlib.Core.Bool.{Bool, cond}
+use mathlib.Core.Bool.{cond}
 use mathlib.Core.List.{List, [], _∷_}
 use Prim.Native.Nat.{ℕ}
 use lib.ListN.{length}

@@ -2,12 +2,11 @@
 use mathlib.Core.Bool.{Bool, cond, _||_}
 use mathlib.Core.List.{List, [], _∷_}
 use Prim.Native.Nat.{ℕ, _+_, _*_}
-use lib.ListN.{getD, drop}
+use lib.ListN.{getD}
 use Rattle.document.specs.Numbers.{isIn}
-use Rattle.document.specs.Kinds.{hasLengthByte, fastLength}
 use Rattle.document.specs.Areas.{bytesAt}
 use Rattle.document.specs.Values.{number}
-use Rattle.document.specs.Variables.{addressWidth, lengthGiven}
+use Rattle.document.specs.Variables.{addressWidth}
 
 -- ---- groups
 

@@ -1,5 +1,5 @@
 -- What demand 3 compares: the memory, the scope and the recorder, and what a message makes of them.
-use mathlib.Core.List.{List, []}
+use mathlib.Core.List.{List}
 use Prim.Native.Nat.{ℕ}
 use Rattle.document.specs.Answer.{Answer}
 use Rattle.document.specs.Scope.{Scope}

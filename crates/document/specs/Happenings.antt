@@ -5,7 +5,7 @@ use Rattle.document.specs.Message.{Message, finishedBy}
 use Rattle.document.specs.Answer.{Answer}
 use Rattle.document.specs.Stores.{stored}
 use Rattle.document.specs.Recorder.{ticked, tickedMemory}
-use Rattle.document.specs.Gate.{Gate, Outcome}
+use Rattle.document.specs.Gate.{Gate}
 use Rattle.document.specs.Commands.{answered, withMemory}
 
 pub data Happening : Type 0 where

@@ -1,5 +1,5 @@
 -- "Every one of the 256 command values has a kind: fast, standard or not served."
-use mathlib.Core.Bool.{Bool, cond}
+use mathlib.Core.Bool.{Bool, true, false, cond}
 use mathlib.Core.List.{List, [], _∷_}
 use Prim.Native.Nat.{ℕ, _*_, _/_, _%_}
 use lib.Dec.{ltb}
@@ -36,8 +36,8 @@ standardCommands = 0x01 ∷ 0x04 ∷ 0x02 ∷ 0x05 ∷ 0x03 ∷ 0x06 ∷ 0x08 �
 unfoldable pub kindOf : ℕ → Kind
 kindOf c = cond (isIn c fastCommands) fast (cond (isIn c standardCommands) standard unserved)
 
--- "the command is not one of those below" is this one's negation
+-- whether "the command is .. one of those below"
 abbrev pub isServed : Kind → Bool
-isServed fast = Bool.true
-isServed standard = Bool.true
-isServed unserved = Bool.false
+isServed fast = true
+isServed standard = true
+isServed unserved = false

@@ -33,4 +33,4 @@ pub mod Sets
 -- since reset, and "Staples to try"
 pub mod Happenings
 pub mod Staples
-pub mod Orders
+pub mod Further

@@ -1,17 +1,16 @@
 -- "Staples to try": the table of cases 1 to 13, each from reset, with what goes over the wire and what is left.
-use mathlib.Core.Bool.{Bool, true, false}
+use mathlib.Core.Bool.{true, false}
 use mathlib.Core.List.{List, [], _∷_, _++_, map}
 use Prim.Native.Nat.{ℕ}
 use lib.ListN.{replicate}
 use Rattle.document.specs.Answer.{answerOnWire}
 use Rattle.document.specs.Stores.{stored}
-use Rattle.document.specs.declared.Variable.{Variable}
 use Rattle.document.specs.Run.{Run}
 use Rattle.document.specs.Run.Watch.{previous, triggered}
 use Rattle.document.specs.Recorder.Recorder.{planned}
 use Rattle.document.specs.Scope.Scope.{absent}
 use Rattle.document.specs.Gate.{Gate, fresh}
-use Rattle.document.specs.Happenings.{Happening, Since, afterAll, fromReset}
+use Rattle.document.specs.Happenings.{Happening, afterAll, fromReset}
 use Rattle.document.specs.Happenings.Happening.{byte, tick, writes}
 
 -- what a case shows: the answers as they go over the wire, and the gate that is left

@@ -1,4 +1,5 @@
--- Messages to which two refusals apply: "the first that applies in this order", in rows like those of the staples.
+-- Further rows for the table of the staples: messages to which two refusals apply, and the commands that document 01
+-- names as not served.
 use mathlib.Core.List.{List, [], _∷_, _++_, map}
 use Prim.Native.Nat.{ℕ}
 use lib.ListN.{replicate}
@@ -10,6 +11,7 @@ use Rattle.document.specs.Staples.{Case, zeros, case, risingSetup, risin
 abbrev pub refusedWith : ℕ → ℕ → List ℕ → Case
 refusedWith status sumByte bytes = case status zeros bytes ((0x2B ∷ status ∷ sumByte ∷ []) ∷ []) zeros
 
+-- "the first that applies in this order"
 unfoldable pub orders : List Case
 orders =
     -- a wrong sum, and a length byte above 64
@@ -29,4 +31,15 @@ orders =
     ∷ refusedWith 0x86 0x7A (0x2B ∷ 0x02 ∷ 0x03 ∷ 0x00 ∷ 0x00 ∷ 0x40 ∷ 0xBB ∷ [])
     -- 65 bytes, and an address beyond the memory
     ∷ refusedWith 0x84 0x7C (0x2B ∷ 0x01 ∷ 0x03 ∷ 0x41 ∷ 0x00 ∷ 0x40 ∷ 0x7B ∷ [])
+    ∷ []
+
+-- "Application commands (0x10, 0xC6), TSA and string length (0x11, 0x12, 0xD4, 0xE6) answer 0x81."
+unfoldable pub notServedCases : List Case
+notServedCases =
+    refusedWith 0x81 0x7F (0x2B ∷ 0x10 ∷ 0x00 ∷ 0xF0 ∷ [])
+    ∷ refusedWith 0x81 0x7F (0x2B ∷ 0xC6 ∷ 0x3A ∷ [])
+    ∷ refusedWith 0x81 0x7F (0x2B ∷ 0x11 ∷ 0x00 ∷ 0xEF ∷ [])
+    ∷ refusedWith 0x81 0x7F (0x2B ∷ 0x12 ∷ 0x00 ∷ 0xEE ∷ [])
+    ∷ refusedWith 0x81 0x7F (0x2B ∷ 0xD4 ∷ 0x00 ∷ 0x00 ∷ 0x2C ∷ [])
+    ∷ refusedWith 0x81 0x7F (0x2B ∷ 0xE6 ∷ 0x00 ∷ 0x00 ∷ 0x00 ∷ 0x00 ∷ 0x1A ∷ [])
     ∷ []
