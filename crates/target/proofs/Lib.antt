@@ -1,0 +1,6 @@
+pub mod Telling
+pub mod Table
+pub mod FieldLaws
+pub mod Groups
+pub mod Operated
+pub mod Happened

@@ -1,0 +1,25 @@
+-- A table that is its rule, entry by entry: antt computes the rule's list, and that is the table.
+use mathlib.Core.Path.{_≡_, ap, sym, _∙_}
+use mathlib.Core.List.{List, [], _∷_}
+use Prim.Native.Nat.{ℕ, zero, suc, _+_, _<_}
+use native.Mathlib.Nat.{add-zero, zero-add, add-suc, suc-add}
+use native.Mathlib.Omega.{arith}
+use lib.ListN.{getD}
+
+-- what a rule gives for n numbers from i on
+abbrev pub upto : {A : Type 0} → (ℕ → A) → ℕ → ℕ → List A
+upto f i zero = []
+upto f i (suc n) = f i ∷ upto f (suc i) n
+
+from : {A : Type 0} (f : ℕ → A) (d : A) (n i k : ℕ) → k < n → getD (upto f i n) k d ≡ f (i + k)
+from f d zero i k h = let b : ⊥ = omega arith in absurd b
+from f d (suc n) i zero h = ap f (sym (add-zero i))
+from f d (suc n) i (suc k) h = from f d n (suc i) k (omega arith) ∙ ap f (suc-add i k ∙ sym (add-suc i k))
+
+pub entry-at : {A : Type 0} (f : ℕ → A) (d : A) (n k : ℕ) → k < n → getD (upto f 0 n) k d ≡ f k
+entry-at f d n k h = from f d n 0 k h ∙ ap f (zero-add k)
+
+-- two rules with one table agree
+pub same-rule : {A : Type 0} (f g : ℕ → A) (d : A) (n k : ℕ) → upto f 0 n ≡ upto g 0 n → k < n → f k ≡ g k
+same-rule f g d n k e h =
+    sym (entry-at f d n k h) ∙ ap (λ (l : List _). getD l k d) e ∙ entry-at g d n k h

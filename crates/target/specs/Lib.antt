@@ -1,0 +1,4 @@
+pub mod Operations
+pub mod Bytes
+pub mod Looked
+pub mod Told

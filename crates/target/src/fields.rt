@@ -1,0 +1,74 @@
+// The fields of a read or a write, as they stand in the message's data.
+ghost use mathlib.Core.Path.{_≡_};
+ghost use mathlib.Core.List.{[], _∷_};
+ghost use Prim.Native.Nat.{_≤_, _<_};
+ghost use lib.ListN.{length};
+ghost use Rattle.document.specs.Fields.{sizeField, addressField, addressPlace, dataPlace};
+ghost use Rattle.document.specs.Variables.{addressWidth};
+ghost use Rattle.target.specs.Operations.{blockStatus};
+ghost use Rattle.target.specs.Looked.{Looked};
+use crate::operation::Operation;
+use crate::operation::READ;
+use crate::operation::WRITE;
+
+fn wide(byte: u8) -> usize
+    ensures { λ r. ⌜ (r ≡ byte) × (r ≤ 255) ⌝ }
+{
+    byte as usize
+}
+
+// The command's own size, or the one that the data begin with.
+pub fn size_in(operation: Operation, body: &[u8]) -> usize
+    requires { ⌜ Looked operation ⌝ }
+    ensures { λ r. ⌜ (r ≡ sizeField (operation .command) (now (body .entry))) × (r ≤ 255) ⌝ }
+{
+    if operation.size != 0 {
+        return wide(operation.size);
+    }
+    if body.len() == 0 {
+        return 0;
+    }
+    wide(body[0])
+}
+
+fn address_place(operation: Operation) -> usize
+    requires { ⌜ Looked operation ⌝ }
+    ensures { λ r. ⌜ (r ≡ addressPlace (operation .command)) × (r ≤ 1) ⌝ }
+{
+    if operation.size == 0 { 1 } else { 0 }
+}
+
+fn address_width(ex: bool) -> usize
+    ensures { λ r. ⌜ (r ≡ addressWidth ex) × (r ≤ 4) ⌝ }
+{
+    if ex { 4 } else { 2 }
+}
+
+// Where the address ends and the data to write begin.
+pub fn data_place(operation: Operation) -> usize
+    requires { ⌜ Looked operation ⌝ }
+    ensures { λ r. ⌜ (r ≡ dataPlace (operation .command)) × (r ≤ 5) ⌝ }
+{
+    address_place(operation) + address_width(operation.ex)
+}
+
+// Who asks has checked that the data reach behind the address.
+pub fn address_in(operation: Operation, body: &[u8]) -> u32
+    requires { ⌜ Looked operation × (dataPlace (operation .command) ≤ length (now body)) ⌝ }
+    ensures { λ r. ⌜ r ≡ addressField (operation .command) (now (body .entry)) ⌝ }
+{
+    let from = address_place(operation);
+    let to = data_place(operation);
+    memory::number(&body[from..to])
+}
+
+// How often a block command carries its size in bytes: not at all, as data, as data and mask.
+fn copies(operation: Operation) -> usize {
+    if operation.number == READ {
+        return 0;
+    }
+    if operation.number == WRITE {
+        return 1;
+    }
+    2
+}

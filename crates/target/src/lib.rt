@@ -1,0 +1,4 @@
+// The target: what comes over the port, refused or carried out.
+mod answer;
+mod fields;
+mod operation;
