@@ -27,7 +27,7 @@ size-of c body = split (hasSize c) (λ h. rw h refl) (λ h. rw h refl)
 module _ (o : Operation) (looked : Looked o) where
   -- a command with a size of its own
   module _ (own : o .size ≡ 0 → ⊥) where
-    unsized : hasSize (o .command) ≡ false
+    pub unsized : hasSize (o .command) ≡ false
     unsized = own-size (o .command) (looked .byte) ∙ ne-eqb (sizeField (o .command) []) 0 (λ e. own (looked .size ∙ e))
 
     pub size-own : (body : List ℕ) → o .size ≡ sizeField (o .command) body
@@ -38,7 +38,7 @@ module _ (o : Operation) (looked : Looked o) where
 
   -- a command whose data begin with a size
   module _ (none : o .size ≡ 0) where
-    sized : hasSize (o .command) ≡ true
+    pub sized : hasSize (o .command) ≡ true
     sized = own-size (o .command) (looked .byte) ∙ eq-eqb (sizeField (o .command) []) 0 (sym (looked .size) ∙ none)
 
     pub size-first : (body : List ℕ) → getD body 0 0 ≡ sizeField (o .command) body

@@ -5,6 +5,7 @@ use mathlib.Core.List.{List, [], _∷_}
 use Prim.Native.Nat.{ℕ, zero, suc, _+_, _<_}
 use borrow.Author.Tests.{ltb-true}
 use lib.Dec.{eqb, ltb}
+use lib.ListN.{getD}
 use Rattle.document.specs.Kinds.{kindOf, isServed}
 use Rattle.document.specs.Fields.{reads, writesPlain, writesMasked, setsUpScope, setsUpRecorder, queriesBuffer, asksRecorder, hasSize}
 use Rattle.target.specs.Operations.{operationOf}
@@ -62,3 +63,10 @@ bounded = refl
 
 pub operation-below : (c : ℕ) → c < 256 → operationOf c < 13
 operation-below c h = ltb-true _ _ (same-rule (λ (k : ℕ). ltb (operationOf k) 13) (λ (k : ℕ). true) false 256 c bounded h)
+
+-- a group's test, read off the list
+pub at-group :
+    (c operation k : ℕ)
+    → groupsOf c ≡ groupsAt operation c
+    → getD (groupsOf c) k false ≡ getD (groupsAt operation c) k false
+at-group c operation k e = ap (λ (l : List Bool). getD l k false) e

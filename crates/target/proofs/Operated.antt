@@ -13,14 +13,7 @@ use Rattle.document.specs.Gate.{Gate, Outcome}
 use Rattle.document.specs.Refusals.{refusal}
 use Rattle.document.specs.Commands.{answered, carriedOut}
 use Rattle.target.specs.Operations.{operationOf, operated}
-use Rattle.target.proofs.Groups.{groupsOf, groupsAt, same-groups, operation-below}
-
--- a group's test, read off the list
-at-group :
-    (c operation k : ℕ)
-    → groupsOf c ≡ groupsAt operation c
-    → getD (groupsOf c) k false ≡ getD (groupsAt operation c) k false
-at-group c operation k e = ap (λ (l : List Bool). getD l k false) e
+use Rattle.target.proofs.Groups.{groupsOf, groupsAt, same-groups, operation-below, at-group}
 
 operated-as :
     (operation : ℕ) (g : Gate) (m : Message)

@@ -3,10 +3,13 @@ ghost use mathlib.Core.Path.{_≡_};
 ghost use mathlib.Core.List.{[], _∷_};
 ghost use Prim.Native.Nat.{_≤_, _<_};
 ghost use lib.ListN.{length};
-ghost use Rattle.document.specs.Fields.{sizeField, addressField, addressPlace, dataPlace};
+ghost use Rattle.document.specs.Fields.{sizeField, addressField, addressPlace, dataPlace, blockLength};
 ghost use Rattle.document.specs.Variables.{addressWidth};
 ghost use Rattle.target.specs.Operations.{blockStatus};
 ghost use Rattle.target.specs.Looked.{Looked};
+use crate::numbers::DONE;
+use crate::numbers::LAYOUT_WRONG;
+use crate::numbers::SIZE_WRONG;
 use crate::operation::Operation;
 use crate::operation::READ;
 use crate::operation::WRITE;
@@ -62,13 +65,35 @@ pub fn address_in(operation: Operation, body: &[u8]) -> u32
     memory::number(&body[from..to])
 }
 
-// How often a block command carries its size in bytes: not at all, as data, as data and mask.
-fn copies(operation: Operation) -> usize {
+// How long the fields say that the data are.
+fn block_length(operation: Operation, body: &[u8]) -> usize
+    requires { ⌜ Looked operation ⌝ }
+    ensures { λ r. ⌜ r ≡ blockLength (operation .command) (now (body .entry)) ⌝ }
+{
+    let size = size_in(operation, body);
+    let place = data_place(operation);
     if operation.number == READ {
-        return 0;
+        return place;
     }
     if operation.number == WRITE {
-        return 1;
+        return place + size;
     }
-    2
+    place + 2 * size
+}
+
+// The status that a block command's own fields give.
+pub fn block_status(operation: Operation, body: &[u8]) -> u8
+    requires { ⌜ Looked operation ⌝ }
+    ensures { λ r. ⌜ r ≡ blockStatus (operation .command) (now (body .entry)) ⌝ }
+{
+    if operation.size != 0 {
+        return DONE;
+    }
+    if body.len() != block_length(operation, body) {
+        return LAYOUT_WRONG;
+    }
+    if size_in(operation, body) == 0 {
+        return SIZE_WRONG;
+    }
+    DONE
 }

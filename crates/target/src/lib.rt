@@ -1,4 +1,5 @@
 // The target: what comes over the port, refused or carried out.
 mod answer;
 mod fields;
+mod numbers;
 mod operation;

@@ -17,8 +17,11 @@ returns : tie.Need-returns
 returns c = (c .wide .ensures .0 ∙ size-own _ (c .before .before .before .before .pre) (c .before .if1 .taken) (c .before .before .before .before .args .body .now), c .wide .ensures .1)
 
 returns-2 : tie.Need-returns-2
-returns-2 c = (sym (List·getD-eq-default (c .before .before .before .before .args .body .now) 0 (omega arith))
-    ∙ size-first _ (c .before .before .before .before .pre) (c .before .if1 .left) (c .before .before .before .before .args .body .now), omega arith)
+returns-2 c = (
+  sym (List·getD-eq-default (c .before .before .before .before .args .body .now) 0 (omega arith))
+      ∙ size-first _ (c .before .before .before .before .pre) (c .before .if1 .left) (c .before .before .before .before .args .body .now),
+  omega arith,
+)
 
 shared-slice-read-wide : tie.Need-shared-slice-read-wide
 shared-slice-read-wide c = search needs
