@@ -4,4 +4,6 @@ pub mod FieldLaws
 pub mod BlockLaws
 pub mod Groups
 pub mod Operated
+pub mod Unless
+pub mod ReadLaws
 pub mod Happened

@@ -1,5 +1,5 @@
 -- An answer that can be formed, in a buffer of 132 bytes, is told.
-use mathlib.Core.Path.{_≡_, refl, ap, _∙_}
+use mathlib.Core.Path.{_≡_, refl, ap, subst, _∙_}
 use mathlib.Core.Bool.{true, false, and-false}
 use mathlib.Core.List.{List, []}
 use Prim.Native.Nat.{ℕ, _≤_}
@@ -29,3 +29,11 @@ told-written a before w after written formed room =
 -- a status alone can be formed
 pub status-formed : (s : ℕ) → isStatus s ≡ true → answerFormed (record { status = s; body = [] }) ≡ true
 status-formed s h = rw (h, and-false (isError s)) refl
+
+-- data of at most 64 bytes beside a success can be formed
+pub data-formed : (body : List ℕ) → length body ≤ 64 → answerFormed (record { status = 0x00; body = body }) ≡ true
+data-formed body short = rw (le-ltb 64 (length body) short) refl
+
+-- what is told is told of an equal answer
+pub told-as : {before after : List ℕ} {written : ℕ} (a b : Answer) → a ≡ b → Told a before written after → Told b before written after
+told-as {before} {after} {written} a b e t = subst (λ (x : Answer). Told x before written after) e t

@@ -1,4 +1,5 @@
 pub mod Operations
 pub mod Bytes
 pub mod Looked
+pub mod Asked
 pub mod Told

@@ -3,3 +3,4 @@ mod answer;
 mod fields;
 mod numbers;
 mod operation;
+mod reading;
