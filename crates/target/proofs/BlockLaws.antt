@@ -93,3 +93,17 @@ module _ (o : Operation) (looked : Looked o) (body : List ℕ) (low : 3 ≤ o .n
 
   pub fields-fit : lengthFits (o .command) (length body) ≡ true → blockStatus (o .command) body ≡ done → blockLength (o .command) body ≤ length body
   fields-fit formed right = split (hasSize (o .command)) (λ sized. fits-block sized right) (λ own. fits-own own formed)
+
+-- the address of a read; the address and the data of a write; and its mask, where it has one
+module _ (o : Operation) (looked : Looked o) (body : List ℕ) (formed : lengthFits (o .command) (length body) ≡ true)
+    (right : blockStatus (o .command) body ≡ done) where
+  pub read-fits : o .number ≡ 3 → dataPlace (o .command) ≤ length body
+  read-fits n = rw (length-read o looked body n) (fields-fit o looked body (omega arith) (omega arith) formed right)
+
+  pub write-fits : o .number ≡ 4 → dataPlace (o .command) + sizeField (o .command) body ≤ length body
+  write-fits n = rw (length-write o looked body n) (fields-fit o looked body (omega arith) (omega arith) formed right)
+
+  pub mask-fits : o .number ≡ 5 → dataPlace (o .command) + 2 * sizeField (o .command) body ≤ length body
+  mask-fits n =
+      rw (length-mask o looked body (λ e. omega arith) (λ e. omega arith))
+      (fields-fit o looked body (omega arith) (omega arith) formed right)

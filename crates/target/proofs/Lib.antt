@@ -6,4 +6,5 @@ pub mod Groups
 pub mod Operated
 pub mod Unless
 pub mod ReadLaws
+pub mod WriteLaws
 pub mod Happened

@@ -3,3 +3,4 @@ pub mod Bytes
 pub mod Looked
 pub mod Asked
 pub mod Told
+pub mod Wrote

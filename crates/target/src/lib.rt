@@ -4,3 +4,4 @@ mod fields;
 mod numbers;
 mod operation;
 mod reading;
+mod writing;

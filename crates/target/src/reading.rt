@@ -1,5 +1,7 @@
 // Reads: 1, 2 or 4 bytes at an address, or a block.
 ghost use mathlib.Core.Path.{_≡_};
+ghost use Prim.Native.Nat.{_≤_};
+ghost use lib.ListN.{length};
 ghost use Rattle.document.specs.Gate.{Gate};
 ghost use Rattle.target.specs.Operations.{reading};
 ghost use Rattle.target.specs.Asked.{Asked};
@@ -21,7 +23,7 @@ fn place(address: u32) -> usize
 }
 
 pub fn read(operation: Operation, body: &[u8], memory: &[u8], out: &mut [u8]) -> usize
-    requires { ⌜ Asked operation (now body) (now memory) (now out) × (operation .number ≡ 3) ⌝ }
+    requires { ⌜ Asked operation (now body) (now memory) × (operation .number ≡ 3) × (132 ≤ length (now out)) ⌝ }
     ensures { λ r. ⌜ ((g : Gate) → g .memory ≡ now (memory .entry) → Told (reading g (operation .command) (now (body .entry)) .answer) (now (out .entry)) r (now (out .exit))) ⌝ }
 {
     let status = block_status(operation, body);

@@ -31,7 +31,7 @@ block-status-requires c κs = search needs
 
 say-requires : tie.Need-say-requires
 say-requires c κs =
-    (ap isStatus (c .before .before .block-status .ensures) ∙ block-status (c .before .before .before .before .before .before .args .operation .command) (c .before .before .before .before .before .before .args .body .now), c .before .before .before .before .before .before .pre .0 .room)
+    (ap isStatus (c .before .before .block-status .ensures) ∙ block-status (c .before .before .before .before .before .before .args .operation .command) (c .before .before .before .before .before .before .args .body .now), c .before .before .before .before .before .before .pre .2)
 
 same-length : tie.Need-same-length
 same-length c = search needs
@@ -49,7 +49,7 @@ size-in-requires c κs = search needs
 
 say-requires-2 : tie.Need-say-requires-2
 say-requires-2 c κs =
-    (refl, c .before .before .before .before .before .before .before .before .pre .0 .room)
+    (refl, c .before .before .before .before .before .before .before .before .pre .2)
 
 same-length-2 : tie.Need-same-length-2
 same-length-2 c = search needs
@@ -62,17 +62,18 @@ returns-2 c =
     (c .before .before .say2 .ensures)
 
 address-in-requires : tie.Need-address-in-requires
-address-in-requires c κs =
-    (c .before .before .before .before .before .before .before .pre .0 .looked,
-    subst (λ (n : ℕ). n ≤ length (c .before .before .before .before .before .before .before .args .body .now)) (sym (length-read (c .before .before .before .before .before .before .before .args .operation) (c .before .before .before .before .before .before .before .pre .0 .looked) (c .before .before .before .before .before .before .before .args .body .now) (c .before .before .before .before .before .before .before .pre .1)))
-    (fields-fit (c .before .before .before .before .before .before .before .args .operation) (c .before .before .before .before .before .before .before .pre .0 .looked) (c .before .before .before .before .before .before .before .args .body .now) (omega arith) (omega arith) (c .before .before .before .before .before .before .before .pre .0 .formed) (sym (c .before .before .before .block-status .ensures) ∙ c .before .before .if1 .left)))
+address-in-requires c κs = (
+  c .before .before .before .before .before .before .before .pre .0 .looked,
+  subst (λ (n : ℕ). n ≤ length (c .before .before .before .before .before .before .before .args .body .now)) (sym (length-read (c .before .before .before .before .before .before .before .args .operation) (c .before .before .before .before .before .before .before .pre .0 .looked) (c .before .before .before .before .before .before .before .args .body .now) (c .before .before .before .before .before .before .before .pre .1)))
+      (fields-fit (c .before .before .before .before .before .before .before .args .operation) (c .before .before .before .before .before .before .before .pre .0 .looked) (c .before .before .before .before .before .before .before .args .body .now) (omega arith) (omega arith) (c .before .before .before .before .before .before .before .pre .0 .formed) (sym (c .before .before .before .block-status .ensures) ∙ c .before .before .if1 .left)),
+)
 
 may-be-read-requires : tie.Need-may-be-read-requires
 may-be-read-requires c κs = search needs
 
 say-requires-3 : tie.Need-say-requires-3
 say-requires-3 c κs =
-    (refl, c .before .before .before .before .before .before .before .before .before .before .before .pre .0 .room)
+    (refl, c .before .before .before .before .before .before .before .before .before .before .before .pre .2)
 
 same-length-3 : tie.Need-same-length-3
 same-length-3 c = search needs
@@ -102,9 +103,10 @@ part-tell-end c =
     omega (arith, leb-true (c .before .before .before .address-in .result + c .before .before .before .before .before .size-in .result) memoryEnd (sym (c .before .before .may-be-read .ensures) ∙ not-false _ (c .before .if3 .left)))
 
 tell-requires : tie.Need-tell-requires
-tell-requires c κs =
-    (data-formed (take (c .before .before .place .result + c .before .before .before .before .before .before .before .size-in .result - c .before .before .place .result) (drop (c .before .before .place .result) (c .before .before .before .before .before .before .before .before .before .before .before .before .before .args .memory .now))) (simp length-take (omega arith)),
-    c .before .before .before .before .before .before .before .before .before .before .before .before .before .pre .0 .room)
+tell-requires c κs = (
+  data-formed (take (c .before .before .place .result + c .before .before .before .before .before .before .before .size-in .result - c .before .before .place .result) (drop (c .before .before .place .result) (c .before .before .before .before .before .before .before .before .before .before .before .before .before .args .memory .now))) (simp length-take (omega arith)),
+  c .before .before .before .before .before .before .before .before .before .before .before .before .before .pre .2,
+)
 
 same-length-4 : tie.Need-same-length-4
 same-length-4 c = search needs

@@ -1,0 +1,44 @@
+// Writes, plain and masked. Payload and mask are handed on as parts of the message's data.
+ghost use mathlib.Core.Path.{_≡_};
+ghost use Prim.Native.Nat.{_≤_};
+ghost use lib.ListN.{length};
+ghost use Rattle.document.specs.Areas.{memoryEnd};
+ghost use Rattle.document.specs.Gate.{Gate};
+ghost use Rattle.document.specs.Commands.{written, writtenMasked};
+ghost use Rattle.memory.specs.Writes.{numberOf};
+ghost use Rattle.target.specs.Operations.{writing};
+ghost use Rattle.target.specs.Asked.{Asked};
+ghost use Rattle.target.specs.Wrote.{Wrote};
+use crate::fields::address_in;
+use crate::fields::block_status;
+use crate::fields::data_place;
+use crate::fields::size_in;
+use crate::numbers::DONE;
+use crate::numbers::RANGE_WRONG;
+use crate::operation::Operation;
+use memory::Stored;
+
+// The memory is of the right length here; its number stands for a case that does not come.
+fn status_of(stored: Stored) -> u8
+    ensures { λ r. ⌜ r ≡ numberOf stored ⌝ }
+{
+    match stored {
+        Stored::Done => DONE,
+        Stored::OtherLength => 2,
+        Stored::Outside => RANGE_WRONG,
+    }
+}
+
+pub fn write(operation: Operation, body: &[u8], memory: &mut [u8]) -> u8
+    requires { ⌜ Asked operation (now body) (now memory) × (operation .number ≡ 4) ⌝ }
+    ensures { λ r. ⌜ ((g : Gate) → g .memory ≡ now (memory .entry) → Wrote (writing g (operation .command) (now (body .entry)) (written g (operation .command) (now (body .entry)))) r (now (memory .exit))) ⌝ }
+{
+    let status = block_status(operation, body);
+    if status != DONE {
+        return status;
+    }
+    let address = address_in(operation, body);
+    let from = data_place(operation);
+    let to = from + size_in(operation, body);
+    status_of(memory::write(memory, address, &body[from..to]))
+}
