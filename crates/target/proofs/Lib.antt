@@ -7,4 +7,5 @@ pub mod Operated
 pub mod Unless
 pub mod ReadLaws
 pub mod WriteLaws
+pub mod Words
 pub mod Happened
