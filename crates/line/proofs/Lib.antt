@@ -5,3 +5,5 @@ pub mod Frames
 pub mod Resync
 pub mod RightSum
 pub mod RoundTrip
+pub mod Ends
+pub mod Half
