@@ -1,5 +1,13 @@
 -- What follows from the definitions of the line.
-pub mod Tests
+pub mod Cases
+-- the line, read
+pub mod Pairing
+pub mod Machine
+pub mod Frames
+pub mod Resync
+pub mod RightSum
+pub mod RoundTrip
+-- the line, written
 pub mod Stuffed
+pub mod Writing
 pub mod Statuses
-pub mod Framed
