@@ -1,4 +1,6 @@
+-- What follows from the definitions of the line.
 pub mod Cases
+-- the line, read
 pub mod Pairing
 pub mod Machine
 pub mod Frames
@@ -7,3 +9,7 @@ pub mod RightSum
 pub mod RoundTrip
 pub mod Ends
 pub mod Half
+-- the line, written
+pub mod Stuffed
+pub mod Writing
+pub mod Statuses
