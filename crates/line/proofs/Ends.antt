@@ -13,6 +13,7 @@ use Rattle.document.specs.Doubling.{stuffed}
 use Rattle.document.specs.Pairing.{paired, opened, literal}
 use Rattle.line.proofs.Cases.{split}
 use Rattle.line.proofs.Pairing.{waitsBehind, waitsAfter, reset, framed, paired-stuffed, paired-settled, opened-literals, opened-framed}
+use Rattle.line.proofs.Stuffed.{stuffed-cons, stuffed-append}
 use Rattle.line.proofs.Machine.{foundBy}
 use Rattle.line.proofs.Resync.{none-waits, stuffed-settled}
 
@@ -35,9 +36,6 @@ stuffed-before l bs =
 start-before : (c : ℕ) (bs : List ℕ) → eqb c 0x2B ≡ false → waitsAfter (0x2B ∷ c ∷ bs) ≡ waitsAfter bs
 unfolding waitsAfter
 start-before c bs other = ap (λ (waiting : Bool). foldl waitsBehind waiting bs) (none-waits true c other)
-
-stuffed-cons : (l : ℕ) (ls : List ℕ) → stuffed (l ∷ ls) ≡ stuffed (l ∷ []) ++ stuffed ls
-stuffed-cons l ls = split (eqb l 0x2B) (λ plus. simp plus) (λ other. simp other)
 
 behind-literal : (l : ℕ) (bs : List ℕ) → Place bs → Place (stuffed (l ∷ []) ++ bs)
 behind-literal l bs (outside ls waiting e) =
@@ -92,12 +90,13 @@ last [] = none refl
 last (l ∷ ls) = last-behind l ls (last ls)
 
 -- a last literal's bytes: the first 0x2B of two where it is one, and itself
+stuffed-one-byte : (l : ℕ) → stuffed (l ∷ []) ≡ heldBack (eqb l 0x2B) ++ (l ∷ [])
+stuffed-one-byte l = split (eqb l 0x2B) (λ plus. rw (plus, eqb-true l 0x2B plus) refl) (λ other. rw other refl)
+
 stuffed-last : (front : List ℕ) (l : ℕ) → stuffed (front ++ (l ∷ [])) ≡ stuffed front ++ heldBack (eqb l 0x2B) ++ (l ∷ [])
-stuffed-last [] l = split (eqb l 0x2B) (λ plus. rw (plus, eqb-true l 0x2B plus) refl) (λ other. rw other refl)
-stuffed-last (x ∷ front) l =
-    split (eqb x 0x2B)
-    (λ plus. rw (plus, stuffed-last front l) refl)
-    (λ other. rw (other, stuffed-last front l) refl)
+stuffed-last front l =
+    stuffed-append front (l ∷ [])
+    ∙ rw (stuffed-one-byte l) (sym (append-assoc (stuffed front) (heldBack (eqb l 0x2B)) (l ∷ [])))
 
 held-quiet : (waiting : Bool) → paired (heldBack waiting) ≡ []
 held-quiet true = refl
