@@ -1,0 +1,6 @@
+-- What follows from the definitions of the receiver.
+pub mod Sound
+pub mod Body
+pub mod Owed
+pub mod Reports
+pub mod Runs
