@@ -4,3 +4,5 @@ pub mod Body
 pub mod Owed
 pub mod Reports
 pub mod Runs
+pub mod Demands
+pub mod Places

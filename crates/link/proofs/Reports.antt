@@ -16,7 +16,7 @@ use Rattle.link.specs.declared.Receiver.{Receiver}
 use Rattle.link.specs.declared.Taken.{Taken}
 use Rattle.link.specs.Bounds.{fresh, sound}
 use Rattle.link.specs.Step.{plus, opened, nothing, literalTaken, withWaiting, stepped, taken}
-use Rattle.link.specs.Report.{Held, held, Beside, onByte, reportedAt, sinceReset, bodyAfter, reportOf}
+use Rattle.link.specs.Report.{Held, held, Beside, onByte, reportedAt, sinceReset, reporting}
 use Rattle.link.proofs.Sound.{waiting-of, waiting-sound, plus-is, taken-step, sound-kept, reset-sound, by-phase, literal-data, literal-sum, literal-length, literal-outside}
 use Rattle.link.proofs.Body.{body-length}
 use Rattle.link.proofs.Owed.{owes, owes-none, owes-literal, owes-opened}
@@ -117,7 +117,7 @@ module _ (body : List ℕ) (full : length body ≡ 64) where
   stays-sound bs = within-after reads bs _ (reset-sound, full) .0
 
   -- The receiver reports what the definition finds, each message at its last byte, and nothing else.
-  pub reports : (bs : List ℕ) (b : ℕ) → reportedAt (sinceReset body bs) b ≡ map held (finishedBy bs b)
+  pub reports : (bs : List ℕ) (b : ℕ) → reporting body bs b ≡ map held (finishedBy bs b)
   reports bs b =
       reported-at reads (record { receiver = fresh; body = body }) (reset-sound, full) refl (λ ls. refl) bs b
       ∙ found-map held wholeMessage bs b

@@ -186,3 +186,25 @@ sound-kept r b bounds = rw (taken-step r b bounds) (step-sound r b bounds)
 pub refused-back : (r : Receiver) (b : ℕ) → sound r ≡ false → taken r b ≡ record { next = r; event = Refused }
 unfolding taken
 refused-back r b outside = rw outside refl
+
+-- ---- the number: 1 exactly where the state is outside
+literal-number : (r : Receiver) (l : ℕ) → numberOf (literalTaken r l .event) ≡ numbers.taken
+literal-number r l =
+    by-phase (r .phase)
+    (λ e. rw (literal-data r l e) (split (ltb (r .have) 64) (λ t. rw t refl) (λ f. rw f refl)))
+    (λ e. rw (literal-sum r l e) refl)
+    (λ e. rw (literal-length r l e) refl)
+    (λ d s e. rw (literal-outside r l d s e) refl)
+
+step-number : (r : Receiver) (b : ℕ) → numberOf (stepped r b .event) ≡ numbers.taken
+unfolding stepped
+step-number r b =
+    split (eqb (plus b) (r .waiting))
+    (λ e. rw e (literal-number (withWaiting 0 r) b))
+    (λ e. split (eqb (plus b) 1) (λ t. rw (e, t) refl) (λ f. rw (e, f) refl))
+
+pub taken-number : (r : Receiver) (b : ℕ) → numberOf (taken r b .event) ≡ cond (sound r) numbers.taken numbers.stateRefused
+taken-number r b =
+    split (sound r)
+    (λ within. rw (taken-step r b within, within) (step-number r b))
+    (λ outside. rw (refused-back r b outside, outside) refl)

@@ -59,3 +59,7 @@ reportedAt s b = reportOf (taken (s .receiver) b .event) (s .body)
 -- a fresh receiver beside a body, after the bytes since reset
 abbrev pub sinceReset : List ℕ → List ℕ → Beside
 sinceReset body bs = foldl onByte (record { receiver = fresh; body = body }) bs
+
+-- what is reported of the byte b behind the bytes bs since reset
+abbrev pub reporting : List ℕ → List ℕ → ℕ → List Held
+reporting body bs b = reportedAt (sinceReset body bs) b
