@@ -128,7 +128,7 @@ fast-length c n fast fits = eqb-true n (fastLength c) (rw fast at fits)
 abbrev pub literals : Message → List ℕ
 literals m = lengthPart (m .command) (m .body) ++ m .body ++ (m .sumByte ∷ [])
 
-abbrev message : ℕ → List ℕ → ℕ → Message
+abbrev pub message : ℕ → List ℕ → ℕ → Message
 message c body sum = record { command = c; body = body; sumByte = sum }
 
 module _ (m : Message) (formed : wellFormed m ≡ true) where

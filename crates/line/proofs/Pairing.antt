@@ -43,6 +43,10 @@ paired-byte false b bs =
 unfoldable pub waitsAfter : List ℕ → Bool
 waitsAfter bs = foldl waitsBehind false bs
 
+pub reset : waitsAfter [] ≡ false
+unfolding waitsAfter
+reset = refl
+
 paired-append : (bs cs : List ℕ) (waiting : Bool) →
     pairedFrom waiting (bs ++ cs) ≡ pairedFrom waiting bs ++ pairedFrom (foldl waitsBehind waiting bs) cs
 paired-append [] cs waiting = rw (paired-none waiting) refl

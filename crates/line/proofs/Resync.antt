@@ -24,10 +24,10 @@ module _ (m : Message) (formed : wellFormed m ≡ true) (bs : List ℕ) (settled
       finished-found (bs ++ front) b ∙ found-before (message-frame m formed) bs settled front b d rest e
 
 -- ---- behind a message
-none-waits : (waiting : Bool) (b : ℕ) → eqb b 0x2B ≡ false → waitsBehind waiting b ≡ false
+pub none-waits : (waiting : Bool) (b : ℕ) → eqb b 0x2B ≡ false → waitsBehind waiting b ≡ false
 none-waits waiting b other = rw other refl
 
-stuffed-settled : (ls : List ℕ) → foldl waitsBehind false (stuffed ls) ≡ false
+pub stuffed-settled : (ls : List ℕ) → foldl waitsBehind false (stuffed ls) ≡ false
 stuffed-settled [] = refl
 stuffed-settled (l ∷ ls) =
     split (eqb l 0x2B)

@@ -9,16 +9,11 @@ use Rattle.document.specs.Numbers.{isError}
 use Rattle.document.specs.Sum.{sumByteOf}
 use Rattle.document.specs.Message.{Message, wellFormed, onWire, finishedBy}
 use Rattle.document.specs.Answer.{Answer, Reading, answerOnWire, answerFinishedBy, readingRight, wholeAnswer}
-use Rattle.line.proofs.Pairing.{waitsAfter}
+use Rattle.line.proofs.Pairing.{reset}
 use Rattle.line.proofs.Machine.{answer-finished-found}
 use Rattle.line.proofs.RightSum.{adds-up}
 use Rattle.line.proofs.Frames.{Frame, counted-whole, counted-short, found-last, found-before}
 use Rattle.line.proofs.Resync.{message-last, message-before}
-
--- no byte, and no 0x2B waits
-reset : waitsAfter [] ≡ false
-unfolding waitsAfter
-reset = refl
 
 -- ---- messages
 module _ (m : Message) (formed : wellFormed m ≡ true) where

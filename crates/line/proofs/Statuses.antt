@@ -5,13 +5,12 @@ use mathlib.Core.List.{List, [], _∷_}
 use Prim.Native.Nat.{ℕ, zero, suc, _+_, _≤_, _<_}
 use native.Mathlib.Omega.{arith}
 use borrow.Author.Tests.{le-leb, lt-leb, lt-ltb, ne-eqb, eqb-false, ltb-true, ltb-false, not-true}
-use borrow.Table.Steps.{cases}
 use lib.Dec.{eqb, leb, ltb, eqb·suc-zero}
 use lib.ListN.{length}
 use Rattle.document.specs.Answer.{Answer}
 use Rattle.document.specs.AnswerWriter.{answerFormed}
 use Rattle.document.specs.Numbers.{isIn, isStatus}
-use Rattle.line.proofs.Tests.{and-left, and-right}
+use Rattle.line.proofs.Cases.{split, and-left, and-right}
 
 -- n numbers from a on
 abbrev from : ℕ → ℕ → List ℕ
@@ -21,7 +20,7 @@ from a (suc n) = a ∷ from (suc a) n
 within : (n a s : ℕ) → a ≤ s → s < a + n → isIn s (from a n) ≡ true
 within zero a s l h = absurd (omega arith)
 within (suc n) a s l h =
-    cases (eqb s a)
+    split (eqb s a)
     (λ e. simp e)
     (λ e. simp e (within n (suc a) s (omega (arith, eqb-false s a e)) (omega arith)))
 
@@ -49,13 +48,13 @@ status-above s h = simp (lt-leb s 0x02 (omega arith)) (above 9 0x81 s (omega ari
 
 pub few : (n : ℕ) → leb n 64 ≡ (not (ltb 64 n) && true)
 few n =
-    cases (ltb 64 n)
+    split (ltb 64 n)
     (λ e. simp (e, lt-leb n 64 (ltb-true 64 n e)))
     (λ e. simp (e, le-leb n 64 (ltb-false 64 n e)))
 
 pub none : (n : ℕ) → eqb n 0 ≡ (not (ltb 64 n) && not (ltb 0 n))
 none zero = refl
-none (suc n) = cases (ltb 64 (suc n)) (λ e. simp (e, eqb·suc-zero)) (λ e. simp (e, eqb·suc-zero, lt-ltb 0 (suc n) (omega arith)))
+none (suc n) = split (ltb 64 (suc n)) (λ e. simp (e, eqb·suc-zero)) (λ e. simp (e, eqb·suc-zero, lt-ltb 0 (suc n) (omega arith)))
 
 pub formed-few : (a : Answer) → answerFormed a ≡ true → length (a .body) ≤ 64
 formed-few a e =

@@ -6,23 +6,23 @@ use Prim.Native.Nat.{ℕ, suc, _+_, _*_, _≤_, _<_}
 use native.Mathlib.Nat.{add-suc, add-zero, suc-add}
 use native.Mathlib.Numerals.{add-one}
 use native.Mathlib.Omega.{arith}
-use borrow.Table.Steps.{cases}
 use lib.Dec.{eqb}
 use lib.ListN.{length, getD, set, drop, length-append}
 use lib.Seq.{sets, drop-cons}
 use Rattle.document.specs.Doubling.{stuffed}
 use Rattle.document.specs.Sum.{total}
+use Rattle.line.proofs.Cases.{split}
 
 -- ---- a byte, then others
 
 pub stuffed-cons : (b : ℕ) (bs : List ℕ) → stuffed (b ∷ bs) ≡ stuffed (b ∷ []) ++ stuffed bs
-stuffed-cons b bs = cases (eqb b 0x2B) (λ e. simp e) (λ e. simp e)
+stuffed-cons b bs = split (eqb b 0x2B) (λ e. simp e) (λ e. simp e)
 
 pub stuffed-one : (b : ℕ) → length (stuffed (b ∷ [])) ≤ 2
-stuffed-one b = cases (eqb b 0x2B) (λ e. simp e (omega arith)) (λ e. simp e (omega arith))
+stuffed-one b = split (eqb b 0x2B) (λ e. simp e (omega arith)) (λ e. simp e (omega arith))
 
 pub stuffed-some : (b : ℕ) → 0 < length (stuffed (b ∷ []))
-stuffed-some b = cases (eqb b 0x2B) (λ e. simp e (omega arith)) (λ e. simp e (omega arith))
+stuffed-some b = split (eqb b 0x2B) (λ e. simp e (omega arith)) (λ e. simp e (omega arith))
 
 -- ---- lists of bytes
 

@@ -13,7 +13,7 @@ use Rattle.document.specs.AnswerWriter.{answerRefusal, answerWritten, answerBuf
 use Rattle.line.specs.declared.doubling.Progress.{Progress}
 use Rattle.line.proofs.Stuffed.{stuffed-one, stuffed-length}
 use Rattle.line.proofs.Statuses.{formed-few}
-use Rattle.line.proofs.Framed.{frame-length, frame-buffer}
+use Rattle.line.proofs.Writing.{written-length, written-buffer}
 use Rattle.line.proofs.answer.write_answer.Statement.{statement}
 use Rattle.line.proofs.answer.write_answer.Tie as tie
 use Rattle.line.proofs.answer.write_answer.Reads as reads
@@ -85,8 +85,8 @@ returns-3 c =
     let s = e .before .before .before .before .before in
     let formed = sym (e .before .before .is-formed .ensures) ∙ not-false _ (e .before .if1 .left) in
     let room = e .if2 .left in
-    let length-is = frame-length (s .args .status) (s .args .body .now) (s .args .out .now) (p .put-all .last .1 .1 .0) (q .last .1 .0) (p .put-all .result) (q .result) (p .put-all .ensures) (q .ensures) in
-    let buffer-is = frame-buffer (s .args .status) (s .args .body .now) (s .args .out .now) (p .put-all .last .1 .1 .0) (q .last .1 .0) (p .put-all .result) (q .result) (p .put-all .ensures) (q .ensures) in
+    let length-is = written-length (s .args .status) (s .args .body .now) (s .args .out .now) (p .put-all .last .1 .1 .0) (q .last .1 .0) (p .put-all .result) (q .result) (p .put-all .ensures) (q .ensures) in
+    let buffer-is = written-buffer (s .args .status) (s .args .body .now) (s .args .out .now) (p .put-all .last .1 .1 .0) (q .last .1 .0) (p .put-all .result) (q .result) (p .put-all .ensures) (q .ensures) in
     record { result = simp (formed, room, length-is); buffer = simp (formed, room) buffer-is }
 
 pub write-answer-spec : {M : Type 1} → statement M

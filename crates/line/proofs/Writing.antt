@@ -2,7 +2,6 @@
 use mathlib.Core.Path.{_≡_, refl, sym, ap, _∙_}
 use mathlib.Core.List.{List, [], _∷_, _++_, append-assoc}
 use Prim.Native.Nat.{ℕ, suc, _+_, _-_, _%_, _≤_}
-use native.Mathlib.Nat.{zero-add}
 use native.Mathlib.Omega.{arith}
 use lib.ListN.{length, set, length-append}
 use lib.Seq.{sets}
@@ -10,11 +9,9 @@ use Rattle.document.specs.Doubling.{stuffed}
 use Rattle.document.specs.Sum.{total, sumByteOf}
 use Rattle.line.specs.declared.doubling.Progress.{Progress}
 use Rattle.line.specs.Put.{progressed, Put, Ended}
+use Rattle.line.proofs.Pairing.{framed}
+use Rattle.line.proofs.RightSum.{total-append}
 use Rattle.line.proofs.Stuffed.{stuffed-append, sets-append}
-
-pub total-append : (xs ys : List ℕ) → total (xs ++ ys) ≡ total xs + total ys
-total-append [] ys = sym (zero-add (total ys))
-total-append (x ∷ xs) ys = omega (arith, total-append xs ys)
 
 -- ---- one list behind the other
 
@@ -36,10 +33,7 @@ put-append p q r xs ys l₀ l₁ l₂ a b =
 
 -- ---- front, literals, sum byte
 
--- a start byte, a command or status, what follows it, and the byte that makes it add up
-abbrev pub frame : ℕ → List ℕ → List ℕ
-frame first ls = 0x2B ∷ first ∷ stuffed (ls ++ (sumByteOf (first ∷ ls) ∷ []))
-
+-- behind a start byte and the first literal
 abbrev pub front : ℕ → Progress
 front first = record { at = 2; sum = first }
 
@@ -52,13 +46,13 @@ module _ (first : ℕ) (ls out l₁ l₂ : List ℕ) (p : Progress) (n : ℕ) (p
       let s : p .sum ≡ (first + total ls) % 256 = ap (λ (t : Progress). t .sum) (put .progress) in
       rw s (omega arith)
 
-  pub frame-length : n ≡ length (frame first ls)
-  frame-length =
+  pub written-length : n ≡ length (framed first (ls ++ (sumByteOf (first ∷ ls) ∷ [])))
+  written-length =
       ended .end
       ∙ rw (sum-is, at-is, stuffed-append ls (sumByteOf (first ∷ ls) ∷ []), length-append (stuffed ls)) (omega arith)
 
-  pub frame-buffer : l₂ ≡ sets out 0 (frame first ls)
-  frame-buffer =
+  pub written-buffer : l₂ ≡ sets out 0 (framed first (ls ++ (sumByteOf (first ∷ ls) ∷ [])))
+  written-buffer =
       ended .buffer
       ∙ rw (sum-is, at-is, put .buffer, stuffed-append ls (sumByteOf (first ∷ ls) ∷ []))
       (sym (sets-append (stuffed ls) (stuffed (sumByteOf (first ∷ ls) ∷ [])) (set (set out 0 0x2B) 1 first) 2))

@@ -1,0 +1,145 @@
+// What the receiver does with a byte, whatever its state: it waits, opens a message, or takes a literal.
+ghost use mathlib.Core.Path.{_≡_};
+ghost use Rattle.link.specs.Step.{plus, nextPhase, more, opened, measured, dataTaken, sumTaken, literalTaken, stepped};
+use crate::DATA_NEXT;
+use crate::Event;
+use crate::IDLE;
+use crate::LENGTH_NEXT;
+use crate::Receiver;
+use crate::SUM_NEXT;
+use crate::Taken;
+use line::sum::added;
+
+// 1 for a 0x2B, 0 for any other byte.
+fn plus_of(byte: u8) -> u8
+    ensures { λ r. ⌜ r ≡ plus byte ⌝ }
+{
+    if byte == 0x2B {
+        return 1;
+    }
+    0
+}
+
+fn next_phase(have: u8, length: u8) -> u8
+    ensures { λ r. ⌜ r ≡ nextPhase have length ⌝ }
+{
+    if have < length {
+        return DATA_NEXT;
+    }
+    SUM_NEXT
+}
+
+// One more, where one is to come: within the bounds it is.
+fn more(have: u8, length: u8) -> u8
+    ensures { λ r. ⌜ r ≡ more have length ⌝ }
+{
+    if have < length {
+        return have + 1;
+    }
+    have
+}
+
+impl Receiver {
+    fn open(mut self, command: u8) -> Receiver
+        ensures { λ r. ⌜ r ≡ opened command ⌝ }
+    {
+        self.waiting = 0;
+        self.command = command;
+        self.have = 0;
+        self.sum = command;
+        if command < 0xC0 {
+            self.length = 0;
+            self.phase = LENGTH_NEXT;
+            return self;
+        }
+        self.length = command / 16 % 4 * 2;
+        self.phase = next_phase(0, self.length);
+        self
+    }
+
+    fn measure(mut self, length: u8) -> Receiver
+        ensures { λ r. ⌜ r ≡ measured self length ⌝ }
+    {
+        self.sum = added(self.sum, length);
+        self.length = length;
+        self.phase = next_phase(self.have, length);
+        self
+    }
+
+    fn keep(mut self, byte: u8) -> Taken
+        ensures { λ r. ⌜ r ≡ dataTaken self byte ⌝ }
+    {
+        let at = self.have;
+        self.sum = added(self.sum, byte);
+        self.have = more(at, self.length);
+        self.phase = next_phase(self.have, self.length);
+        if at < 64 {
+            return Taken {
+                next: self,
+                event: Event::Keep { at, byte },
+            };
+        }
+        Taken {
+            next: self,
+            event: Event::Nothing,
+        }
+    }
+
+    fn finish(mut self, byte: u8) -> Taken
+        ensures { λ r. ⌜ r ≡ sumTaken self byte ⌝ }
+    {
+        self.sum = added(self.sum, byte);
+        self.phase = IDLE;
+        Taken {
+            next: self,
+            event: Event::Whole {
+                command: self.command,
+                length: self.length,
+                sum: self.sum,
+            },
+        }
+    }
+
+    fn literal(self, byte: u8) -> Taken
+        ensures { λ r. ⌜ r ≡ literalTaken self byte ⌝ }
+    {
+        if self.phase == DATA_NEXT {
+            return self.keep(byte);
+        }
+        if self.phase == SUM_NEXT {
+            return self.finish(byte);
+        }
+        if self.phase == LENGTH_NEXT {
+            return Taken {
+                next: self.measure(byte),
+                event: Event::Nothing,
+            };
+        }
+        Taken {
+            next: self,
+            event: Event::Nothing,
+        }
+    }
+
+    // The same for a caller that has checked the bounds; any state is safe.
+    pub fn step(mut self, byte: u8) -> Taken
+        ensures { λ r. ⌜ r ≡ stepped self byte ⌝ }
+    {
+        let plus = plus_of(byte);
+        if plus == self.waiting {
+            self.waiting = 0;
+            return self.literal(byte);
+        }
+        if plus == 1 {
+            self.waiting = 1;
+            return Taken {
+                next: self,
+                event: Event::Nothing,
+            };
+        }
+        Taken {
+            next: self.open(byte),
+            event: Event::Nothing,
+        }
+    }
+}
