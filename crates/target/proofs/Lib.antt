@@ -4,6 +4,7 @@ pub mod FieldLaws
 pub mod BlockLaws
 pub mod Groups
 pub mod Operated
+pub mod Held
 pub mod Unless
 pub mod ReadLaws
 pub mod WriteLaws
