@@ -3,11 +3,15 @@ mod ranges;
 mod stores;
 mod values;
 
+pub use ranges::CALIBRATION_END;
+pub use ranges::MEMORY_END;
+pub use ranges::VARIABLES_END;
 pub use ranges::may_be_read;
 pub use ranges::may_be_recorded;
 pub use ranges::may_be_written;
 pub use ranges::within;
 pub use stores::Stored;
+pub use stores::copy_in;
 pub use stores::write;
 pub use stores::write_masked;
 pub use stores::write_word_masked;
