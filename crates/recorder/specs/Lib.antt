@@ -1,0 +1,2 @@
+-- What the recorder's contracts and theorems are said with.
+pub mod History
