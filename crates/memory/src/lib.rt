@@ -8,6 +8,7 @@ pub use ranges::may_be_recorded;
 pub use ranges::may_be_written;
 pub use ranges::within;
 pub use stores::Stored;
+pub use stores::copy_in;
 pub use stores::write;
 pub use stores::write_masked;
 pub use stores::write_word_masked;

@@ -33,7 +33,8 @@ fn place(address: u32) -> usize
     address as usize
 }
 
-fn copy_in(memory: &mut [u8], at: usize, bytes: &[u8])
+// Bytes into any slice that has room for them; who asks has seen that it has.
+pub fn copy_in(memory: &mut [u8], at: usize, bytes: &[u8])
     requires { ⌜ at + length (now bytes) ≤ length (now memory) ⌝ }
     ensures { λ _. ⌜ now (memory .exit) ≡ stored (now (memory .entry)) at (now (bytes .entry)) ⌝ }
 {

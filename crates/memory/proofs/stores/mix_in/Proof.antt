@@ -1,12 +1,12 @@
 -- What is left to store gives the whole: one byte a turn, until values or masks end.
+use mathlib.Core.Path.{_≡_, refl, _∙_}
+use Prim.Native.Nat.{_+_, _-_, _≤_}
 use native.Mathlib.Omega.{arith}
-use Rattle.memory.proofs.Copies.{mask-stored-next, mask-stored-ended}
-use Rattle.document.specs.Stores.{maskStored}
-use lib.ListN.{length, drop, length-set, drop-of-length-le}
 use native.Mathlib.Nat.{add-zero}
-use Prim.Native.Nat.{ℕ, suc, _+_, _-_, _*_, _^_, _<_, _≤_}
-use mathlib.Core.Path.{_≡_, refl, sym, ap, _∙_}
+use lib.ListN.{length, drop}
 use borrow.Author.Needs.{needs}
+use Rattle.document.specs.Stores.{maskStored}
+use Rattle.memory.proofs.Copies.{mask-stored-next, mask-stored-ended}
 use Rattle.memory.proofs.stores.mix_in.Statement.{statement}
 use Rattle.memory.proofs.stores.mix_in.Tie as tie
 

@@ -1,9 +1,9 @@
 -- The word is masked as its two bytes are.
-use Prim.Native.Nat.{ℕ, suc, _+_, _-_, _*_, _^_, _<_, _≤_}
-use Rattle.memory.proofs.Copies.{mask-stored-word}
-use lib.ListN.{length-set}
+use Prim.Native.Nat.{_+_}
 use native.Mathlib.Omega.{arith}
+use lib.ListN.{length-set}
 use borrow.Author.Needs.{needs}
+use Rattle.memory.proofs.Copies.{mask-stored-word}
 use Rattle.memory.proofs.stores.mix_in_word.Statement.{statement}
 use Rattle.memory.proofs.stores.mix_in_word.Tie as tie
 

@@ -1,6 +1,6 @@
 -- And, or and complement at eight bits are the masked store of a byte.
-use Rattle.memory.proofs.Masks.{mixed-masked}
 use borrow.Author.Needs.{needs}
+use Rattle.memory.proofs.Masks.{mixed-masked}
 use Rattle.memory.proofs.stores.mixed.Statement.{statement}
 use Rattle.memory.proofs.stores.mixed.Tie as tie
 

@@ -1,6 +1,6 @@
 -- And, or and complement at sixteen bits are the masked store of a word.
-use Rattle.memory.proofs.Masks.{mixed-masked}
 use borrow.Author.Needs.{needs}
+use Rattle.memory.proofs.Masks.{mixed-masked}
 use Rattle.memory.proofs.stores.mixed_word.Statement.{statement}
 use Rattle.memory.proofs.stores.mixed_word.Tie as tie
 

@@ -1,9 +1,7 @@
 -- Checked first, then masked; refused, nothing was touched.
-use lib.ListN.{length}
 use native.Mathlib.Omega.{arith}
-use Rattle.memory.proofs.Answers.{let-through, written-done, written-refused}
-use mathlib.Core.Path.{_≡_, refl, sym, ap, _∙_}
 use borrow.Author.Needs.{needs}
+use Rattle.memory.proofs.Answers.{let-through, written-done, written-refused}
 use Rattle.memory.proofs.stores.write_word_masked.Statement.{statement}
 use Rattle.memory.proofs.stores.write_word_masked.Tie as tie
 
