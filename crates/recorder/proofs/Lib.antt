@@ -12,3 +12,9 @@ pub mod Stop
 pub mod Untriggered
 pub mod Accepted
 pub mod Example
+pub mod Edges
+pub mod Flags
+pub mod Bounds
+pub mod Watches
+pub mod Readings
+pub mod Settled
