@@ -1,12 +1,12 @@
 -- A set into its place: turns of the copy, which reads below the place and writes in it.
 use mathlib.Core.Path.{_≡_, refl, sym, ap, _∙_}
 use mathlib.Core.List.{List, [], _∷_, _++_}
-use Prim.Native.Nat.{ℕ, suc, zero, _+_, _-_, _<_, _≤_}
+use Prim.Native.Nat.{ℕ, suc, zero, _+_, _<_, _≤_}
 use native.Mathlib.Nat.{zero-add, suc-add}
 use native.Mathlib.Numerals.{add-one}
 use native.Mathlib.Omega.{arith}
-use lib.ListN.{length, getD, set, take, drop, length-set, length-drop, take-append-drop}
-use lib.Seq.{sets, length-sets, drop-cons, drop-set-add, drop-set-lt, getD-drop, getD-take, length-take-le, take-nil, take-set-le, take-set-lt, take-take}
+use lib.ListN.{length, getD, set, take, drop, length-set, take-append-drop}
+use lib.Seq.{length-sets, drop-cons, drop-set-add, drop-set-lt, getD-drop, getD-take, take-nil, take-set-le, take-set-lt, take-take}
 use Rattle.document.specs.declared.Variable.{Variable}
 use Rattle.document.specs.Areas.{bytesAt}
 use Rattle.document.specs.Stores.{stored}

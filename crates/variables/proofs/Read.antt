@@ -1,21 +1,24 @@
 -- Reading definitions: a turn takes the next one, which begins where the one before it ended.
-use mathlib.Core.Path.{_≡_, refl, sym, ap, _∙_}
-use mathlib.Core.Bool.{Bool, true, false}
-use mathlib.Core.List.{List}
-use Prim.Native.Nat.{ℕ, suc, _+_, _-_, _*_, _<_, _≤_}
+use mathlib.Core.Path.{_≡_, refl, ap, _∙_}
+use mathlib.Core.Bool.{Bool, true, false, cond, not, _&&_}
+use mathlib.Core.List.{List, []}
+use Prim.Native.Nat.{ℕ, zero, suc, _+_, _-_, _*_, _<_, _≤_}
 use native.Mathlib.Nat.{suc-mul, mul-le-mul-right, add-zero}
 use native.Mathlib.Numerals.{add-one}
 use native.Mathlib.Omega.{arith}
-use lib.ListN.{length, getD, set, drop}
-use lib.Seq.{sets, drop-drop, getD-drop}
-use borrow.Author.Tests.{le-leb}
+use lib.Dec.{ltb}
+use lib.ListN.{length, getD, set, drop, List·getD-eq-default}
+use lib.Seq.{sets, drop-drop, getD-drop, sets-eq, take-append-seam}
+use borrow.Author.Tests.{le-leb, eq-eqb, ne-eqb, lt-ltb, le-ltb}
 use Rattle.document.specs.declared.Variable.{Variable}
 use Rattle.document.specs.Areas.{bytesAt}
 use Rattle.document.specs.Values.{number}
-use Rattle.document.specs.Variables.{addressWidth, definitionWidth, definitionIn, definitionsIn}
-use Rattle.variables.specs.declared.parts.Definition.{Definition}
+use Rattle.document.specs.Variables.{addressWidth, definitionWidth, definitionIn, definitionsIn, countIn, variablesIn, lengthGiven}
+use Rattle.variables.specs.declared.Variables.{Variables}
+use Rattle.variables.specs.declared.parts.Part.{Part}
 use Rattle.variables.specs.declared.parts.Definition.the-variants.{Found, Short}
-use Rattle.variables.specs.Parts.{definitionAt}
+use Rattle.variables.specs.State.{variablesOf}
+use Rattle.variables.specs.Parts.{definitionAt, noVariables, kept, isWhole, partRead}
 
 module _ (part : List ℕ) (ex : Bool) (at k count : ℕ) (h : k < count) (place : at ≡ 1 + k * definitionWidth ex) (whole : 1 + count * definitionWidth ex ≤ length part) where
   next-place : at + definitionWidth ex ≡ 1 + (k + 1) * definitionWidth ex
@@ -44,3 +47,46 @@ pub found-at : (part : List ℕ) (ex : Bool) (at width address : ℕ) → width 
 found-at part ex at width address ew fits ea =
     let e : at + 1 + addressWidth ex ≡ at + definitionWidth ex = omega arith in
     rw (ea, ew, e, le-leb (at + definitionWidth ex) (length part) (omega arith), getD-drop at part 0 0, add-zero at, drop-drop 1 at part)
+
+-- ---- a whole part
+
+definitions-length : (ex : Bool) (n : ℕ) (part : List ℕ) → length (definitionsIn ex n part) ≡ n
+definitions-length ex zero part = refl
+definitions-length ex (suc n) part = ap suc (definitions-length ex n (drop (definitionWidth ex) part))
+
+-- definitions as they are kept, with the count that the part begins with
+pub kept-variables : (ex : Bool) (part : List ℕ)
+    → kept (variablesIn ex part) ≡ record { count = countIn part; list = sets noVariables 0 (variablesIn ex part) }
+kept-variables ex part = ap (λ (n : ℕ). record { count = n; list = sets noVariables 0 (variablesIn ex part) }) (definitions-length ex (countIn part) (drop 1 part))
+
+module _ (ex : Bool) (part : List ℕ) where
+  abbrev outcome : Bool → Bool → Part
+  outcome whole many = record { whole = whole; count = countIn part; variables = cond (whole && not many) (kept (variablesIn ex part)) (kept []) }
+
+  by-tests : (whole many : Bool) → isWhole ex part ≡ whole → ltb 8 (countIn part) ≡ many → partRead ex part ≡ outcome whole many
+  unfolding partRead
+  by-tests w m ew em = rw (ew, em)
+
+  pub read-other-length : (length part ≡ lengthGiven ex part → ⊥)
+      → partRead ex part ≡ record { whole = false; count = countIn part; variables = record { count = 0; list = noVariables } }
+  read-other-length n = by-tests false (ltb 8 (countIn part)) (ne-eqb (length part) (lengthGiven ex part) n) refl
+
+  pub read-empty : length part ≡ 0 → partRead ex part ≡ record { whole = false; count = 0; variables = record { count = 0; list = noVariables } }
+  read-empty e =
+      read-other-length (λ g. omega arith)
+      ∙ ap (λ (n : ℕ). record { whole = false; count = n; variables = record { count = 0; list = noVariables } }) (List·getD-eq-default part 0 {n = 0} (omega arith))
+
+  module _ (right : length part ≡ lengthGiven ex part) where
+    pub read-too-many : 8 < countIn part
+        → partRead ex part ≡ record { whole = true; count = countIn part; variables = record { count = 0; list = noVariables } }
+    read-too-many m = by-tests true true (eq-eqb (length part) (lengthGiven ex part) right) (lt-ltb 8 (countIn part) m)
+
+    pub read-whole : countIn part ≤ 8
+        → partRead ex part ≡ record { whole = true; count = countIn part; variables = record { count = countIn part; list = sets noVariables 0 (variablesIn ex part) } }
+    read-whole m =
+        by-tests true false (eq-eqb (length part) (lengthGiven ex part) right) (le-ltb 8 (countIn part) m)
+        ∙ ap (λ (v : Variables). record { whole = true; count = countIn part; variables = v }) (kept-variables ex part)
+
+-- up to eight definitions are kept as they are
+pub kept-all : (vs : List Variable) → length vs ≤ 8 → variablesOf (kept vs) ≡ vs
+kept-all vs h = rw (sets-eq vs noVariables 0 (omega arith)) (take-append-seam vs (drop (0 + length vs) noVariables))

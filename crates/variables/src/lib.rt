@@ -2,8 +2,16 @@
 mod parts;
 mod sets;
 
-pub use parts::{definition_at, read_variables, Definition, Part, Reader};
-pub use sets::{all_within, any_size_zero, copy_set, gather, set_size};
+pub use parts::Definition;
+pub use parts::Part;
+pub use parts::Reader;
+pub use parts::definition_at;
+pub use parts::read_variables;
+pub use sets::all_within;
+pub use sets::any_size_zero;
+pub use sets::copy_set;
+pub use sets::gather;
+pub use sets::set_size;
 
 // Definitions behind the count are not looked at.
 #[repr(C)]

@@ -5,7 +5,6 @@ ghost use lib.ListN.{length, drop};
 ghost use lib.Seq.{sets};
 ghost use Rattle.document.specs.Variables.{addressWidth, definitionWidth, definitionsIn};
 ghost use Rattle.variables.specs.Parts.{definitionAt, noVariables, partRead};
-
 use crate::Variables;
 
 // What stands at a place of a part: a definition and where the next one begins, or too few bytes.
@@ -66,7 +65,10 @@ fn definitions(part: &[u8], count: usize, ex: bool) -> [document::Variable; 8]
     requires { ⌜ (count ≤ 8) × (1 + count * definitionWidth ex ≤ length (now part)) ⌝ }
     ensures { λ r. ⌜ r ≡ sets noVariables 0 (definitionsIn ex count (drop 1 (now (part .entry)))) ⌝ }
 {
-    let mut list = [document::Variable { address: 0, size: 0 }; 8];
+    let mut list = [document::Variable {
+        address: 0,
+        size: 0,
+    }; 8];
     let mut at = 1;
     let mut k = 0;
     while k < count {
@@ -101,7 +103,10 @@ fn without_variables(whole: bool, count: u8) -> Part
         count,
         variables: Variables {
             count: 0,
-            list: [document::Variable { address: 0, size: 0 }; 8],
+            list: [document::Variable {
+                address: 0,
+                size: 0,
+            }; 8],
         },
     }
 }

@@ -7,7 +7,6 @@ ghost use Rattle.document.specs.Areas.{calibrationEnd, mayBeRecorded, bytesAt};
 ghost use Rattle.document.specs.Stores.{stored};
 ghost use Rattle.document.specs.Variables.{anySizeZero, allMay, setSize, valuesOf};
 ghost use Rattle.variables.specs.State.{variablesOf, upTo};
-
 use crate::Variables;
 
 fn wide(size: u8) -> usize

@@ -1,18 +1,13 @@
 -- A definition is found just where the part is long enough for it.
-use Rattle.variables.proofs.Read.{found-at}
-use Rattle.document.specs.Variables.{addressWidth, definitionWidth, definitionIn}
-use lib.ListN.{length, getD, drop}
-use borrow.Author.Tests.{le-leb, lt-leb}
-use mathlib.Core.Path.{_≡_, refl, sym, ap, _∙_}
-use Prim.Native.Nat.{ℕ, suc, _+_, _-_, _*_, _<_, _≤_}
+use Prim.Native.Nat.{_+_}
 use native.Mathlib.Omega.{arith}
+use lib.ListN.{length}
+use borrow.Author.Tests.{lt-leb}
 use borrow.Author.Needs.{needs}
+use Rattle.document.specs.Variables.{definitionWidth}
+use Rattle.variables.proofs.Read.{found-at}
 use Rattle.variables.proofs.parts.definition_at.Statement.{statement}
 use Rattle.variables.proofs.parts.definition_at.Tie as tie
-use Rattle.variables.proofs.parts.definition_at.Reads as reads
-use Rattle.variables.proofs.parts.definition_at.Lts as lts
-use Rattle.memory.proofs.number_at.Reads as number-at-reads
-use Rattle.variables.proofs.parts.address_width.Reads as address-width-reads
 
 returns : tie.Need-returns
 returns c =

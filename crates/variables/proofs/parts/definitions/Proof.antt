@@ -1,19 +1,16 @@
 -- What is left to read gives the whole; a definition is never short, since the part holds them all.
-use Rattle.variables.proofs.Read.{never-short, definition-next}
-use Rattle.variables.specs.Parts.{noVariables}
-use Rattle.document.specs.Variables.{definitionWidth, definitionsIn}
+use mathlib.Core.Path.{_≡_, refl, sym, _∙_}
+use Prim.Native.Nat.{_+_, _-_, _*_, _≤_}
+use native.Mathlib.Nat.{sub-zero}
+use native.Mathlib.Omega.{arith}
 use lib.Seq.{sets}
 use lib.ListN.{length, drop, length-set}
-use native.Mathlib.Nat.{sub-zero}
-use Prim.Native.Nat.{ℕ, suc, _+_, _-_, _*_, _<_, _≤_}
-use mathlib.Core.Path.{_≡_, refl, sym, ap, _∙_}
 use borrow.Author.Needs.{needs}
-use native.Mathlib.Omega.{arith}
+use Rattle.document.specs.Variables.{definitionWidth, definitionsIn}
+use Rattle.variables.specs.Parts.{noVariables}
+use Rattle.variables.proofs.Read.{never-short, definition-next}
 use Rattle.variables.proofs.parts.definitions.Statement.{statement}
 use Rattle.variables.proofs.parts.definitions.Tie as tie
-use Rattle.variables.proofs.parts.definitions.Reads as reads
-use Rattle.variables.proofs.parts.definitions.Lts as lts
-use Rattle.variables.proofs.parts.read_next.Reads as read-next-reads
 
 abbrev Inv-loop : tie.InvT-loop
 Inv-loop part count ex list₀ at₀ k₀ list at k =

@@ -1,20 +1,15 @@
 -- Whether all behind the ones passed lie below the limit is whether all do.
+use mathlib.Core.Path.{_≡_, refl, _∙_}
+use Prim.Native.Nat.{_-_, _≤_}
 use native.Mathlib.Omega.{arith}
-use mathlib.Core.Bool.{true, false}
-use Rattle.variables.proofs.Each.{outside-here, inside-here}
-use Rattle.document.specs.Variables.{allMay}
+use lib.ListN.{length, drop, length-map, length-take, drop-of-length-le}
 use borrow.Author.Tests.{not-true, not-false}
-use Rattle.variables.specs.State.{variablesOf, upTo}
-use lib.ListN.{length, take, drop, length-map, length-take, drop-of-length-le}
-use Prim.Native.Nat.{ℕ, suc, _+_, _-_, _*_, _<_, _≤_}
-use mathlib.Core.Path.{_≡_, refl, sym, ap, _∙_}
 use borrow.Author.Needs.{needs}
+use Rattle.document.specs.Variables.{allMay}
+use Rattle.variables.specs.State.{variablesOf, upTo}
+use Rattle.variables.proofs.Each.{outside-here, inside-here}
 use Rattle.variables.proofs.sets.all_within.Statement.{statement}
 use Rattle.variables.proofs.sets.all_within.Tie as tie
-use Rattle.variables.proofs.sets.all_within.Reads as reads
-use Rattle.variables.proofs.sets.all_within.Lts as lts
-use Rattle.memory.proofs.within.Reads as within-reads
-use Rattle.variables.proofs.sets.wide.Reads as wide-reads
 
 abbrev Inv-loop : tie.InvT-loop
 Inv-loop limit v n k₀ k =

@@ -1,18 +1,14 @@
 -- Whether a size is zero behind the ones passed is whether any is.
+use mathlib.Core.Path.{_≡_, refl, _∙_}
+use Prim.Native.Nat.{_-_, _≤_}
 use native.Mathlib.Omega.{arith}
-use mathlib.Core.Bool.{true, false}
-use Rattle.variables.proofs.Each.{zero-here, not-zero-here}
-use Rattle.document.specs.Variables.{anySizeZero}
-use Rattle.variables.specs.State.{variablesOf, upTo}
-use lib.ListN.{length, take, drop, length-map, length-take, drop-of-length-le}
-use Prim.Native.Nat.{ℕ, suc, _+_, _-_, _*_, _<_, _≤_}
-use mathlib.Core.Path.{_≡_, refl, sym, ap, _∙_}
+use lib.ListN.{length, drop, length-map, length-take, drop-of-length-le}
 use borrow.Author.Needs.{needs}
+use Rattle.document.specs.Variables.{anySizeZero}
+use Rattle.variables.specs.State.{variablesOf}
+use Rattle.variables.proofs.Each.{zero-here, not-zero-here}
 use Rattle.variables.proofs.sets.any_size_zero.Statement.{statement}
 use Rattle.variables.proofs.sets.any_size_zero.Tie as tie
-use Rattle.variables.proofs.sets.any_size_zero.Reads as reads
-use Rattle.variables.proofs.sets.any_size_zero.Lts as lts
-use Rattle.variables.proofs.sets.wide.Reads as wide-reads
 
 abbrev Inv-loop : tie.InvT-loop
 Inv-loop v n k₀ k =

@@ -1,19 +1,16 @@
 -- What is left to copy gives the whole: one byte a turn, read below the place.
-use Rattle.variables.proofs.Places.{part-set, byte-kept}
+use mathlib.Core.List.{_++_}
+use mathlib.Core.Path.{_≡_, refl, _∙_}
+use Prim.Native.Nat.{_+_, _-_, _≤_}
+use native.Mathlib.Nat.{add-zero}
+use native.Mathlib.Omega.{arith}
+use lib.ListN.{length, getD, set, take, drop, length-take, drop-of-length-le}
+use borrow.Author.Needs.{needs}
 use Rattle.document.specs.Stores.{stored}
 use Rattle.document.specs.Areas.{bytesAt}
-use lib.ListN.{length, getD, set, take, drop, length-take, drop-of-length-le}
-use mathlib.Core.List.{_++_}
-use native.Mathlib.Nat.{add-zero}
-use Prim.Native.Nat.{ℕ, suc, _+_, _-_, _*_, _<_, _≤_}
-use mathlib.Core.Path.{_≡_, refl, sym, ap, _∙_}
-use borrow.Author.Needs.{needs}
-use native.Mathlib.Omega.{arith}
+use Rattle.variables.proofs.Places.{part-set, byte-kept}
 use Rattle.variables.proofs.sets.copy_variable.Statement.{statement}
 use Rattle.variables.proofs.sets.copy_variable.Tie as tie
-use Rattle.variables.proofs.sets.copy_variable.Reads as reads
-use Rattle.variables.proofs.sets.copy_variable.Lts as lts
-use Rattle.variables.proofs.sets.keep.Reads as keep-reads
 
 abbrev Inv-loop : tie.InvT-loop
 Inv-loop memory₀ from size at end done i₀ memory i =

@@ -1,25 +1,19 @@
 -- What is left to gather gives the whole: one variable a turn.
+use mathlib.Core.Bool.{true}
+use mathlib.Core.Path.{_≡_, refl, _∙_}
+use Prim.Native.Nat.{_+_, _-_, _<_, _≤_}
 use native.Mathlib.Omega.{arith}
-use lib.ListN.{getD}
-use borrow.Author.Tests.{leb-true}
 use native.Mathlib.Nat.{zero-add}
-use mathlib.Core.Bool.{true, false}
-use Rattle.variables.proofs.Gathered.{part-length, gathered-next}
-use Rattle.variables.proofs.Each.{blank, next-variable, may-here, size-more}
+use lib.ListN.{getD, length, drop, length-map, length-take, drop-of-length-le}
+use borrow.Author.Tests.{leb-true}
+use borrow.Author.Needs.{needs}
 use Rattle.document.specs.Variables.{allMay, setSize, valuesOf}
 use Rattle.document.specs.Stores.{stored}
 use Rattle.variables.specs.State.{variablesOf, upTo}
-use lib.ListN.{length, take, drop, length-map, length-take, drop-of-length-le}
-use Prim.Native.Nat.{ℕ, suc, _+_, _-_, _*_, _<_, _≤_}
-use mathlib.Core.Path.{_≡_, refl, sym, ap, _∙_}
-use borrow.Author.Needs.{needs}
+use Rattle.variables.proofs.Gathered.{part-length, gathered-next}
+use Rattle.variables.proofs.Each.{blank, may-here, size-more}
 use Rattle.variables.proofs.sets.gather.Statement.{statement}
 use Rattle.variables.proofs.sets.gather.Tie as tie
-use Rattle.variables.proofs.sets.gather.Reads as reads
-use Rattle.variables.proofs.sets.gather.Lts as lts
-use Rattle.memory.proofs.copy_in.Reads as copy-in-reads
-use Rattle.variables.proofs.sets.place.Reads as place-reads
-use Rattle.variables.proofs.sets.wide.Reads as wide-reads
 
 abbrev Inv-loop : tie.InvT-loop
 Inv-loop memory out₀ v n k₀ done₀ out k done =

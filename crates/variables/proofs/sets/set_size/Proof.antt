@@ -1,18 +1,15 @@
 -- The sum so far and the sizes still to come make the whole.
+use mathlib.Core.Path.{_≡_}
+use Prim.Native.Nat.{_+_, _-_, _*_, _≤_}
 use native.Mathlib.Omega.{arith}
 use native.Mathlib.Nat.{zero-add, add-zero}
-use Rattle.variables.proofs.Each.{size-more}
-use Rattle.document.specs.Variables.{setSize}
-use Rattle.variables.specs.State.{variablesOf, upTo}
-use lib.ListN.{length, take, drop, length-map, length-take, drop-of-length-le}
-use Prim.Native.Nat.{ℕ, suc, _+_, _-_, _*_, _<_, _≤_}
-use mathlib.Core.Path.{_≡_, refl, sym, ap, _∙_}
+use lib.ListN.{length, drop, length-map, length-take, drop-of-length-le}
 use borrow.Author.Needs.{needs}
+use Rattle.document.specs.Variables.{setSize}
+use Rattle.variables.specs.State.{variablesOf}
+use Rattle.variables.proofs.Each.{size-more}
 use Rattle.variables.proofs.sets.set_size.Statement.{statement}
 use Rattle.variables.proofs.sets.set_size.Tie as tie
-use Rattle.variables.proofs.sets.set_size.Reads as reads
-use Rattle.variables.proofs.sets.set_size.Lts as lts
-use Rattle.variables.proofs.sets.wide.Reads as wide-reads
 
 abbrev Inv-loop : tie.InvT-loop
 Inv-loop v n k₀ sum₀ k sum =
