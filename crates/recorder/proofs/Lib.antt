@@ -14,7 +14,7 @@ pub mod Accepted
 pub mod Example
 pub mod Edges
 pub mod Flags
-pub mod Bounds
+pub mod Granted
 pub mod Watches
 pub mod Readings
 pub mod Settled

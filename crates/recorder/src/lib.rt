@@ -1,4 +1,5 @@
 // The recorder: its setup, start, stop, tick, trigger and start index.
+mod bounds;
 mod calls;
 mod run;
 mod state;

@@ -2,7 +2,7 @@
 use mathlib.Core.Path.{_≡_, ap, _∙_}
 use Rattle.recorder.specs.declared.state.Run.{Run}
 use Rattle.recorder.specs.Bounds.{watchSound}
-use Rattle.recorder.proofs.Bounds.{run-bounds}
+use Rattle.recorder.proofs.Granted.{run-bounds}
 use Rattle.recorder.proofs.Watches.{set-kept}
 use native.Mathlib.Omega.{arith}
 use Rattle.recorder.proofs.state.Run.after_set.Statement.{statement}

@@ -4,7 +4,7 @@ use mathlib.Core.Bool.{true, false}
 use Prim.Native.Nat.{ℕ}
 use Rattle.document.specs.Run.Watch.{triggered}
 use Rattle.recorder.specs.State.{planOf, watching}
-use Rattle.recorder.proofs.Bounds.{plan-bounds, previous-fits, watch-two, left-some}
+use Rattle.recorder.proofs.Granted.{plan-bounds, previous-fits, watch-two, left-some}
 use Rattle.recorder.proofs.Watches.{still-running, first-set, looked-set, counted-set}
 use native.Mathlib.Omega.{arith}
 use borrow.Author.Needs.{needs}

@@ -44,7 +44,7 @@ one-of-sizes size e =
     (λ t. (omega (arith, eqb-true size 4 t), omega (arith, eqb-true size 4 t)))
     (λ h. neither (rw (f, g, h) at e))))
 
-size-bounds : (mode size : ℕ) → sizeSound mode size ≡ true → ((mode ≡ 0 → ⊥) → 1 ≤ size) × (size ≤ 4)
+pub size-bounds : (mode size : ℕ) → sizeSound mode size ≡ true → ((mode ≡ 0 → ⊥) → 1 ≤ size) × (size ≤ 4)
 size-bounds mode size e =
     split (eqb mode 0)
     (λ t. let z : size ≡ 0 = eqb-true size 0 (rw t at e) in
