@@ -9,4 +9,6 @@ pub mod Unless
 pub mod ReadLaws
 pub mod WriteLaws
 pub mod Words
+pub mod InstrumentLaws
+pub mod ScopeReads
 pub mod Happened

@@ -2,6 +2,7 @@
 mod answer;
 mod describing;
 mod fields;
+mod instruments;
 mod numbers;
 mod operation;
 mod reading;
