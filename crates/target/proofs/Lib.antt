@@ -11,4 +11,5 @@ pub mod WriteLaws
 pub mod Words
 pub mod InstrumentLaws
 pub mod ScopeReads
+pub mod AnswerLaws
 pub mod Happened

@@ -5,3 +5,5 @@ pub mod Asked
 pub mod AnsweredHeld
 pub mod Told
 pub mod Wrote
+pub mod State
+pub mod Answers

@@ -1,5 +1,6 @@
 // The target: what comes over the port, refused or carried out.
 mod answer;
+mod answering;
 mod describing;
 mod fields;
 mod instruments;

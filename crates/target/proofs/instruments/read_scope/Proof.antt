@@ -49,10 +49,11 @@ slice-aggregate-tell c =
     sym (length-take-le (c .before .before .before .before .read .result .length) (c .before .before .before .before .read .last .1 .1 .0) (omega (arith, c .before .before .before .before .read .ensures .length, bytes-few (c .before .before .before .before .before .before .before .before .args .scope) (c .before .before .before .before .before .before .before .before .args .memory .now) (replicate 64 0) (c .before .before .before .before .before .before .before .before .pre .0) (c .before .before .before .before .before .before .before .before .pre .1) (omega arith) (sym (c .before .before .before .before .read .ensures .status ∙ status-is (c .before .before .before .before .before .before .before .before .args .scope) (c .before .before .before .before .before .before .before .before .args .memory .now) (replicate 64 0) (c .before .before .before .before .before .before .before .before .pre .0) (c .before .before .before .before .before .before .before .before .pre .1) (omega arith)) ∙ c .before .if1 .left), ap length (c .before .before .before .before .read .ensures .out) ∙ length-sets (replicate 64 0) 0 (readBytes (c .before .before .before .before .before .before .before .before .args .scope) (c .before .before .before .before .before .before .before .before .args .memory .now) (replicate 64 0)))))
 
 tell-requires : tie.Need-tell-requires
-tell-requires c κs =
-    (data-formed (take (c .before .before .before .before .before .read .result .length) (c .before .before .before .before .before .read .last .1 .1 .0))
-    (simp length-take (omega (arith, c .before .before .before .before .before .read .ensures .length, bytes-few (c .before .before .before .before .before .before .before .before .before .args .scope) (c .before .before .before .before .before .before .before .before .before .args .memory .now) (replicate 64 0) (c .before .before .before .before .before .before .before .before .before .pre .0) (c .before .before .before .before .before .before .before .before .before .pre .1) (omega arith) (sym (c .before .before .before .before .before .read .ensures .status ∙ status-is (c .before .before .before .before .before .before .before .before .before .args .scope) (c .before .before .before .before .before .before .before .before .before .args .memory .now) (replicate 64 0) (c .before .before .before .before .before .before .before .before .before .pre .0) (c .before .before .before .before .before .before .before .before .before .pre .1) (omega arith)) ∙ c .before .before .if1 .left)))),
-    c .before .before .before .before .before .before .before .before .before .pre .2)
+tell-requires c κs = (
+  data-formed (take (c .before .before .before .before .before .read .result .length) (c .before .before .before .before .before .read .last .1 .1 .0))
+      (simp length-take (omega (arith, c .before .before .before .before .before .read .ensures .length, bytes-few (c .before .before .before .before .before .before .before .before .before .args .scope) (c .before .before .before .before .before .before .before .before .before .args .memory .now) (replicate 64 0) (c .before .before .before .before .before .before .before .before .before .pre .0) (c .before .before .before .before .before .before .before .before .before .pre .1) (omega arith) (sym (c .before .before .before .before .before .read .ensures .status ∙ status-is (c .before .before .before .before .before .before .before .before .before .args .scope) (c .before .before .before .before .before .before .before .before .before .args .memory .now) (replicate 64 0) (c .before .before .before .before .before .before .before .before .before .pre .0) (c .before .before .before .before .before .before .before .before .before .pre .1) (omega arith)) ∙ c .before .before .if1 .left)))),
+  c .before .before .before .before .before .before .before .before .before .pre .2,
+)
 
 same-length-2 : tie.Need-same-length-2
 same-length-2 c = search needs
