@@ -3,6 +3,9 @@ ghost use mathlib.Core.Path.{_≡_};
 ghost use Rattle.scope.specs.Read.{readRefusal, IsRead};
 use crate::Scope;
 
+// A data part holds at most so many bytes.
+const MAX_DATA: usize = 64;
+
 // What a reading answers: the number with which the call refuses or 0, the status, and how many bytes stand in the buffer.
 pub struct Reading {
     pub refusal: u8,
@@ -15,15 +18,15 @@ fn refusal(s: Scope, memory: &[u8], out: &[u8]) -> u8
     ensures { λ r. ⌜ r ≡ readRefusal s (now (memory .entry)) (now (out .entry)) ⌝ }
 {
     if !s.is_sound() {
-        return 1;
+        return codes::STATE_REFUSED;
     }
     if memory.len() != memory::MEMORY_END {
-        return 2;
+        return codes::MEMORY_REFUSED;
     }
-    if out.len() < 64 {
-        return 3;
+    if out.len() < MAX_DATA {
+        return codes::ROOM_REFUSED;
     }
-    0
+    codes::TAKEN
 }
 
 fn without_bytes(refusal: u8, status: u8) -> Reading
@@ -42,21 +45,21 @@ impl Scope {
         ensures { λ r. ⌜ IsRead self (now (memory .entry)) (now (out .entry)) r (now (out .exit)) ⌝ }
     {
         let refused = refusal(self, memory, out);
-        if refused != 0 {
-            return without_bytes(refused, 0x00);
+        if refused != codes::TAKEN {
+            return without_bytes(refused, codes::DONE);
         }
         let v = self.variables;
         if v.count == 0 {
-            return without_bytes(0, 0x88);
+            return without_bytes(codes::TAKEN, codes::NOT_SET_UP);
         }
         let length = variables::set_size(v);
-        if length > 64 {
-            return without_bytes(0, 0x84);
+        if length > MAX_DATA {
+            return without_bytes(codes::TAKEN, codes::ANSWER_TOO_LONG);
         }
         variables::gather(memory, v, out);
         Reading {
-            refusal: 0,
-            status: 0x00,
+            refusal: codes::TAKEN,
+            status: codes::DONE,
             length,
         }
     }

@@ -16,21 +16,21 @@ fn status_of(part: variables::Part) -> u8
 {
     let v = part.variables;
     if !part.whole {
-        return 0x85;
+        return codes::LAYOUT_WRONG;
     }
     if part.count == 0 {
-        return 0x86;
+        return codes::SIZE_WRONG;
     }
     if part.count > 8 {
-        return 0x86;
+        return codes::SIZE_WRONG;
     }
     if variables::any_size_zero(v) {
-        return 0x86;
+        return codes::SIZE_WRONG;
     }
     if !variables::all_within(v, memory::MEMORY_END) {
-        return 0x89;
+        return codes::RANGE_WRONG;
     }
-    0x00
+    codes::DONE
 }
 
 impl Scope {
@@ -40,7 +40,7 @@ impl Scope {
     {
         let part = variables::read_variables(body, ex);
         let status = status_of(part);
-        if status != 0x00 {
+        if status != codes::DONE {
             return SetUp { status, next: self };
         }
         let v = part.variables;
