@@ -18,3 +18,7 @@ pub mod Granted
 pub mod Watches
 pub mod Readings
 pub mod Settled
+pub mod Kept
+pub mod Keeps
+pub mod Meanings
+pub mod Taken

@@ -4,6 +4,7 @@ mod calls;
 mod run;
 mod state;
 mod status;
+mod tick;
 mod trigger;
 
 pub use calls::Answered;
