@@ -3,6 +3,9 @@ mod ranges;
 mod stores;
 mod values;
 
+pub use ranges::CALIBRATION_END;
+pub use ranges::MEMORY_END;
+pub use ranges::VARIABLES_END;
 pub use ranges::may_be_read;
 pub use ranges::may_be_recorded;
 pub use ranges::may_be_written;

@@ -9,7 +9,7 @@ use native.Mathlib.Omega.{arith}
 use lib.Dec.{ltb}
 use lib.ListN.{length, getD, set, drop, List·getD-eq-default}
 use lib.Seq.{sets, drop-drop, getD-drop, sets-eq, take-append-seam}
-use borrow.Author.Tests.{le-leb, eq-eqb, ne-eqb, lt-ltb, le-ltb}
+use borrow.Author.Tests.{le-leb, eq-eqb, ne-eqb, lt-ltb, le-ltb, ltb-false}
 use Rattle.document.specs.declared.Variable.{Variable}
 use Rattle.document.specs.Areas.{bytesAt}
 use Rattle.document.specs.Values.{number}
@@ -50,7 +50,7 @@ found-at part ex at width address ew fits ea =
 
 -- ---- a whole part
 
-definitions-length : (ex : Bool) (n : ℕ) (part : List ℕ) → length (definitionsIn ex n part) ≡ n
+pub definitions-length : (ex : Bool) (n : ℕ) (part : List ℕ) → length (definitionsIn ex n part) ≡ n
 definitions-length ex zero part = refl
 definitions-length ex (suc n) part = ap suc (definitions-length ex n (drop (definitionWidth ex) part))
 
@@ -67,6 +67,16 @@ module _ (ex : Bool) (part : List ℕ) where
   unfolding partRead
   by-tests w m ew em = rw (ew, em)
 
+  -- never more than eight are kept
+  pub read-count : partRead ex part .variables .count ≤ 8
+  unfolding partRead
+  read-count = count-kept (isWhole ex part) (ltb 8 (countIn part)) refl
+    where
+      count-kept : (whole many : Bool) → ltb 8 (countIn part) ≡ many → cond (whole && not many) (kept (variablesIn ex part)) (kept []) .count ≤ 8
+      count-kept false many e = omega arith
+      count-kept true true e = omega arith
+      count-kept true false e = rw (definitions-length ex (countIn part)) (ltb-false 8 (countIn part) e)
+
   pub read-other-length : (length part ≡ lengthGiven ex part → ⊥)
       → partRead ex part ≡ record { whole = false; count = countIn part; variables = record { count = 0; list = noVariables } }
   read-other-length n = by-tests false (ltb 8 (countIn part)) (ne-eqb (length part) (lengthGiven ex part) n) refl
@@ -81,11 +91,13 @@ module _ (ex : Bool) (part : List ℕ) where
         → partRead ex part ≡ record { whole = true; count = countIn part; variables = record { count = 0; list = noVariables } }
     read-too-many m = by-tests true true (eq-eqb (length part) (lengthGiven ex part) right) (lt-ltb 8 (countIn part) m)
 
+    pub read-kept : countIn part ≤ 8 → partRead ex part ≡ record { whole = true; count = countIn part; variables = kept (variablesIn ex part) }
+    read-kept m = by-tests true false (eq-eqb (length part) (lengthGiven ex part) right) (le-ltb 8 (countIn part) m)
+
     pub read-whole : countIn part ≤ 8
         → partRead ex part ≡ record { whole = true; count = countIn part; variables = record { count = countIn part; list = sets noVariables 0 (variablesIn ex part) } }
     read-whole m =
-        by-tests true false (eq-eqb (length part) (lengthGiven ex part) right) (le-ltb 8 (countIn part) m)
-        ∙ ap (λ (v : Variables). record { whole = true; count = countIn part; variables = v }) (kept-variables ex part)
+        read-kept m ∙ ap (λ (v : Variables). record { whole = true; count = countIn part; variables = v }) (kept-variables ex part)
 
 -- up to eight definitions are kept as they are
 pub kept-all : (vs : List Variable) → length vs ≤ 8 → variablesOf (kept vs) ≡ vs
