@@ -22,3 +22,6 @@ pub mod Kept
 pub mod Keeps
 pub mod Meanings
 pub mod Taken
+pub mod Plans
+pub mod SetUps
+pub mod Answers

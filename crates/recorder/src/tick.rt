@@ -10,44 +10,24 @@ ghost use Rattle.document.specs.Run.{placeBegins, setOf};
 ghost use Rattle.recorder.specs.State.{triggerOf, planOf};
 ghost use Rattle.recorder.specs.Bounds.{planSound, sound};
 ghost use Rattle.recorder.specs.Calls.{TickTaken, TickSettled};
-ghost use Rattle.memory.specs.Held.{Held};
-use crate::bounds::BUFFER_BEGINS;
 use crate::state::Plan;
 use crate::state::Recorder;
+use crate::wide::wide_address;
+use crate::wide::wide_count;
+use crate::wide::wide_size;
+use codes::MEMORY_REFUSED;
+use codes::STATE_REFUSED;
+use codes::TAKEN;
+use memory::CALIBRATION_END;
+use memory::MEMORY_END;
 use memory::number_at;
 use variables::copy_set;
 use variables::set_size;
-
-const MEMORY_SIZE: usize = 16384;
-
-const TAKEN: u8 = 0;
-
-const STATE_REFUSED: u8 = 1;
-
-const MEMORY_REFUSED: u8 = 2;
 
 // The number of the refusal, and the recorder as it is then.
 pub struct Ticked {
     pub refusal: u8,
     pub next: Recorder,
-}
-
-fn wide_size(size: u8) -> usize
-    ensures { λ r. ⌜ r ≡ size ⌝ }
-{
-    size as usize
-}
-
-fn wide_address(address: u32) -> usize
-    ensures { λ r. ⌜ r ≡ address ⌝ }
-{
-    address as usize
-}
-
-fn wide_place(place: u16) -> usize
-    ensures { λ r. ⌜ r ≡ place ⌝ }
-{
-    place as usize
 }
 
 impl Plan {
@@ -68,7 +48,7 @@ impl Plan {
     {
         let v = self.variables;
         let size = set_size(v);
-        let at = BUFFER_BEGINS + wide_place(place) * size;
+        let at = CALIBRATION_END + wide_count(place) * size;
         copy_set(memory, at, size, v);
     }
 }
@@ -109,7 +89,7 @@ impl Recorder {
                 next: self,
             };
         }
-        if memory.len() != MEMORY_SIZE {
+        if memory.len() != MEMORY_END {
             return Ticked {
                 refusal: MEMORY_REFUSED,
                 next: self,

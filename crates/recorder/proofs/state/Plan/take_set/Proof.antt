@@ -14,7 +14,6 @@ use Rattle.recorder.proofs.state.Plan.take_set.Statement.{statement}
 use Rattle.recorder.proofs.state.Plan.take_set.Tie as tie
 use Rattle.recorder.proofs.state.Plan.take_set.Reads as reads
 use Rattle.recorder.proofs.state.Plan.take_set.Lts as lts
-use Rattle.recorder.proofs.tick.wide_place.Reads as wide-place-reads
 use Rattle.variables.proofs.copy_set.Reads as copy-set-reads
 use Rattle.variables.proofs.set_size.Reads as set-size-reads
 
@@ -28,14 +27,14 @@ room s size place e f =
 set-size-requires : tie.Need-set-size-requires
 set-size-requires c κs = plan-bounds (c .before .before .args .self) (c .before .before .pre .0) .count
 
-wide-place-requires : tie.Need-wide-place-requires
-wide-place-requires c κs = search needs
+wide-count-requires : tie.Need-wide-count-requires
+wide-count-requires c κs = search needs
 
 mul-at : tie.Need-mul-at
-mul-at c = record { fits = omega (arith, room (c .before .before .before .before) (c .before .set-size .result) (c .wide-place .result) (c .before .set-size .ensures .0) (c .wide-place .ensures)) }
+mul-at c = record { fits = omega (arith, room (c .before .before .before .before) (c .before .set-size .result) (c .wide-count .result) (c .before .set-size .ensures .0) (c .wide-count .ensures .0)) }
 
 add-at : tie.Need-add-at
-add-at c = record { fits = omega (arith, room (c .before .before .before .before) (c .before .set-size .result) (c .wide-place .result) (c .before .set-size .ensures .0) (c .wide-place .ensures)) }
+add-at c = record { fits = omega (arith, room (c .before .before .before .before) (c .before .set-size .result) (c .wide-count .result) (c .before .set-size .ensures .0) (c .wide-count .ensures .0)) }
 
 copy-set-requires : tie.Need-copy-set-requires
 copy-set-requires c κs =
@@ -45,7 +44,7 @@ copy-set-requires c κs =
       b .variables,
       omega arith,
       c .before .before .set-size .ensures .0,
-      omega (arith, room s (c .before .before .set-size .result) (c .before .wide-place .result) (c .before .before .set-size .ensures .0) (c .before .wide-place .ensures), s .pre .2),
+      omega (arith, room s (c .before .before .set-size .result) (c .before .wide-count .result) (c .before .before .set-size .ensures .0) (c .before .wide-count .ensures .0), s .pre .2),
     )
 
 same-length : tie.Need-same-length
@@ -54,11 +53,11 @@ same-length c = search needs
 returns : tie.Need-returns
 returns c =
     let s = c .before .before .before .before .before .before .before .before in
-    let w = c .before .before .before .before .wide-place in
+    let w = c .before .before .before .before .wide-count in
     let z = c .before .before .before .before .before .set-size in
     let vs = setOf (planOf (s .args .self)) (s .args .memory .now) in
     c .before .before .copy-set .ensures
-    ∙ ap (λ (i : ℕ). stored (s .args .memory .now) (12288 + i * z .result) vs) (w .ensures)
+    ∙ ap (λ (i : ℕ). stored (s .args .memory .now) (12288 + i * z .result) vs) (w .ensures .0)
     ∙ ap (λ (n : ℕ). stored (s .args .memory .now) (12288 + s .args .place * n) vs) (z .ensures .0)
 
 pub take-set-spec : {M : Type 1} → statement M
@@ -66,7 +65,7 @@ take-set-spec =
     tie.close
     (tie.spec
     set-size-requires
-    wide-place-requires
+    wide-count-requires
     mul-at
     add-at
     copy-set-requires

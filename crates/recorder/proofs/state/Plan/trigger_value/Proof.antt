@@ -12,8 +12,6 @@ use Rattle.recorder.proofs.state.Plan.trigger_value.Tie as tie
 use Rattle.recorder.proofs.state.Plan.trigger_value.Reads as reads
 use Rattle.recorder.proofs.state.Plan.trigger_value.Lts as lts
 use Rattle.memory.proofs.number_at.Reads as number-at-reads
-use Rattle.recorder.proofs.tick.wide_address.Reads as wide-address-reads
-use Rattle.recorder.proofs.tick.wide_size.Reads as wide-size-reads
 
 wide-address-requires : tie.Need-wide-address-requires
 wide-address-requires c κs = search needs
