@@ -34,7 +34,7 @@ pub record TriggerBounds (mode size sign address threshold : ℕ) : Type 0 where
   pub below : mayBeRecorded address size ≡ true
   pub fitting : threshold < 2 ^ (8 * size)
 
-one-of-sizes : (size : ℕ) → isIn size (1 ∷ 2 ∷ 4 ∷ []) ≡ true → (1 ≤ size) × (size ≤ 4)
+pub one-of-sizes : (size : ℕ) → isIn size (1 ∷ 2 ∷ 4 ∷ []) ≡ true → (1 ≤ size) × (size ≤ 4)
 one-of-sizes size e =
     split (eqb size 1)
     (λ t. (omega (arith, eqb-true size 1 t), omega (arith, eqb-true size 1 t)))

@@ -18,3 +18,10 @@ pub mod Granted
 pub mod Watches
 pub mod Readings
 pub mod Settled
+pub mod Kept
+pub mod Keeps
+pub mod Meanings
+pub mod Taken
+pub mod Plans
+pub mod SetUps
+pub mod Answers

@@ -1,19 +1,19 @@
 -- What the recorder's calls promise: each its status, and the whole state that it hands back.
 use mathlib.Core.Path.{_≡_}
-use mathlib.Core.Bool.{Bool, true, cond, _||_}
+use mathlib.Core.Bool.{true, cond}
 use mathlib.Core.List.{List}
 use Prim.Native.Nat.{ℕ}
-use lib.ListN.{replicate}
 use lib.Dec.{eqb}
 use Rattle.document.specs.Numbers.{done, recorderRuns, recorderStopped, busy, notSetUp, taken}
 use Rattle.document.specs.Run.{started, startIndex, ranTick}
-use Rattle.document.specs.Recorder.{Recorder, recorderAbsent, isRunning, recorderStarted, recorderHalted, ticked, tickedMemory}
+use Rattle.document.specs.Recorder.{Recorder, recorderAbsent, isRunning, tickedMemory}
 use Rattle.document.specs.Recorder.Recorder.{absent, planned}
 use Rattle.document.specs.Calls.{tickRefusal}
 use Rattle.recorder.specs.declared.state.Run.{Run as RunState}
 use Rattle.recorder.specs.declared.state.Recorder.{Recorder as RecorderState}
 use Rattle.recorder.specs.declared.calls.Answered.{Answered}
 use Rattle.recorder.specs.declared.calls.Queried.{Queried}
+use Rattle.recorder.specs.declared.tick.Ticked.{Ticked}
 use Rattle.recorder.specs.State.{planOf, runOf, recorderOf, withRun}
 use Rattle.recorder.specs.Bounds.{sound}
 
@@ -72,3 +72,23 @@ indexOf (planned p r) = startIndex r
 pub record QuerySettled (self : RecorderState) (answer : Queried) : Type 0 where
   pub status : answer .status ≡ queryStatus (recorderOf self)
   pub index : answer .index ≡ cond (eqb (queryStatus (recorderOf self)) done) (indexOf (recorderOf self)) 0
+
+-- ---- tick
+
+-- only the run changes, and only of a recorder that is set up
+abbrev pub tickedState : RecorderState → List ℕ → RecorderState
+tickedState r memory =
+    cond (eqb (r .ready) 0) r (withRun r (ranTick (planOf (r .plan)) (runOf (r .run)) memory))
+
+-- a tick of a sound state over a memory of the right length
+pub record TickTaken (self : RecorderState) (memory : List ℕ) (next : RecorderState) (left : List ℕ) : Type 0 where
+  pub state : next ≡ tickedState self memory
+  pub memory-left : left ≡ tickedMemory (recorderOf self) memory
+  pub within : sound next ≡ true
+
+-- the gate's tick: "Calls refuse with a number of their own, .. and hand the state back unchanged"
+pub record TickSettled (self : RecorderState) (memory : List ℕ) (answer : Ticked) (left : List ℕ) : Type 0 where
+  pub refusal : answer .refusal ≡ tickRefusal (sound self) memory
+  pub next : answer .next ≡ cond (eqb (tickRefusal (sound self) memory) taken) (tickedState self memory) self
+  pub memory-left : left ≡ cond (eqb (tickRefusal (sound self) memory) taken) (tickedMemory (recorderOf self) memory) memory
+  pub within : sound self ≡ true → sound (answer .next) ≡ true

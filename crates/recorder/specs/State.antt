@@ -1,13 +1,16 @@
 -- How the recorder's struct holds the document's recorder.
 use mathlib.Core.Bool.{Bool, true, false, cond}
+use mathlib.Core.List.{[]}
 use Prim.Native.Nat.{ℕ}
 use lib.Dec.{eqb}
-use Rattle.document.specs.Plan.{Trigger, Plan}
+use Rattle.document.specs.Plan.{Trigger, Plan, noTrigger}
 use Rattle.document.specs.Run.{Watch, Run, goesOn}
 use Rattle.document.specs.Run.Watch.{unprimed, previous, triggered}
 use Rattle.document.specs.Recorder.{Recorder}
 use Rattle.document.specs.Recorder.Recorder.{absent, planned}
+use Rattle.variables.specs.declared.Variables.{Variables}
 use Rattle.variables.specs.State.{variablesOf}
+use Rattle.variables.specs.Parts.{kept}
 use Rattle.recorder.specs.declared.state.Plan.{Plan as PlanState}
 use Rattle.recorder.specs.declared.state.Run.{Run as RunState}
 use Rattle.recorder.specs.declared.state.Recorder.{Recorder as RecorderState}
@@ -52,7 +55,22 @@ runOf r =
 abbrev pub recorderOf : RecorderState → Recorder
 recorderOf r = cond (eqb (r .ready) 0) absent (planned (planOf (r .plan)) (runOf (r .run)))
 
--- ---- how a run is kept in the struct
+-- ---- how a plan and a run are kept in the struct
+
+-- the plan's numbers beside its variables
+abbrev pub planKept : Plan → Variables → PlanState
+planKept p v =
+    record {
+      samples = p .samples;
+      «post_trigger» = p .postTrigger;
+      divider = p .divider;
+      mode = p .trigger .mode;
+      size = p .trigger .size;
+      sign = p .trigger .sign;
+      address = p .trigger .address;
+      threshold = p .trigger .threshold;
+      variables = v;
+    }
 
 abbrev pub watchNumber : Watch → ℕ
 watchNumber unprimed = 0
@@ -90,3 +108,12 @@ watching full wait place w =
 -- a run alone changes: the plan stays as the setup left it
 abbrev pub withRun : RecorderState → Run → RecorderState
 withRun r run = record { ready = r .ready; plan = r .plan; run = runKept run }
+
+-- reset: "no accepted recorder setup"
+abbrev pub noRecorder : RecorderState
+noRecorder =
+    record {
+      ready = 0;
+      plan = planKept (record { samples = 0; postTrigger = 0; divider = 0; trigger = noTrigger; variables = [] }) (kept []);
+      run = record { running = 0; full = 0; watch = 0; wait = 0; place = 0; value = 0 };
+    }

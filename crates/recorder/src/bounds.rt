@@ -11,42 +11,21 @@ use crate::state::Recorder;
 use crate::state::Run;
 use crate::state::TRIGGERED;
 use crate::state::UNPRIMED;
+use crate::wide::wide_count;
+use crate::wide::wide_left;
+use crate::wide::wide_number;
+use crate::wide::wide_size;
+use memory::CALIBRATION_END;
 use memory::may_be_recorded;
 use variables::Variables;
 use variables::all_within;
 use variables::any_size_zero;
 use variables::set_size;
 
-// Where recorded variables and trigger end at the latest, and the buffer begins.
-pub const BUFFER_BEGINS: usize = 12288;
+// What the sets may fill: the recorder's buffer.
+pub const BUFFER_SIZE: usize = 4096;
 
-const BUFFER_SIZE: usize = 4096;
-
-const MOST_VARIABLES: u8 = 8;
-
-fn wide(x: u8) -> usize
-    ensures { λ r. ⌜ r ≡ x ⌝ }
-{
-    x as usize
-}
-
-fn wide_count(x: u16) -> usize
-    ensures { λ r. ⌜ (r ≡ x) × (r ≤ 65535) ⌝ }
-{
-    x as usize
-}
-
-fn wide_left(x: u16) -> u32
-    ensures { λ r. ⌜ r ≡ x ⌝ }
-{
-    x as u32
-}
-
-fn wide_number(x: u32) -> u64
-    ensures { λ r. ⌜ r ≡ x ⌝ }
-{
-    x as u64
-}
+pub const MOST_VARIABLES: u8 = 8;
 
 // The first number that takes more than so many bytes.
 fn too_large(size: usize) -> u64
@@ -99,7 +78,7 @@ fn is_trigger_sound(mode: u8, size: u8, sign: u8, address: u32, threshold: u32) 
     if sign > 1 {
         return false;
     }
-    let bytes = wide(size);
+    let bytes = wide_size(size);
     if !may_be_recorded(address, bytes) {
         return false;
     }
@@ -118,7 +97,7 @@ fn are_variables_sound(samples: u16, v: Variables) -> bool
     if any_size_zero(v) {
         return false;
     }
-    if !all_within(v, BUFFER_BEGINS) {
+    if !all_within(v, CALIBRATION_END) {
         return false;
     }
     wide_count(samples) * set_size(v) <= BUFFER_SIZE
@@ -132,7 +111,7 @@ fn is_watch_sound(size: u8, post: u16, running: u8, watch: u8, value: u32) -> bo
         return value == 0;
     }
     if watch == PREVIOUS {
-        return does_fit(wide(size), value);
+        return does_fit(wide_size(size), value);
     }
     if watch != TRIGGERED {
         return false;

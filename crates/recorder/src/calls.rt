@@ -1,15 +1,16 @@
-// Start, stop, status and buffer query. Any state may come: what is not set up, or runs, decides by its flags alone.
+// Reset, start, stop, status and buffer query. Any state may come: what is not set up, or runs, decides by its flags alone.
 ghost use mathlib.Core.Path.{_≡_};
 ghost use Rattle.document.specs.Recorder.{isRunning};
-ghost use Rattle.recorder.specs.State.{recorderOf};
+ghost use Rattle.recorder.specs.State.{recorderOf, noRecorder};
 ghost use Rattle.recorder.specs.Calls.{StartSettled, StopSettled, statusStatus, QuerySettled};
+use crate::state::Plan;
 use crate::state::Recorder;
 use crate::state::Run;
-use crate::status::BUSY;
-use crate::status::DONE;
-use crate::status::NOT_SET_UP;
-use crate::status::RUNS;
-use crate::status::STOPPED;
+use codes::BUSY;
+use codes::DONE;
+use codes::NOT_SET_UP;
+use codes::RECORDER_RUNS;
+use codes::RECORDER_STOPPED;
 
 // A status, and the recorder as it is then.
 pub struct Answered {
@@ -24,6 +25,39 @@ pub struct Queried {
 }
 
 impl Recorder {
+    pub fn new() -> Self
+        ensures { λ r. ⌜ r ≡ noRecorder ⌝ }
+    {
+        Recorder {
+            ready: 0,
+            plan: Plan {
+                samples: 0,
+                post_trigger: 0,
+                divider: 0,
+                mode: 0,
+                size: 0,
+                sign: 0,
+                address: 0,
+                threshold: 0,
+                variables: variables::Variables {
+                    count: 0,
+                    list: [document::Variable {
+                        address: 0,
+                        size: 0,
+                    }; 8],
+                },
+            },
+            run: Run {
+                running: 0,
+                full: 0,
+                watch: 0,
+                wait: 0,
+                place: 0,
+                value: 0,
+            },
+        }
+    }
+
     pub fn is_running(self) -> bool
         ensures { λ r. ⌜ r ≡ isRunning (recorderOf self) ⌝ }
     {
@@ -45,7 +79,7 @@ impl Recorder {
         }
         if self.run.running == 1 {
             return Answered {
-                status: RUNS,
+                status: RECORDER_RUNS,
                 next: self,
             };
         }
@@ -75,7 +109,7 @@ impl Recorder {
             };
         }
         Answered {
-            status: STOPPED,
+            status: RECORDER_STOPPED,
             next: self,
         }
     }
@@ -86,7 +120,11 @@ impl Recorder {
         if self.ready == 0 {
             return NOT_SET_UP;
         }
-        if self.run.running == 1 { RUNS } else { STOPPED }
+        if self.run.running == 1 {
+            RECORDER_RUNS
+        } else {
+            RECORDER_STOPPED
+        }
     }
 
     // The start index is 0 until 'samples' sets are taken, then the place that would be written next.

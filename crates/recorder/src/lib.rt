@@ -2,12 +2,16 @@
 mod bounds;
 mod calls;
 mod run;
+mod setup;
 mod state;
-mod status;
+mod tick;
 mod trigger;
+mod wide;
 
 pub use calls::Answered;
 pub use calls::Queried;
+pub use setup::SetUp;
 pub use state::Plan;
 pub use state::Recorder;
 pub use state::Run;
+pub use tick::Ticked;

@@ -14,18 +14,8 @@ use crate::state::Run;
 use crate::state::TRIGGERED;
 use crate::state::UNPRIMED;
 use crate::trigger::comes;
-
-fn wide(x: u16) -> u32
-    ensures { λ r. ⌜ r ≡ x ⌝ }
-{
-    x as u32
-}
-
-fn wide_size(size: u8) -> usize
-    ensures { λ r. ⌜ r ≡ size ⌝ }
-{
-    size as usize
-}
+use crate::wide::wide_left;
+use crate::wide::wide_size;
 
 impl Plan {
     // Whether the trigger comes. With mode 0 it has no size, and nothing to compare.
@@ -108,7 +98,7 @@ impl Run {
         }
         if self.watch == PREVIOUS {
             if plan.triggers(self.value, value) {
-                return self.counting(wide(plan.post_trigger));
+                return self.counting(wide_left(plan.post_trigger));
             }
             return self.primed(value);
         }

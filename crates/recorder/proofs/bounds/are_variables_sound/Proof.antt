@@ -8,7 +8,6 @@ use Rattle.recorder.proofs.bounds.are_variables_sound.Statement.{statem
 use Rattle.recorder.proofs.bounds.are_variables_sound.Tie as tie
 use Rattle.recorder.proofs.bounds.are_variables_sound.Reads as reads
 use Rattle.recorder.proofs.bounds.are_variables_sound.Lts as lts
-use Rattle.recorder.proofs.bounds.wide_count.Reads as wide-count-reads
 use Rattle.variables.proofs.all_within.Reads as all-within-reads
 use Rattle.variables.proofs.any_size_zero.Reads as any-size-zero-reads
 use Rattle.variables.proofs.set_size.Reads as set-size-reads

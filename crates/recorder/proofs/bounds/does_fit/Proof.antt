@@ -6,7 +6,6 @@ use Rattle.recorder.proofs.bounds.does_fit.Tie as tie
 use Rattle.recorder.proofs.bounds.does_fit.Reads as reads
 use Rattle.recorder.proofs.bounds.does_fit.Lts as lts
 use Rattle.recorder.proofs.bounds.too_large.Reads as too-large-reads
-use Rattle.recorder.proofs.bounds.wide_number.Reads as wide-number-reads
 
 wide-number-requires : tie.Need-wide-number-requires
 wide-number-requires c κs = search needs

@@ -11,7 +11,6 @@ use Rattle.recorder.proofs.bounds.is_trigger_sound.Lts as lts
 use Rattle.memory.proofs.may_be_recorded.Reads as may-be-recorded-reads
 use Rattle.recorder.proofs.bounds.does_fit.Reads as does-fit-reads
 use Rattle.recorder.proofs.bounds.is_size_sound.Reads as is-size-sound-reads
-use Rattle.recorder.proofs.bounds.wide.Reads as wide-reads
 
 returns : tie.Need-returns
 returns c = rw (lt-leb (c .before .args .mode) 2 (c .if1 .taken))
@@ -36,8 +35,8 @@ returns-3 c =
       lt-leb (s .args .sign) 1 (c .if3 .taken),
     )
 
-wide-requires : tie.Need-wide-requires
-wide-requires c κs = search needs
+wide-size-requires : tie.Need-wide-size-requires
+wide-size-requires c κs = search needs
 
 may-be-recorded-requires : tie.Need-may-be-recorded-requires
 may-be-recorded-requires c κs = search needs
@@ -50,7 +49,7 @@ returns-4 c =
       le-leb (s .args .mode) 2 (e .before .before .before .if1 .left),
       sym (e .before .before .is-size-sound .ensures) ∙ not-false _ (e .before .if2 .left),
       le-leb (s .args .sign) 1 (e .if3 .left),
-      ← c .before .before .wide .ensures,
+      ← c .before .before .wide-size .ensures,
       sym (c .before .may-be-recorded .ensures) ∙ not-true _ (c .if4 .taken),
     )
 
@@ -60,7 +59,7 @@ does-fit-requires c κs =
     let s = e .before .before .before .before in
     let b =
     size-bounds (s .args .mode) (s .args .size) (sym (e .before .before .is-size-sound .ensures) ∙ not-false _ (e .before .if2 .left)) in
-    omega (arith, b .1, c .before .before .wide .ensures)
+    omega (arith, b .1, c .before .before .wide-size .ensures)
 
 returns-5 : tie.Need-returns-5
 returns-5 c =
@@ -70,7 +69,7 @@ returns-5 c =
       le-leb (s .args .mode) 2 (e .before .before .before .if1 .left),
       sym (e .before .before .is-size-sound .ensures) ∙ not-false _ (e .before .if2 .left),
       le-leb (s .args .sign) 1 (e .if3 .left),
-      ← c .before .before .before .wide .ensures,
+      ← c .before .before .before .wide-size .ensures,
       sym (c .before .before .may-be-recorded .ensures) ∙ not-false _ (c .before .if4 .left),
     )
     (c .does-fit .ensures)
@@ -83,7 +82,7 @@ is-trigger-sound-spec =
     is-size-sound-requires
     returns-2
     returns-3
-    wide-requires
+    wide-size-requires
     may-be-recorded-requires
     returns-4
     does-fit-requires

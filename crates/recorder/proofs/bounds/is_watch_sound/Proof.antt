@@ -7,14 +7,12 @@ use Rattle.recorder.proofs.bounds.is_watch_sound.Tie as tie
 use Rattle.recorder.proofs.bounds.is_watch_sound.Reads as reads
 use Rattle.recorder.proofs.bounds.is_watch_sound.Lts as lts
 use Rattle.recorder.proofs.bounds.does_fit.Reads as does-fit-reads
-use Rattle.recorder.proofs.bounds.wide.Reads as wide-reads
-use Rattle.recorder.proofs.bounds.wide_left.Reads as wide-left-reads
 
 returns : tie.Need-returns
 returns c = rw (eq-eqb (c .before .args .watch) 0 (c .if1 .taken))
 
-wide-requires : tie.Need-wide-requires
-wide-requires c κs = search needs
+wide-size-requires : tie.Need-wide-size-requires
+wide-size-requires c κs = search needs
 
 does-fit-requires : tie.Need-does-fit-requires
 does-fit-requires c κs = search needs
@@ -25,7 +23,7 @@ returns-2 c =
     rw (
       ne-eqb (s .args .watch) 0 (c .before .before .before .if1 .left),
       eq-eqb (s .args .watch) 1 (c .before .before .if2 .taken),
-      ← c .before .wide .ensures,
+      ← c .before .wide-size .ensures,
     )
     (c .does-fit .ensures)
 
@@ -80,7 +78,7 @@ is-watch-sound-spec =
     tie.close
     (tie.spec
     returns
-    wide-requires
+    wide-size-requires
     does-fit-requires
     returns-2
     returns-3

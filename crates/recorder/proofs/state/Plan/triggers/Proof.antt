@@ -8,7 +8,6 @@ use Rattle.recorder.proofs.state.Plan.triggers.Statement.{statement}
 use Rattle.recorder.proofs.state.Plan.triggers.Tie as tie
 use Rattle.recorder.proofs.state.Plan.triggers.Reads as reads
 use Rattle.recorder.proofs.state.Plan.triggers.Lts as lts
-use Rattle.recorder.proofs.run.wide_size.Reads as wide-size-reads
 use Rattle.recorder.proofs.trigger.comes.Reads as comes-reads
 
 returns : tie.Need-returns

@@ -12,7 +12,6 @@ use Rattle.recorder.proofs.state.Run.watch_on.Statement.{statement}
 use Rattle.recorder.proofs.state.Run.watch_on.Tie as tie
 use Rattle.recorder.proofs.state.Run.watch_on.Reads as reads
 use Rattle.recorder.proofs.state.Run.watch_on.Lts as lts
-use Rattle.recorder.proofs.run.wide.Reads as wide-reads
 use Rattle.recorder.proofs.state.Plan.triggers.Reads as triggers-reads
 use Rattle.recorder.proofs.state.Run.counting.Reads as counting-reads
 use Rattle.recorder.proofs.state.Run.primed.Reads as primed-reads
@@ -40,8 +39,8 @@ triggers-requires c κs =
       s .pre .3,
     )
 
-wide-requires : tie.Need-wide-requires
-wide-requires c κs = search needs
+wide-left-requires : tie.Need-wide-left-requires
+wide-left-requires c κs = search needs
 
 counting-requires : tie.Need-counting-requires
 counting-requires c κs = search needs
@@ -52,7 +51,7 @@ returns-2 c =
     let p = s .args .plan in
     let r = s .args .self in
     c .counting .ensures
-    ∙ ap (λ (n : ℕ). watching (r .full) (r .wait) (r .place) (triggered n)) (c .before .wide .ensures)
+    ∙ ap (λ (n : ℕ). watching (r .full) (r .wait) (r .place) (triggered n)) (c .before .wide-left .ensures)
     ∙ looked-set (planOf p) (r .full) (r .wait) (r .place) (r .watch) (r .value) (s .args .value) true
     (c .before .before .before .before .if2 .taken)
     (sym (c .before .before .if3 .taken) ∙ c .before .before .before .triggers .ensures)
@@ -99,7 +98,7 @@ watch-on-spec =
     primed-requires
     returns
     triggers-requires
-    wide-requires
+    wide-left-requires
     counting-requires
     returns-2
     primed-requires-2
