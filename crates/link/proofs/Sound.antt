@@ -10,9 +10,9 @@ use Rattle.document.specs.Kinds.{hasLengthByte, fastLength}
 use Rattle.line.proofs.Cases.{split, and-left, and-right}
 use Rattle.link.specs.declared.Receiver.{Receiver}
 use Rattle.link.specs.declared.Taken.{Taken}
-use Rattle.link.specs.declared.Event.the-variants.{Refused}
+use Rattle.link.specs.declared.Event.the-variants.{Nothing, Keep, Whole, Refused}
 use Rattle.link.specs.Bounds.{idle, lengthNext, dataNext, sumNext, fresh, lengthRight, insideSound, sound}
-use Rattle.link.specs.Step.{plus, nextPhase, more, opened, measured, counted, closed, nothing, dataTaken, sumTaken, literalTaken, withWaiting, stepped, taken, numberOf}
+use Rattle.link.specs.Step.{plus, nextPhase, more, opened, measured, counted, closed, nothing, added, literalTaken, withWaiting, stepped, taken, numberOf}
 
 -- ---- the bounds over plain numbers
 abbrev pub inBounds : ℕ → ℕ → ℕ → ℕ → ℕ → Bool
@@ -78,11 +78,11 @@ next-inside c n have fits right =
 
 -- ---- the literal of each phase
 module _ (r : Receiver) (l : ℕ) where
-  pub literal-data : eqb (r .phase) dataNext ≡ true → literalTaken r l ≡ dataTaken r l
+  pub literal-data : eqb (r .phase) dataNext ≡ true → literalTaken r l ≡ record { next = counted r l; event = cond (ltb (r .have) 64) (Keep (r .have) l) Nothing }
   unfolding literalTaken
   literal-data e = rw e refl
 
-  pub literal-sum : eqb (r .phase) sumNext ≡ true → literalTaken r l ≡ sumTaken r l
+  pub literal-sum : eqb (r .phase) sumNext ≡ true → literalTaken r l ≡ record { next = closed r l; event = Whole (r .command) (r .length) (added (r .sum) l) }
   unfolding literalTaken
   literal-sum e = rw (other-phase (r .phase) sumNext dataNext e refl, e) refl
 

@@ -80,25 +80,26 @@ closed r l =
       sum = added (r .sum) l;
     }
 
+-- "Literals outside a message are dropped."
+abbrev pub afterLiteral : Receiver → ℕ → Receiver
+afterLiteral r l =
+    cond (eqb (r .phase) dataNext)
+    (counted r l)
+    (cond (eqb (r .phase) sumNext) (closed r l) (cond (eqb (r .phase) lengthNext) (measured r l) r))
+
+-- "A data part holds at most 64 bytes": a byte behind those is counted and summed, and not kept. "The answer comes with
+-- the sum byte's last wire byte, once."
+abbrev pub literalEvent : Receiver → ℕ → Event
+literalEvent r l =
+    cond (eqb (r .phase) dataNext)
+    (cond (ltb (r .have) 64) (Keep (r .have) l) Nothing)
+    (cond (eqb (r .phase) sumNext) (Whole (r .command) (r .length) (added (r .sum) l)) Nothing)
+
+unfoldable pub literalTaken : Receiver → ℕ → Taken
+literalTaken r l = record { next = afterLiteral r l; event = literalEvent r l }
+
 abbrev pub nothing : Receiver → Taken
 nothing r = record { next = r; event = Nothing }
-
--- "A data part holds at most 64 bytes": those behind are counted and summed, and not kept
-abbrev pub dataTaken : Receiver → ℕ → Taken
-dataTaken r l = record { next = counted r l; event = cond (ltb (r .have) 64) (Keep (r .have) l) Nothing }
-
--- "The answer comes with the sum byte's last wire byte, once."
-abbrev pub sumTaken : Receiver → ℕ → Taken
-sumTaken r l = record { next = closed r l; event = Whole (r .command) (r .length) (added (r .sum) l) }
-
--- "Literals outside a message are dropped."
-unfoldable pub literalTaken : Receiver → ℕ → Taken
-literalTaken r l =
-    cond (eqb (r .phase) dataNext)
-    (dataTaken r l)
-    (cond (eqb (r .phase) sumNext)
-    (sumTaken r l)
-    (cond (eqb (r .phase) lengthNext) (nothing (measured r l)) (nothing r)))
 
 abbrev pub withWaiting : ℕ → Receiver → Receiver
 withWaiting w r =

@@ -1,0 +1,23 @@
+use borrow.Author.Needs.{needs}
+use Rattle.link.proofs.Receiver.count.Statement.{statement}
+use Rattle.link.proofs.Receiver.count.Tie as tie
+use Rattle.link.proofs.Receiver.count.Reads as reads
+use Rattle.link.proofs.Receiver.count.Lts as lts
+use Rattle.line.proofs.sum.added.Reads as added-reads
+use Rattle.link.proofs.step.more.Reads as more-reads
+use Rattle.link.proofs.step.next_phase.Reads as next-phase-reads
+
+added-requires : tie.Need-added-requires
+added-requires c κs = search needs
+
+more-requires : tie.Need-more-requires
+more-requires c κs = search needs
+
+next-phase-requires : tie.Need-next-phase-requires
+next-phase-requires c κs = search needs
+
+returns : tie.Need-returns
+returns c = simp (c .before .before .added .ensures, c .before .more .ensures, c .next-phase .ensures)
+
+pub count-spec : {M : Type 1} → statement M
+count-spec = tie.close (tie.spec added-requires more-requires next-phase-requires returns)
