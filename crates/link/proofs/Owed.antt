@@ -20,9 +20,9 @@ use Rattle.link.specs.declared.Receiver.{Receiver}
 use Rattle.link.specs.declared.Event.{Event}
 use Rattle.link.specs.declared.Event.the-variants.{Nothing, Keep, Whole, Refused}
 use Rattle.link.specs.Bounds.{idle, lengthNext, dataNext, sumNext, sound}
-use Rattle.link.specs.Step.{added, nextPhase, more, opened, counted, literalTaken}
+use Rattle.link.specs.Step.{added, nextPhase, more, opened, counted}
 use Rattle.link.specs.Report.{Held, held, bodyAfter, reportOf}
-use Rattle.link.proofs.Sound.{other-phase, by-phase, data-of, sum-of, literal-data, literal-sum, literal-length, literal-outside}
+use Rattle.link.proofs.Sound.{literalTaken, other-phase, by-phase, data-of, sum-of, literal-data, literal-sum, literal-length, literal-outside}
 use Rattle.link.proofs.Body.{kept-front}
 
 -- ---- k data bytes and the sum byte are to come

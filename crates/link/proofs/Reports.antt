@@ -15,9 +15,9 @@ use Rattle.line.proofs.Machine.{Reads, within-after, reported-at, found-map, fi
 use Rattle.link.specs.declared.Receiver.{Receiver}
 use Rattle.link.specs.declared.Taken.{Taken}
 use Rattle.link.specs.Bounds.{fresh, sound}
-use Rattle.link.specs.Step.{plus, opened, nothing, literalTaken, withWaiting, stepped, taken}
+use Rattle.link.specs.Step.{plus, opened, withWaiting, afterByte, byteEvent, stepped, taken}
 use Rattle.link.specs.Report.{Held, held, Beside, onByte, reportedAt, sinceReset, reporting}
-use Rattle.link.proofs.Sound.{waiting-of, waiting-sound, plus-is, taken-step, sound-kept, reset-sound, by-phase, literal-data, literal-sum, literal-length, literal-outside}
+use Rattle.link.proofs.Sound.{nothing, literalTaken, waiting-of, waiting-sound, plus-is, taken-step, sound-kept, reset-sound, by-phase, literal-data, literal-sum, literal-length, literal-outside}
 use Rattle.link.proofs.Body.{body-length}
 use Rattle.link.proofs.Owed.{owes, owes-none, owes-literal, owes-opened}
 
@@ -37,16 +37,16 @@ first-flag waiting none = ne-eqb 1 waiting (λ e. eqb-false waiting 1 none (sym 
 
 module _ (r : Receiver) (bounds : sound r ≡ true) where
   literal-step : (b : ℕ) → eqb (r .waiting) 1 ≡ eqb b 0x2B → taken r b ≡ literalTaken (withWaiting 0 r) b
-  unfolding stepped
+  unfolding stepped afterByte byteEvent literalTaken
   literal-step b same = taken-step r b bounds ∙ rw (literal-flag b (r .waiting) (waiting-of r bounds) same) refl
 
   start-step : (b : ℕ) → eqb (r .waiting) 1 ≡ true → eqb b 0x2B ≡ false → taken r b ≡ nothing (opened b)
-  unfolding stepped
+  unfolding stepped afterByte byteEvent literalTaken
   start-step b waits other =
       taken-step r b bounds ∙ rw (start-flag b (r .waiting) waits other, plus-is b, other) refl
 
   first-step : eqb (r .waiting) 1 ≡ false → taken r 0x2B ≡ nothing (withWaiting 1 r)
-  unfolding stepped
+  unfolding stepped afterByte byteEvent literalTaken
   first-step none = taken-step r 0x2B bounds ∙ rw (first-flag (r .waiting) none) refl
 
 -- a literal leaves the flag as it is

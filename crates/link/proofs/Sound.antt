@@ -12,7 +12,7 @@ use Rattle.link.specs.declared.Receiver.{Receiver}
 use Rattle.link.specs.declared.Taken.{Taken}
 use Rattle.link.specs.declared.Event.the-variants.{Nothing, Keep, Whole, Refused}
 use Rattle.link.specs.Bounds.{idle, lengthNext, dataNext, sumNext, fresh, lengthRight, insideSound, sound}
-use Rattle.link.specs.Step.{plus, nextPhase, more, opened, measured, counted, closed, nothing, added, literalTaken, withWaiting, stepped, taken, numberOf}
+use Rattle.link.specs.Step.{plus, nextPhase, more, opened, measured, counted, closed, added, afterLiteral, literalEvent, withWaiting, afterByte, byteEvent, stepped, taken, numberOf}
 
 -- ---- the bounds over plain numbers
 abbrev pub inBounds : ℕ → ℕ → ℕ → ℕ → ℕ → Bool
@@ -77,6 +77,12 @@ next-inside c n have fits right =
     (λ f. let e : have ≡ n = omega (arith, ltb-false have n f) in rw (f, right, eq-eqb have n e) refl)
 
 -- ---- the literal of each phase
+abbrev pub nothing : Receiver → Taken
+nothing r = record { next = r; event = Nothing }
+
+unfoldable pub literalTaken : Receiver → ℕ → Taken
+literalTaken r l = record { next = afterLiteral r l; event = literalEvent r l }
+
 module _ (r : Receiver) (l : ℕ) where
   pub literal-data : eqb (r .phase) dataNext ≡ true → literalTaken r l ≡ record { next = counted r l; event = cond (ltb (r .have) 64) (Keep (r .have) l) Nothing }
   unfolding literalTaken
@@ -160,7 +166,7 @@ pub plus-is : (b : ℕ) → eqb (plus b) 1 ≡ eqb b 0x2B
 plus-is b = split (eqb b 0x2B) (λ plus. rw plus refl) (λ other. rw other refl)
 
 pub step-sound : (r : Receiver) (b : ℕ) → sound r ≡ true → sound (stepped r b .next) ≡ true
-unfolding stepped
+unfolding stepped afterByte byteEvent literalTaken
 step-sound r b bounds =
     split (eqb (plus b) (r .waiting))
     (λ e. rw e (literal-sound (withWaiting 0 r) (waiting-sound r bounds 0 refl) b))
@@ -197,11 +203,11 @@ literal-number r l =
     (λ d s e. rw (literal-outside r l d s e) refl)
 
 step-number : (r : Receiver) (b : ℕ) → numberOf (stepped r b .event) ≡ numbers.taken
-unfolding stepped
+unfolding stepped afterByte byteEvent literalTaken
 step-number r b =
     split (eqb (plus b) (r .waiting))
     (λ e. rw e (literal-number (withWaiting 0 r) b))
-    (λ e. split (eqb (plus b) 1) (λ t. rw (e, t) refl) (λ f. rw (e, f) refl))
+    (λ e. rw e refl)
 
 pub taken-number : (r : Receiver) (b : ℕ) → numberOf (taken r b .event) ≡ cond (sound r) numbers.taken numbers.stateRefused
 taken-number r b =

@@ -95,23 +95,23 @@ literalEvent r l =
     (cond (ltb (r .have) 64) (Keep (r .have) l) Nothing)
     (cond (eqb (r .phase) sumNext) (Whole (r .command) (r .length) (added (r .sum) l)) Nothing)
 
-unfoldable pub literalTaken : Receiver → ℕ → Taken
-literalTaken r l = record { next = afterLiteral r l; event = literalEvent r l }
-
-abbrev pub nothing : Receiver → Taken
-nothing r = record { next = r; event = Nothing }
-
 abbrev pub withWaiting : ℕ → Receiver → Receiver
 withWaiting w r =
     record { waiting = w; phase = r .phase; command = r .command; length = r .length; have = r .have; sum = r .sum }
 
 -- "0x2B followed by 0x2B is one literal 0x2B. 0x2B followed by another byte is a start, and that other byte is a
 -- literal. A last 0x2B without a follower waits. All other bytes are literals."
-unfoldable pub stepped : Receiver → ℕ → Taken
-stepped r b =
+unfoldable pub afterByte : Receiver → ℕ → Receiver
+afterByte r b =
     cond (eqb (plus b) (r .waiting))
-    (literalTaken (withWaiting 0 r) b)
-    (cond (eqb (plus b) 1) (nothing (withWaiting 1 r)) (nothing (opened b)))
+    (afterLiteral (withWaiting 0 r) b)
+    (cond (eqb (plus b) 1) (withWaiting 1 r) (opened b))
+
+unfoldable pub byteEvent : Receiver → ℕ → Event
+byteEvent r b = cond (eqb (plus b) (r .waiting)) (literalEvent r b) Nothing
+
+unfoldable pub stepped : Receiver → ℕ → Taken
+stepped r b = record { next = afterByte r b; event = byteEvent r b }
 
 -- "Calls refuse .., consume no byte, and hand the state back unchanged"
 unfoldable pub taken : Receiver → ℕ → Taken

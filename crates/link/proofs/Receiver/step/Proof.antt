@@ -1,48 +1,21 @@
-use mathlib.Core.Path.{sym, _∙_}
-use borrow.Author.Tests.{eq-eqb, ne-eqb}
-use Rattle.link.specs.Step.{stepped, literalTaken}
+use Rattle.link.specs.Step.{stepped}
 use borrow.Author.Needs.{needs}
 use Rattle.link.proofs.Receiver.step.Statement.{statement}
 use Rattle.link.proofs.Receiver.step.Tie as tie
 use Rattle.link.proofs.Receiver.step.Reads as reads
 use Rattle.link.proofs.Receiver.step.Lts as lts
-use Rattle.link.proofs.Receiver.after_literal.Reads as after-literal-reads
-use Rattle.link.proofs.Receiver.literal_event.Reads as literal-event-reads
-use Rattle.link.proofs.Receiver.open.Reads as open-reads
-use Rattle.link.proofs.step.plus_of.Reads as plus-of-reads
+use Rattle.link.proofs.Receiver.after_byte.Reads as after-byte-reads
+use Rattle.link.proofs.Receiver.byte_event.Reads as byte-event-reads
 
-plus-of-requires : tie.Need-plus-of-requires
-plus-of-requires c κs = search needs
+after-byte-requires : tie.Need-after-byte-requires
+after-byte-requires c κs = search needs
 
-after-literal-requires : tie.Need-after-literal-requires
-after-literal-requires c κs = search needs
-
-literal-event-requires : tie.Need-literal-event-requires
-literal-event-requires c κs = search needs
+byte-event-requires : tie.Need-byte-event-requires
+byte-event-requires c κs = search needs
 
 returns : tie.Need-returns
-unfolding stepped literalTaken
-returns c = simp (c .before .after-literal .ensures, c .literal-event .ensures, eq-eqb _ _ (sym (c .before .before .before .before .plus-of .ensures) ∙ c .before .before .if1 .taken))
-
-returns-2 : tie.Need-returns-2
-unfolding stepped literalTaken
-returns-2 c = simp (ne-eqb _ _ (λ e. c .before .if1 .left (c .before .before .before .plus-of .ensures ∙ e)), eq-eqb _ _ (sym (c .before .before .before .plus-of .ensures) ∙ c .if2 .taken))
-
-open-requires : tie.Need-open-requires
-open-requires c κs = search needs
-
-returns-3 : tie.Need-returns-3
-unfolding stepped literalTaken
-returns-3 c = simp (c .«open» .ensures, ne-eqb _ _ (λ e. c .before .before .if1 .left (c .before .before .before .before .plus-of .ensures ∙ e)), ne-eqb _ _ (λ e. c .before .if2 .left (c .before .before .before .before .plus-of .ensures ∙ e)))
+unfolding stepped
+returns c = simp (c .before .after-byte .ensures, c .byte-event .ensures)
 
 pub step-spec : {M : Type 1} → statement M
-step-spec =
-    tie.close
-    (tie.spec
-    plus-of-requires
-    after-literal-requires
-    literal-event-requires
-    returns
-    returns-2
-    open-requires
-    returns-3)
+step-spec = tie.close (tie.spec after-byte-requires byte-event-requires returns)
