@@ -79,20 +79,32 @@ pairs : (s : Beside) (b : ℕ) → within s → waits (onByte s b) ≡ waitsBehi
 pairs s b ok =
     split (waits s)
     (λ w. split (eqb b 0x2B)
-    (λ two. rw (literal-step (s .receiver) (ok .0) b (w ∙ sym two), literal-waiting (withWaiting 0 (s .receiver)) b, w, two) refl)
+    (λ two. rw (
+      literal-step (s .receiver) (ok .0) b (w ∙ sym two),
+      literal-waiting (withWaiting 0 (s .receiver)) b,
+      w,
+      two,
+    ) refl)
     (λ other. rw (start-step (s .receiver) (ok .0) b w other, other) refl))
     (λ w. split (eqb b 0x2B)
     (λ two. rw (eqb-true b 0x2B two, first-step (s .receiver) (ok .0) w, w) refl)
-    (λ other. rw (literal-step (s .receiver) (ok .0) b (w ∙ sym other), literal-waiting (withWaiting 0 (s .receiver)) b, other) refl))
+    (λ other. rw (
+      literal-step (s .receiver) (ok .0) b (w ∙ sym other),
+      literal-waiting (withWaiting 0 (s .receiver)) b,
+      other,
+    ) refl))
 
 first : (s : Beside) (ls : List ℕ) → within s → waits s ≡ false →
     (reportedAt s 0x2B ≡ []) × (owed (onByte s 0x2B) ls ≡ owed s ls)
-first s ls ok none = (rw (first-step (s .receiver) (ok .0) none) refl, rw (first-step (s .receiver) (ok .0) none) refl)
+first s ls ok none =
+    (rw (first-step (s .receiver) (ok .0) none) refl, rw (first-step (s .receiver) (ok .0) none) refl)
 
 opens : (s : Beside) (b : ℕ) (ls : List ℕ) → within s → waits s ≡ true → eqb b 0x2B ≡ false →
     (reportedAt s b ≡ []) × (owed (onByte s b) ls ≡ whole (b ∷ ls))
-opens s b ls ok w other =
-    (rw (start-step (s .receiver) (ok .0) b w other) refl, rw (start-step (s .receiver) (ok .0) b w other) (owes-opened b (s .body) ls (ok .1)))
+opens s b ls ok w other = (
+  rw (start-step (s .receiver) (ok .0) b w other) refl,
+  rw (start-step (s .receiver) (ok .0) b w other) (owes-opened b (s .body) ls (ok .1)),
+)
 
 takes : (s : Beside) (b : ℕ) (ls : List ℕ) → within s → waits s ≡ eqb b 0x2B →
     owed s (b ∷ ls) ≡ reportedAt s b ++ owed (onByte s b) ls

@@ -1,13 +1,10 @@
+-- Only a literal has an event.
 use mathlib.Core.Path.{sym, _∙_}
 use borrow.Author.Tests.{eq-eqb, ne-eqb}
 use Rattle.link.specs.Step.{byteEvent}
 use borrow.Author.Needs.{needs}
 use Rattle.link.proofs.Receiver.byte_event.Statement.{statement}
 use Rattle.link.proofs.Receiver.byte_event.Tie as tie
-use Rattle.link.proofs.Receiver.byte_event.Reads as reads
-use Rattle.link.proofs.Receiver.byte_event.Lts as lts
-use Rattle.link.proofs.Receiver.literal_event.Reads as literal-event-reads
-use Rattle.link.proofs.step.plus_of.Reads as plus-of-reads
 
 plus-of-requires : tie.Need-plus-of-requires
 plus-of-requires c κs = search needs
@@ -17,7 +14,11 @@ literal-event-requires c κs = search needs
 
 returns : tie.Need-returns
 unfolding byteEvent
-returns c = simp (c .literal-event .ensures, eq-eqb _ _ (sym (c .before .before .before .plus-of .ensures) ∙ c .before .if1 .taken))
+returns c =
+    simp (
+      c .literal-event .ensures,
+      eq-eqb _ _ (sym (c .before .before .before .plus-of .ensures) ∙ c .before .if1 .taken),
+    )
 
 returns-2 : tie.Need-returns-2
 unfolding byteEvent

@@ -1,9 +1,7 @@
+-- The sum byte is added and the message is over.
 use borrow.Author.Needs.{needs}
 use Rattle.link.proofs.Receiver.close.Statement.{statement}
 use Rattle.link.proofs.Receiver.close.Tie as tie
-use Rattle.link.proofs.Receiver.close.Reads as reads
-use Rattle.link.proofs.Receiver.close.Lts as lts
-use Rattle.line.proofs.sum.added.Reads as added-reads
 
 added-requires : tie.Need-added-requires
 added-requires c κs = search needs

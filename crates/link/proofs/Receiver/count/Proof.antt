@@ -1,11 +1,7 @@
+-- A data byte is added and counted.
 use borrow.Author.Needs.{needs}
 use Rattle.link.proofs.Receiver.count.Statement.{statement}
 use Rattle.link.proofs.Receiver.count.Tie as tie
-use Rattle.link.proofs.Receiver.count.Reads as reads
-use Rattle.link.proofs.Receiver.count.Lts as lts
-use Rattle.line.proofs.sum.added.Reads as added-reads
-use Rattle.link.proofs.step.more.Reads as more-reads
-use Rattle.link.proofs.step.next_phase.Reads as next-phase-reads
 
 added-requires : tie.Need-added-requires
 added-requires c κs = search needs

@@ -1,11 +1,8 @@
+-- The next state and the event, each by its own contract.
 use Rattle.link.specs.Step.{stepped}
 use borrow.Author.Needs.{needs}
 use Rattle.link.proofs.Receiver.step.Statement.{statement}
 use Rattle.link.proofs.Receiver.step.Tie as tie
-use Rattle.link.proofs.Receiver.step.Reads as reads
-use Rattle.link.proofs.Receiver.step.Lts as lts
-use Rattle.link.proofs.Receiver.after_byte.Reads as after-byte-reads
-use Rattle.link.proofs.Receiver.byte_event.Reads as byte-event-reads
 
 after-byte-requires : tie.Need-after-byte-requires
 after-byte-requires c κs = search needs
