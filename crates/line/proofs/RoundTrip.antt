@@ -20,7 +20,8 @@ module _ (m : Message) (formed : wellFormed m ≡ true) where
   pub message-back : (front : List ℕ) (b : ℕ) → onWire m ≡ front ++ (b ∷ []) → finishedBy front b ≡ m ∷ []
   message-back = message-last m formed [] reset
 
-  pub message-quiet : (front : List ℕ) (b d : ℕ) (rest : List ℕ) → onWire m ≡ front ++ (b ∷ d ∷ rest) → finishedBy front b ≡ []
+  pub message-quiet : (front : List ℕ) (b d : ℕ) (rest : List ℕ) → onWire m ≡ front ++ (b ∷ d ∷ rest) →
+      finishedBy front b ≡ []
   message-quiet = message-before m formed [] reset
 
 -- ---- answers
@@ -44,10 +45,13 @@ module _ (a : Answer) (expected : ℕ) (other : eqb (a .status) 0x2B ≡ false) 
         short = counted-short (reading (a .status)) _ (a .body) (sumByteOf (a .status ∷ a .body)) fits;
       }
 
-  pub answer-back : (front : List ℕ) (b : ℕ) → answerOnWire a ≡ front ++ (b ∷ []) → answerFinishedBy expected front b ≡ readBack a ∷ []
+  pub answer-back : (front : List ℕ) (b : ℕ) → answerOnWire a ≡ front ++ (b ∷ []) →
+      answerFinishedBy expected front b ≡ readBack a ∷ []
   unfolding answerOnWire
   answer-back front b e = answer-finished-found expected front b ∙ found-last answer-frame [] reset front b e
 
-  pub answer-quiet : (front : List ℕ) (b d : ℕ) (rest : List ℕ) → answerOnWire a ≡ front ++ (b ∷ d ∷ rest) → answerFinishedBy expected front b ≡ []
+  pub answer-quiet : (front : List ℕ) (b d : ℕ) (rest : List ℕ) → answerOnWire a ≡ front ++ (b ∷ d ∷ rest) →
+      answerFinishedBy expected front b ≡ []
   unfolding answerOnWire
-  answer-quiet front b d rest e = answer-finished-found expected front b ∙ found-before answer-frame [] reset front b d rest e
+  answer-quiet front b d rest e =
+      answer-finished-found expected front b ∙ found-before answer-frame [] reset front b d rest e
