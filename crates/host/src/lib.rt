@@ -1,1 +1,5 @@
 // The other end of the cable: a writer of command messages and a reader of answers.
+mod command;
+mod measure;
+
+pub use command::write_command;

@@ -1,0 +1,2 @@
+-- What follows from the definitions of the other end.
+pub mod Commands

@@ -1,0 +1,2 @@
+-- What the calls of the other end promise, with the definitions of the document.
+pub mod CommandWritten
