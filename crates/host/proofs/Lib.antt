@@ -1,2 +1,3 @@
 -- What follows from the definitions of the other end.
 pub mod Commands
+pub mod Bounds
