@@ -1,3 +1,4 @@
 -- What follows from the definitions of the other end.
 pub mod Commands
 pub mod Bounds
+pub mod Reading

@@ -2,3 +2,4 @@
 pub mod CommandWritten
 pub mod Reader
 pub mod Promises
+pub mod Calls

@@ -1,6 +1,6 @@
 -- The answer reader, a byte at a time: the bounds of its state, and what a byte makes of it.
 use mathlib.Core.Bool.{Bool, true, cond, _&&_}
-use mathlib.Core.List.{List}
+use mathlib.Core.List.{List, foldl}
 use Prim.Native.Nat.{ℕ, _+_, _%_}
 use lib.Dec.{eqb, ltb, leb}
 use lib.ListN.{set, take, replicate}
@@ -115,3 +115,7 @@ stepped r b =
     cond (eqb b 0x2B)
     (cond (eqb (r .waiting) 1) (literal r 0x2B) (silent (turned r 1 (r .phase))))
     (cond (eqb (r .waiting) 1) (silent (opened r b)) (literal r b))
+
+-- the reader after the bytes since a reading of n data began
+unfoldable pub readerAfter : ℕ → List ℕ → AnswerReader
+readerAfter n bs = foldl (λ (r : AnswerReader) (b : ℕ). stepped r b .next) (fresh n) bs
