@@ -2,3 +2,5 @@
 pub mod Commands
 pub mod Bounds
 pub mod Reading
+pub mod Calls
+pub mod RoundTrip

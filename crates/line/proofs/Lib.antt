@@ -11,3 +11,4 @@ pub mod RoundTrip
 pub mod Stuffed
 pub mod Writing
 pub mod Statuses
+pub mod Left
