@@ -98,18 +98,10 @@ impl AnswerReader {
         let within = self.is_sound();
         let short = out.len() < DATA_ROOM;
         if !within {
-            return Read {
-                refusal: STATE_REFUSED,
-                next: self,
-                event: Event::Nothing,
-            };
+            return step::without_answer(self, STATE_REFUSED);
         }
         if short {
-            return Read {
-                refusal: ROOM_REFUSED,
-                next: self,
-                event: Event::Nothing,
-            };
+            return step::without_answer(self, ROOM_REFUSED);
         }
         step::take(self, byte, out)
     }

@@ -65,11 +65,12 @@ fn copy(bytes: &[u8], out: &mut [u8])
     }
 }
 
-fn silent(reader: AnswerReader) -> Read
-    ensures { λ r. ⌜ r ≡ record { refusal = 0; next = reader; event = Event.Nothing } ⌝ }
+// What a call gives that brings no answer: the number with which it refuses, or that it took its byte.
+pub fn without_answer(reader: AnswerReader, refusal: u8) -> Read
+    ensures { λ r. ⌜ r ≡ record { refusal = refusal; next = reader; event = Event.Nothing } ⌝ }
 {
     Read {
-        refusal: TAKEN,
+        refusal: refusal,
         next: reader,
         event: Event::Nothing,
     }
@@ -108,24 +109,21 @@ fn finish(mut reader: AnswerReader, byte: u8, out: &mut [u8]) -> Read
 {
     reader.waiting = 0;
     reader.phase = IDLE;
-    if added(reader.sum, byte) != 0 {
+    let right = added(reader.sum, byte) == 0;
+    if right {
+        let body = reader.body;
+        let n = reader.have as usize;
+        copy(&body[..n], out);
         return Read {
-            refusal: SUM_REFUSED,
+            refusal: TAKEN,
             next: reader,
-            event: Event::Nothing,
+            event: Event::Answer {
+                status: reader.status,
+                length: reader.have,
+            },
         };
     }
-    let body = reader.body;
-    let n = reader.have as usize;
-    copy(&body[..n], out);
-    Read {
-        refusal: TAKEN,
-        next: reader,
-        event: Event::Answer {
-            status: reader.status,
-            length: reader.have,
-        },
-    }
+    without_answer(reader, SUM_REFUSED)
 }
 
 fn take_literal(mut reader: AnswerReader, byte: u8, out: &mut [u8]) -> Read
@@ -134,13 +132,13 @@ fn take_literal(mut reader: AnswerReader, byte: u8, out: &mut [u8]) -> Read
 {
     let phase = reader.phase;
     if phase == DATA {
-        return silent(store(reader, byte));
+        return without_answer(store(reader, byte), TAKEN);
     }
     if phase == SUM {
         return finish(reader, byte, out);
     }
     reader.waiting = 0;
-    silent(reader)
+    without_answer(reader, TAKEN)
 }
 
 pub fn take(mut reader: AnswerReader, byte: u8, out: &mut [u8]) -> Read
@@ -153,10 +151,10 @@ pub fn take(mut reader: AnswerReader, byte: u8, out: &mut [u8]) -> Read
             return take_literal(reader, PLUS, out);
         }
         reader.waiting = 1;
-        return silent(reader);
+        return without_answer(reader, TAKEN);
     }
     if waits {
-        return silent(open_answer(reader, byte));
+        return without_answer(open_answer(reader, byte), TAKEN);
     }
     take_literal(reader, byte, out)
 }

@@ -11,7 +11,7 @@ use Rattle.host.proofs.step.take.Tie as tie
 use Rattle.host.proofs.step.take.Reads as reads
 use Rattle.host.proofs.step.take.Lts as lts
 use Rattle.host.proofs.step.open_answer.Reads as open-answer-reads
-use Rattle.host.proofs.step.silent.Reads as silent-reads
+use Rattle.host.proofs.step.without_answer.Reads as without-answer-reads
 use Rattle.host.proofs.step.take_literal.Reads as take-literal-reads
 
 take-literal-requires : tie.Need-take-literal-requires
@@ -26,28 +26,28 @@ returns c =
     let a = w .before .before .before .before .args in
     rw (stepped-doubled (a .reader) (a .byte) (eq-eqb _ _ (w .before .if1 .taken)) (w .if2 .taken)) (c .before .before .take-literal .ensures)
 
-silent-requires : tie.Need-silent-requires
-silent-requires c κs = search needs
+without-answer-requires : tie.Need-without-answer-requires
+without-answer-requires c κs = search needs
 
 returns-2 : tie.Need-returns-2
 returns-2 c =
     let w = c .before in
     let a = w .before .before .before .before .args in
     rw (stepped-first (a .reader) (a .byte) (eq-eqb _ _ (w .before .if1 .taken)) (w .if2 .left))
-    (record { result = c .silent .ensures; buffer = refl })
+    (record { result = c .without-answer .ensures; buffer = refl })
 
 open-answer-requires : tie.Need-open-answer-requires
 open-answer-requires c κs = search needs
 
-silent-requires-2 : tie.Need-silent-requires-2
-silent-requires-2 c κs = search needs
+without-answer-requires-2 : tie.Need-without-answer-requires-2
+without-answer-requires-2 c κs = search needs
 
 returns-3 : tie.Need-returns-3
 returns-3 c =
     let w = c .before .before in
     let a = w .before .before .before .before .args in
     rw (stepped-start (a .reader) (a .byte) (ne-eqb _ _ (w .before .if1 .left)) (w .if3 .taken))
-    (record { result = c .silent2 .ensures ∙ ap (λ (q : AnswerReader). gives (silent q)) (c .before .open-answer .ensures); buffer = refl })
+    (record { result = c .without-answer2 .ensures ∙ ap (λ (q : AnswerReader). gives (silent q)) (c .before .open-answer .ensures); buffer = refl })
 
 take-literal-requires-2 : tie.Need-take-literal-requires-2
 take-literal-requires-2 c κs = search needs
@@ -68,10 +68,10 @@ take-spec =
     take-literal-requires
     same-length
     returns
-    silent-requires
+    without-answer-requires
     returns-2
     open-answer-requires
-    silent-requires-2
+    without-answer-requires-2
     returns-3
     take-literal-requires-2
     same-length-2

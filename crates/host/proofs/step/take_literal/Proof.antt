@@ -10,20 +10,20 @@ use Rattle.host.proofs.step.take_literal.Tie as tie
 use Rattle.host.proofs.step.take_literal.Reads as reads
 use Rattle.host.proofs.step.take_literal.Lts as lts
 use Rattle.host.proofs.step.finish.Reads as finish-reads
-use Rattle.host.proofs.step.silent.Reads as silent-reads
+use Rattle.host.proofs.step.without_answer.Reads as without-answer-reads
 use Rattle.host.proofs.step.store.Reads as store-reads
 
 store-requires : tie.Need-store-requires
 store-requires c κs = data-room _ (c .before .before .pre .0) (c .if1 .taken)
 
-silent-requires : tie.Need-silent-requires
-silent-requires c κs = search needs
+without-answer-requires : tie.Need-without-answer-requires
+without-answer-requires c κs = search needs
 
 returns : tie.Need-returns
 returns c =
     let a = c .before .before .before .before .args in
     rw (literal-data (a .reader) (a .byte) (c .before .before .if1 .taken))
-    (record { result = c .silent .ensures ∙ ap (λ (q : AnswerReader). gives (silent q)) (c .before .store .ensures); buffer = refl })
+    (record { result = c .without-answer .ensures ∙ ap (λ (q : AnswerReader). gives (silent q)) (c .before .store .ensures); buffer = refl })
 
 finish-requires : tie.Need-finish-requires
 finish-requires c κs =
@@ -38,24 +38,24 @@ returns-2 c =
     let a = s .before .before .before .args in
     rw (literal-sum (a .reader) (a .byte) (s .if2 .taken)) (c .before .before .finish .ensures)
 
-silent-requires-2 : tie.Need-silent-requires-2
-silent-requires-2 c κs = search needs
+without-answer-requires-2 : tie.Need-without-answer-requires-2
+without-answer-requires-2 c κs = search needs
 
 returns-3 : tie.Need-returns-3
 returns-3 c =
     let a = c .before .before .before .before .args in
     rw (literal-idle (a .reader) (a .byte) (c .before .before .if1 .left) (c .before .if2 .left))
-    (record { result = c .silent2 .ensures; buffer = refl })
+    (record { result = c .without-answer2 .ensures; buffer = refl })
 
 pub take-literal-spec : {M : Type 1} → statement M
 take-literal-spec =
     tie.close
     (tie.spec
     store-requires
-    silent-requires
+    without-answer-requires
     returns
     finish-requires
     same-length
     returns-2
-    silent-requires-2
+    without-answer-requires-2
     returns-3)

@@ -9,25 +9,32 @@ use Rattle.host.proofs.reader.AnswerReader.read.Tie as tie
 use Rattle.host.proofs.reader.AnswerReader.read.Reads as reads
 use Rattle.host.proofs.reader.AnswerReader.read.Lts as lts
 use Rattle.host.proofs.reader.AnswerReader.is_sound.Reads as is-sound-reads
+use Rattle.host.proofs.step.without_answer.Reads as without-answer-reads
 use Rattle.host.proofs.step.take.Reads as take-reads
 
 is-sound-requires : tie.Need-is-sound-requires
 is-sound-requires c κs = search needs
 
+without-answer-requires : tie.Need-without-answer-requires
+without-answer-requires c κs = search needs
+
 returns : tie.Need-returns
-unfolding readResult bufferLeft
+unfolding readResult bufferLeft readRoomRefusal
 returns c =
     record {
-      result = rw (← c .before .is-sound .ensures, c .if1 .taken);
-      buffer = rw (← c .before .is-sound .ensures, c .if1 .taken);
+      result = simp (← c .before .before .is-sound .ensures, c .before .if1 .taken) (c .without-answer .ensures);
+      buffer = simp (← c .before .before .is-sound .ensures, c .before .if1 .taken);
     }
+
+without-answer-requires-2 : tie.Need-without-answer-requires-2
+without-answer-requires-2 c κs = search needs
 
 returns-2 : tie.Need-returns-2
 unfolding readResult bufferLeft readRoomRefusal
 returns-2 c =
     record {
-      result = rw (← c .before .before .is-sound .ensures, c .before .if1 .left, c .if2 .taken);
-      buffer = rw (← c .before .before .is-sound .ensures, c .before .if1 .left, c .if2 .taken);
+      result = simp (← c .before .before .before .is-sound .ensures, c .before .before .if1 .left, c .before .if2 .taken) (c .without-answer2 .ensures);
+      buffer = simp (← c .before .before .before .is-sound .ensures, c .before .before .if1 .left, c .before .if2 .taken);
     }
 
 take-requires : tie.Need-take-requires
@@ -50,4 +57,4 @@ returns-3 c =
 
 pub read-spec : {M : Type 1} → statement M
 read-spec =
-    tie.close (tie.spec is-sound-requires returns returns-2 take-requires same-length returns-3)
+    tie.close (tie.spec is-sound-requires without-answer-requires returns without-answer-requires-2 returns-2 take-requires same-length returns-3)
