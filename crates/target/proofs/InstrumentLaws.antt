@@ -27,7 +27,7 @@ abbrev pub alone : ℕ → Answer
 alone s = record { status = s; body = [] }
 
 -- where the outcome answers `done` alone, the answer is the list's status alone
-unless-alone : (g : Gate) (refusals : List Refusal) (o : Outcome) → o .answer ≡ alone done → unless g refusals o .answer ≡ alone (firstOf refusals)
+pub unless-alone : (g : Gate) (refusals : List Refusal) (o : Outcome) → o .answer ≡ alone done → unless g refusals o .answer ≡ alone (firstOf refusals)
 unless-alone g refusals o silent =
     split (eqb (firstOf refusals) done)
     (λ none. rw none (silent ∙ ap alone (sym (eqb-true (firstOf refusals) done none))))

@@ -12,4 +12,5 @@ pub mod Words
 pub mod InstrumentLaws
 pub mod ScopeReads
 pub mod AnswerLaws
+pub mod OperateLaws
 pub mod Happened

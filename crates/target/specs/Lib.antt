@@ -7,3 +7,4 @@ pub mod Told
 pub mod Wrote
 pub mod State
 pub mod Answers
+pub mod Next

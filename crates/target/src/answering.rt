@@ -13,7 +13,6 @@ use crate::describing::describe;
 use crate::describing::describe_briefly;
 use crate::instruments::query_buffer;
 use crate::instruments::read_scope;
-use crate::numbers;
 use crate::operation::DESCRIBE;
 use crate::operation::DESCRIBE_BRIEFLY;
 use crate::operation::Operation;
@@ -67,5 +66,5 @@ pub fn answer(
     if number == DESCRIBE_BRIEFLY {
         return describe_briefly(out);
     }
-    say(numbers::NOT_SERVED, out)
+    say(codes::NOT_SERVED, out)
 }

@@ -15,7 +15,7 @@ ghost use Rattle.target.specs.Operations.{readingScope, queryingBuffer};
 ghost use Rattle.target.specs.Told.{Told};
 use crate::answer::say;
 use crate::answer::tell;
-use crate::numbers::DONE;
+use codes::DONE;
 use recorder::Recorder;
 use scope::Scope;
 

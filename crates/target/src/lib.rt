@@ -4,7 +4,7 @@ mod answering;
 mod describing;
 mod fields;
 mod instruments;
-mod numbers;
+mod operating;
 mod operation;
 mod reading;
 mod writing;
