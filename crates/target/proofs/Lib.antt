@@ -13,4 +13,5 @@ pub mod InstrumentLaws
 pub mod ScopeReads
 pub mod AnswerLaws
 pub mod OperateLaws
+pub mod RespondLaws
 pub mod Happened

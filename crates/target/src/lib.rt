@@ -7,4 +7,5 @@ mod instruments;
 mod operating;
 mod operation;
 mod reading;
+mod responding;
 mod writing;

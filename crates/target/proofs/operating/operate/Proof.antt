@@ -92,10 +92,13 @@ returns-4 c =
     (λ i. record { scope = c .before .before .before .before .before .before .before .before .before .before .before .before .before .args .instruments .scope; recorder = c .before .before .before .before .before .stop .ensures .next i }))
 
 answer-requires : tie.Need-answer-requires
-answer-requires c κs =
-    (c .before .before .before .before .before .before .before .before .before .pre .0, c .before .before .before .before .before .before .before .before .before .pre .1, c .before .before .before .before .before .before .before .before .before .pre .2,
-    leaves-rest (c .before .before .before .before .before .before .before .before .before .args .operation .number) (c .before .before .before .before .before .if1 .left) (c .before .before .before .before .if2 .left) (c .before .before .before .if3 .left) (c .before .before .if4 .left)
-    (omega (arith, operation-below (c .before .before .before .before .before .before .before .before .before .args .operation .command) (c .before .before .before .before .before .before .before .before .before .pre .0 .looked .byte), c .before .before .before .before .before .before .before .before .before .pre .0 .looked .number)))
+answer-requires c κs = (
+  c .before .before .before .before .before .before .before .before .before .pre .0,
+  c .before .before .before .before .before .before .before .before .before .pre .1,
+  c .before .before .before .before .before .before .before .before .before .pre .2,
+  leaves-rest (c .before .before .before .before .before .before .before .before .before .args .operation .number) (c .before .before .before .before .before .if1 .left) (c .before .before .before .before .if2 .left) (c .before .before .before .if3 .left) (c .before .before .if4 .left)
+      (omega (arith, operation-below (c .before .before .before .before .before .before .before .before .before .args .operation .command) (c .before .before .before .before .before .before .before .before .before .pre .0 .looked .byte), c .before .before .before .before .before .before .before .before .before .pre .0 .looked .number)),
+)
 
 same-length-5 : tie.Need-same-length-5
 same-length-5 c = search needs
