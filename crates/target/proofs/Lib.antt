@@ -14,4 +14,5 @@ pub mod ScopeReads
 pub mod AnswerLaws
 pub mod OperateLaws
 pub mod RespondLaws
+pub mod TargetBounds
 pub mod Happened

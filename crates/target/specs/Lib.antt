@@ -8,3 +8,4 @@ pub mod Wrote
 pub mod State
 pub mod Answers
 pub mod Next
+pub mod Bounds

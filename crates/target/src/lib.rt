@@ -8,4 +8,8 @@ mod operating;
 mod operation;
 mod reading;
 mod responding;
+mod state;
 mod writing;
+
+pub use answering::Instruments;
+pub use state::Target;

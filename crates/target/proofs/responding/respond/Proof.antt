@@ -51,13 +51,16 @@ slice-aggregate-operate c =
     sym (length-take-le (c .before .wide .result) (c .before .before .before .before .before .before .before .before .before .before .args .body .now) (omega arith))
 
 operate-requires : tie.Need-operate-requires
-operate-requires c κs =
-    (record {
-      looked = c .before .before .before .before .look-up .ensures .1;
-      formed =
+operate-requires c κs = (
+  record {
+    looked = c .before .before .before .before .look-up .ensures .1;
+    formed =
         (λ i. lengthFits (c .before .before .before .before .look-up .ensures .0 i) ((length-take-le (c .before .before .before .wide .result) (c .before .before .before .before .before .before .before .before .before .before .before .before .args .body .now) (omega arith) ∙ c .before .before .before .wide .ensures) i)) ∙ c .before .before .before .before .before .before .before .before .before .before .before .before .pre .0;
-      whole = c .before .before .before .before .before .before .before .before .before .before .before .before .pre .2;
-    }, c .before .before .before .before .before .before .before .before .before .before .before .before .pre .3, c .before .before .before .before .before .before .before .before .before .before .before .before .pre .4)
+    whole = c .before .before .before .before .before .before .before .before .before .before .before .before .pre .2;
+  },
+  c .before .before .before .before .before .before .before .before .before .before .before .before .pre .3,
+  c .before .before .before .before .before .before .before .before .before .before .before .before .pre .4,
+)
 
 same-length-3 : tie.Need-same-length-3
 same-length-3 c = search needs
