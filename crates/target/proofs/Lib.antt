@@ -15,4 +15,5 @@ pub mod AnswerLaws
 pub mod OperateLaws
 pub mod RespondLaws
 pub mod TargetBounds
+pub mod CallLaws
 pub mod Happened

@@ -9,3 +9,4 @@ pub mod State
 pub mod Answers
 pub mod Next
 pub mod Bounds
+pub mod Calls

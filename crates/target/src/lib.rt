@@ -1,6 +1,7 @@
 // The target: what comes over the port, refused or carried out.
 mod answer;
 mod answering;
+mod byte;
 mod describing;
 mod fields;
 mod instruments;
@@ -9,7 +10,10 @@ mod operation;
 mod reading;
 mod responding;
 mod state;
+mod tick;
 mod writing;
 
 pub use answering::Instruments;
+pub use byte::Taken;
 pub use state::Target;
+pub use tick::Ticked;
