@@ -48,7 +48,7 @@ take-set-requires c κs =
     let f = d .before .before in
     let s = f .before .before .before in
     let b = parts (s .args .self) (s .args .memory .now) (s .pre .0) (f .if1 .left) in
-    (b .plan, run-bounds (s .args .self .plan) (s .args .self .run) (b .run) .place, s .pre .1)
+    (b .plan, omega (arith, run-bounds (s .args .self .plan) (s .args .self .run) (b .run) .place), s .pre .1)
 
 after-set-requires : tie.Need-after-set-requires
 after-set-requires c κs =
