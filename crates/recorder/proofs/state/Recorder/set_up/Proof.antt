@@ -1,8 +1,7 @@
 -- What runs is busy; else the refusals of the plan that was read are those of the data part.
 use mathlib.Core.Path.{_≡_, sym, ap, _∙_}
-use Prim.Native.Nat.{ℕ, _+_, _-_, _≤_}
-use lib.ListN.{length, take, drop, length-drop}
-use lib.Seq.{take-all}
+use Prim.Native.Nat.{ℕ, _+_, _≤_}
+use lib.ListN.{length}
 use Rattle.document.specs.Plan.{headWidth, variablesPart, recordedIn, planIn}
 use Rattle.variables.specs.Parts.{kept, partRead}
 use Rattle.variables.specs.declared.parts.Part.{Part}
@@ -15,13 +14,6 @@ use native.Mathlib.Omega.{arith}
 use borrow.Author.Needs.{needs}
 use Rattle.recorder.proofs.state.Recorder.set_up.Statement.{statement}
 use Rattle.recorder.proofs.state.Recorder.set_up.Tie as tie
-use Rattle.recorder.proofs.state.Recorder.set_up.Reads as reads
-use Rattle.recorder.proofs.state.Recorder.set_up.Lts as lts
-use Rattle.recorder.proofs.setup.address_width.Reads as address-width-reads
-use Rattle.recorder.proofs.setup.read_plan.Reads as read-plan-reads
-use Rattle.recorder.proofs.setup.status_of.Reads as status-of-reads
-use Rattle.recorder.proofs.state.Recorder.is_running.Reads as is-running-reads
-use Rattle.variables.proofs.read_variables.Reads as read-variables-reads
 
 abbrev start : tie.After-read-variables → tie.Start
 start p = p .before .before .before .before .before .before .before

@@ -1,14 +1,11 @@
 -- The flags decide the status, and the status the state.
-use mathlib.Core.Path.{_≡_, refl}
+use mathlib.Core.Path.{refl}
 use Rattle.recorder.specs.Calls.{startStatus}
 use Rattle.recorder.proofs.Readings.{at-absent, at-running, at-stopped}
 use Rattle.recorder.proofs.Settled.{start-settled}
-use native.Mathlib.Omega.{arith}
 use borrow.Author.Needs.{needs}
 use Rattle.recorder.proofs.state.Recorder.start.Statement.{statement}
 use Rattle.recorder.proofs.state.Recorder.start.Tie as tie
-use Rattle.recorder.proofs.state.Recorder.start.Reads as reads
-use Rattle.recorder.proofs.state.Recorder.start.Lts as lts
 
 returns : tie.Need-returns
 returns c =

@@ -5,11 +5,6 @@ use native.Mathlib.Omega.{arith}
 use borrow.Author.Needs.{needs}
 use Rattle.recorder.proofs.state.Recorder.tick_within.Statement.{statement}
 use Rattle.recorder.proofs.state.Recorder.tick_within.Tie as tie
-use Rattle.recorder.proofs.state.Recorder.tick_within.Reads as reads
-use Rattle.recorder.proofs.state.Recorder.tick_within.Lts as lts
-use Rattle.recorder.proofs.state.Plan.take_set.Reads as take-set-reads
-use Rattle.recorder.proofs.state.Plan.trigger_value.Reads as trigger-value-reads
-use Rattle.recorder.proofs.state.Run.after_set.Reads as after-set-reads
 
 returns : tie.Need-returns
 returns c =
