@@ -2,3 +2,4 @@
 pub mod Bounds
 pub mod Accepted
 pub mod Given
+pub mod Outcomes

@@ -3,8 +3,8 @@ use native.Mathlib.Omega.{arith}
 use lib.ListN.{length}
 use borrow.Author.Needs.{needs}
 use Rattle.memory.proofs.Answers.{let-through, written-done, written-refused}
-use Rattle.memory.proofs.stores.write_masked.Statement.{statement}
-use Rattle.memory.proofs.stores.write_masked.Tie as tie
+use Rattle.memory.proofs.masked.write_masked.Statement.{statement}
+use Rattle.memory.proofs.masked.write_masked.Tie as tie
 
 refusal-requires : tie.Need-refusal-requires
 refusal-requires c κs = search needs

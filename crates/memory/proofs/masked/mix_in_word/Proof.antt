@@ -4,8 +4,8 @@ use native.Mathlib.Omega.{arith}
 use lib.ListN.{length-set}
 use borrow.Author.Needs.{needs}
 use Rattle.memory.proofs.Copies.{mask-stored-word}
-use Rattle.memory.proofs.stores.mix_in_word.Statement.{statement}
-use Rattle.memory.proofs.stores.mix_in_word.Tie as tie
+use Rattle.memory.proofs.masked.mix_in_word.Statement.{statement}
+use Rattle.memory.proofs.masked.mix_in_word.Tie as tie
 
 add-next : tie.Need-add-next
 add-next c = search needs

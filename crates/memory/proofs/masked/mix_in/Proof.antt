@@ -7,8 +7,8 @@ use lib.ListN.{length, drop}
 use borrow.Author.Needs.{needs}
 use Rattle.document.specs.Stores.{maskStored}
 use Rattle.memory.proofs.Copies.{mask-stored-next, mask-stored-ended}
-use Rattle.memory.proofs.stores.mix_in.Statement.{statement}
-use Rattle.memory.proofs.stores.mix_in.Tie as tie
+use Rattle.memory.proofs.masked.mix_in.Statement.{statement}
+use Rattle.memory.proofs.masked.mix_in.Tie as tie
 
 abbrev Inv-loop : tie.InvT-loop
 Inv-loop memory₀ at values masks n i₀ memory i =
