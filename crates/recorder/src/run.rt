@@ -91,7 +91,7 @@ impl Run {
         self.counting(self.value - 1)
     }
 
-    // A set is taken, at which the trigger variable held `value`.
+    // A set is taken, at which the trigger variable held `value`. The tick, which calls this, has a state within its bounds.
     pub fn after_set(mut self, plan: Plan, value: u32) -> Run
         requires { ⌜ (planSound plan ≡ true) × (runSound plan self ≡ true) × (self .running ≡ 1) × (value < 2 ^ (8 * plan .size)) ⌝ }
         ensures { λ r. ⌜ ((memory : List ℕ) → value ≡ triggerValue (triggerOf plan) memory → r ≡ runKept (setTaken (planOf plan) (runOf self) memory)) ⌝ }

@@ -54,7 +54,7 @@ impl Run {
     }
 }
 
-// `ready` is 0 until a setup is accepted; then nothing else is looked at.
+// `ready` is 0 until a setup is accepted, and while it is 0 nothing else is looked at.
 #[repr(C)]
 pub struct Recorder {
     pub ready: u8,
