@@ -4,18 +4,17 @@ use mathlib.Core.Bool.{Bool, true, false, cond}
 use mathlib.Core.List.{List}
 use Prim.Native.Nat.{ℕ, _≤_}
 use native.Mathlib.Omega.{arith}
-use lib.Dec.{eqb, ltb}
+use lib.Dec.{ltb}
 use lib.ListN.{length}
 use borrow.Author.Tests.{ltb-true, ltb-false, eq-eqb, ne-eqb}
 use Rattle.document.specs.Numbers.{done, layoutWrong, busy}
 use Rattle.document.specs.Plan.{Plan, headWidth, planIn, recordedIn}
 use Rattle.document.specs.Run.{started}
-use Rattle.document.specs.Recorder.{Recorder, isRunning, recorderSetUp}
+use Rattle.document.specs.Recorder.{isRunning, recorderSetUp}
 use Rattle.document.specs.Recorder.Recorder.{absent, planned}
 use Rattle.variables.specs.Parts.{kept}
 use Rattle.recorder.specs.declared.state.Recorder.{Recorder as RecorderState}
-use Rattle.recorder.specs.declared.setup.SetUp.{SetUp}
-use Rattle.recorder.specs.State.{planOf, planKept, runKept, recorderOf, noRecorder}
+use Rattle.recorder.specs.State.{planKept, recorderOf, noRecorder}
 use Rattle.recorder.specs.Bounds.{planSound, sound}
 use Rattle.recorder.specs.Setup.{bodyStatus, setUpStatus, setUpState, setUpNext, SetUpSettled}
 use Rattle.recorder.proofs.Cases.{split}

@@ -1,14 +1,13 @@
 -- The counts of a run never leave what the plan's fields hold, however long it runs.
-use mathlib.Core.Path.{_≡_, refl, sym, ap, _∙_}
-use mathlib.Core.Bool.{Bool, true, false}
+use mathlib.Core.Path.{refl}
 use mathlib.Core.List.{List, [], _∷_}
-use Prim.Native.Nat.{ℕ, _+_, _-_, _<_, _≤_}
+use Prim.Native.Nat.{ℕ, _+_, _<_, _≤_}
 use native.Mathlib.Omega.{arith}
 use lib.Dec.{eqb}
 use borrow.Author.Tests.{eqb-false}
 use Rattle.document.specs.Plan.{Plan}
 use Rattle.document.specs.Trigger.{triggerValue, fires}
-use Rattle.document.specs.Run.{Watch, Run, started, stopped, placeAfter, watched, goesOn, setTaken, waited, ranTick}
+use Rattle.document.specs.Run.{Watch, Run, started, stopped, placeAfter, watched, ranTick}
 use Rattle.document.specs.Run.Watch.{unprimed, previous, triggered}
 use Rattle.recorder.specs.History.{PlanFits, CountsFit, setsLeft, Event, Recording, begun, stepped, after}
 use Rattle.recorder.specs.History.Event.{tick, others, stop}

@@ -1,6 +1,6 @@
 -- A run by computation: two places, divider 1, rising through 5, one further set. The plan fits, so the theorems speak of it.
 use mathlib.Core.Path.{_≡_, refl}
-use mathlib.Core.Bool.{Bool, true, false}
+use mathlib.Core.Bool.{false}
 use mathlib.Core.List.{List, [], _∷_}
 use Prim.Native.Nat.{ℕ}
 use native.Mathlib.Omega.{arith}
@@ -10,7 +10,7 @@ use Rattle.document.specs.Trigger.{fires}
 use Rattle.document.specs.Run.{startIndex, ranTick, memoryAfterTick}
 use Rattle.document.specs.Sets.{setsTaken, readRound}
 use Rattle.recorder.specs.History.{PlanFits, Event, begun, after, memoriesLeft}
-use Rattle.recorder.specs.History.Event.{tick, others, stop}
+use Rattle.recorder.specs.History.Event.{tick, others}
 
 abbrev plan : Plan
 plan =

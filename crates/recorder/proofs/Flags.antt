@@ -1,6 +1,6 @@
 -- Flags, watches and runs: kept in the struct and read back, they are what they were.
 use mathlib.Core.Path.{_≡_, refl}
-use mathlib.Core.Bool.{Bool, true, false, cond, _||_}
+use mathlib.Core.Bool.{Bool, true, false, _||_}
 use Prim.Native.Nat.{ℕ, zero, suc, _≤_}
 use native.Mathlib.Omega.{arith}
 use Rattle.document.specs.Run.{Watch, Run}

@@ -1,21 +1,20 @@
 -- What the bounds of a state give, fact by fact; so a sound state has a plan that fits and counts that fit.
-use mathlib.Core.Path.{_≡_, refl, sym, ap, _∙_}
-use mathlib.Core.Bool.{Bool, true, false, cond, not, _&&_, _||_}
-use mathlib.Core.List.{List, [], _∷_}
-use Prim.Native.Nat.{ℕ, zero, suc, _+_, _*_, _^_, _<_, _≤_}
+use mathlib.Core.Path.{_≡_, sym}
+use mathlib.Core.Bool.{Bool, true, false, not, _&&_, _||_}
+use mathlib.Core.List.{[], _∷_}
+use Prim.Native.Nat.{ℕ, _*_, _^_, _<_, _≤_}
 use native.Mathlib.Omega.{arith}
 use lib.Dec.{eqb, ltb, leb}
-use borrow.Author.Tests.{eqb-true, eqb-false, ltb-true, ltb-false, leb-true, not-true, eq-eqb, ne-eqb}
+use borrow.Author.Tests.{eqb-true, eqb-false, ltb-true, ltb-false, leb-true, not-true, ne-eqb}
 use Rattle.document.specs.Numbers.{isIn}
 use Rattle.document.specs.Areas.{mayBeRecorded}
 use Rattle.document.specs.Variables.{countWrong, anySizeZero, allMay, setSize}
-use Rattle.document.specs.Run.{goesOn}
 use Rattle.variables.specs.State.{variablesOf}
 use Rattle.recorder.specs.declared.state.Plan.{Plan as PlanState}
 use Rattle.recorder.specs.declared.state.Run.{Run as RunState}
-use Rattle.recorder.specs.State.{isSet, planOf, watchOf, runOf}
-use Rattle.recorder.specs.Bounds.{fits, sizeSound, triggerSound, variablesSound, planSound, watchSound, runSound}
-use Rattle.recorder.specs.History.{PlanFits, CountsFit, setsLeft}
+use Rattle.recorder.specs.State.{planOf}
+use Rattle.recorder.specs.Bounds.{fits, sizeSound, triggerSound, planSound, watchSound, runSound}
+use Rattle.recorder.specs.History.{PlanFits}
 use Rattle.recorder.proofs.Cases.{split, neither, both}
 use Rattle.recorder.proofs.Accepted.{none-of}
 

@@ -16,7 +16,7 @@ use Rattle.document.specs.Variables.{setSize}
 use Rattle.document.specs.Plan.{Plan}
 use Rattle.document.specs.Run.{Run, placeBegins, placeAfter, fullAfter, setOf, ranTick, memoryAfterTick}
 use Rattle.document.specs.Sets.{readRound, lastOf}
-use Rattle.recorder.specs.History.{PlanFits, Event, Recording, begun, stepped, after, takenAt, taken, LeavesBuffer, AllLeaveBuffer}
+use Rattle.recorder.specs.History.{PlanFits, Event, Recording, stepped, after, takenAt, taken, LeavesBuffer, AllLeaveBuffer}
 use Rattle.recorder.specs.History.Event.{tick, others, stop}
 use Rattle.recorder.proofs.Cases.{split}
 use Rattle.recorder.proofs.Bytes.{bytes-stored}

@@ -3,7 +3,7 @@
 use mathlib.Core.Path.{_≡_, ap, _∙_}
 use mathlib.Core.Bool.{true}
 use mathlib.Core.List.{List, []}
-use Prim.Native.Nat.{ℕ, min, _+_, _*_, _%_}
+use Prim.Native.Nat.{ℕ, min, _%_}
 use lib.ListN.{length}
 use Rattle.document.specs.Areas.{memoryEnd}
 use Rattle.document.specs.Stores.{stored}

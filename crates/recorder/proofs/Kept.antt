@@ -1,11 +1,11 @@
 -- A sound run read from the struct and kept again is the same numbers.
-use mathlib.Core.Path.{_≡_, refl, sym, ap, _∙_}
+use mathlib.Core.Path.{_≡_, refl, _∙_}
 use mathlib.Core.Bool.{Bool, true, false}
 use Prim.Native.Nat.{ℕ, zero, suc, _-_, _≤_}
 use native.Mathlib.Omega.{arith}
 use lib.Dec.{eqb}
 use borrow.Author.Tests.{eqb-true, eqb-false}
-use Rattle.document.specs.Run.{Watch, waited, stopped}
+use Rattle.document.specs.Run.{waited, stopped}
 use Rattle.recorder.specs.declared.state.Plan.{Plan as PlanState}
 use Rattle.recorder.specs.declared.state.Run.{Run as RunState}
 use Rattle.recorder.specs.State.{isSet, flagOf, watchOf, watchNumber, watchValue, runOf, runKept}

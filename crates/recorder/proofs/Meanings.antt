@@ -1,20 +1,20 @@
 -- The state that a call hands back means what the document's recorder becomes.
-use mathlib.Core.Path.{_≡_, refl, sym, ap, _∙_}
-use mathlib.Core.Bool.{Bool, true, false, cond}
+use mathlib.Core.Path.{_≡_, sym, ap, _∙_}
+use mathlib.Core.Bool.{Bool, cond}
 use mathlib.Core.List.{List}
 use Prim.Native.Nat.{ℕ}
 use lib.Dec.{eqb}
-use borrow.Author.Tests.{eqb-true, eqb-false, eq-eqb, ne-eqb}
+use borrow.Author.Tests.{eqb-true, eqb-false, ne-eqb}
 use Rattle.document.specs.Numbers.{done}
 use Rattle.document.specs.Run.{Run, started, stopped, ranTick}
 use Rattle.document.specs.Recorder.{Recorder, recorderStarted, recorderHalted, ticked}
 use Rattle.document.specs.Recorder.Recorder.{absent, planned}
 use Rattle.recorder.specs.declared.state.Recorder.{Recorder as RecorderState}
-use Rattle.recorder.specs.State.{isSet, planOf, runOf, runKept, recorderOf, withRun}
+use Rattle.recorder.specs.State.{planOf, runOf, runKept, recorderOf, withRun}
 use Rattle.recorder.specs.Calls.{startStatus, startedState, stopStatus, haltedRun, haltedState, tickedState}
 use Rattle.recorder.proofs.Cases.{split}
 use Rattle.recorder.proofs.Flags.{run-read}
-use Rattle.recorder.proofs.Readings.{at-absent, at-planned, at-running, at-stopped, flagged}
+use Rattle.recorder.proofs.Readings.{at-absent, at-planned, at-running, at-stopped}
 
 module _ (r : RecorderState) where
   -- by what the flags say

@@ -1,6 +1,5 @@
 -- "Set k since the start goes to place k modulo 'samples'": places counted round, and the bytes that each has.
-use mathlib.Core.Path.{_≡_, sym, _∙_}
-use mathlib.Core.Bool.{Bool, true, false}
+use mathlib.Core.Path.{_≡_, sym}
 use mathlib.Core.List.{List}
 use Prim.Native.Nat.{ℕ, zero, suc, _+_, _*_, _/_, _%_, _<_, _≤_}
 use native.Mathlib.Nat.{suc-mod, mod-self, mod-lt, mod-eq-of-lt, zero-mod, div-add-mod', mul-le-mul-right, suc-mul}

@@ -1,16 +1,15 @@
 -- The fields of a setup's data part, as the plan is read from it.
-use mathlib.Core.Path.{_≡_, refl, sym, ap, _∙_}
-use mathlib.Core.Bool.{Bool, true, false, cond, not}
+use mathlib.Core.Path.{_≡_, sym, ap, _∙_}
+use mathlib.Core.Bool.{Bool, cond, not}
 use mathlib.Core.List.{List}
-use Prim.Native.Nat.{ℕ, _+_, _*_, _^_, _<_, _≤_}
+use Prim.Native.Nat.{ℕ, _<_, _≤_}
 use native.Mathlib.Omega.{arith}
-use lib.Dec.{eqb}
-use lib.ListN.{length, take, drop, length-take}
+use lib.ListN.{take, drop, length-take}
 use lib.Seq.{take-take, take-all}
 use borrow.Author.Tests.{eq-eqb, ne-eqb}
 use Rattle.document.specs.Areas.{bytesAt}
 use Rattle.document.specs.Values.{number}
-use Rattle.document.specs.Plan.{Trigger, Plan, modeField, triggerAddressField, triggerSizeField, signField, thresholdField, noTrigger, triggerIn, planIn}
+use Rattle.document.specs.Plan.{Trigger, Plan, modeField, triggerAddressField, triggerSizeField, signField, thresholdField, noTrigger, triggerIn}
 use Rattle.variables.specs.declared.Variables.{Variables}
 use Rattle.recorder.specs.declared.state.Plan.{Plan as PlanState}
 use Rattle.recorder.specs.State.{planKept}

@@ -1,8 +1,6 @@
 -- What a question about a recorder comes to, by the flags of its struct.
 use mathlib.Core.Path.{_≡_, refl, ap, _∙_}
 use mathlib.Core.Bool.{Bool, true, false, cond}
-use Prim.Native.Nat.{ℕ}
-use lib.Dec.{eqb}
 use borrow.Author.Tests.{eq-eqb, ne-eqb}
 use Rattle.document.specs.Run.{Run}
 use Rattle.document.specs.Recorder.{Recorder}

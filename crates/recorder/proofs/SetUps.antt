@@ -1,18 +1,18 @@
 -- A setup: the refusals of the plan that was read are those of its data part, and an accepted plan is sound.
 use mathlib.Core.Path.{_≡_, refl, sym, ap, _∙_}
-use mathlib.Core.Bool.{Bool, true, false, cond, not, _&&_, _||_}
+use mathlib.Core.Bool.{Bool, true, false, not, _&&_, _||_}
 use mathlib.Core.List.{List, [], _∷_}
 use Prim.Native.Nat.{ℕ, _+_, _-_, _*_, _^_, _<_, _≤_}
 use native.Mathlib.Omega.{arith}
-use lib.Dec.{eqb, ltb, leb}
+use lib.Dec.{eqb, ltb}
 use lib.ListN.{length, take, drop, length-drop}
 use lib.Seq.{take-all}
-use borrow.Author.Tests.{eqb-true, eqb-false, ltb-true, ltb-false, eq-eqb, ne-eqb, lt-ltb, le-leb, not-true, not-false}
-use Rattle.document.specs.Numbers.{isIn, done, layoutWrong, sizeWrong, rangeWrong}
+use borrow.Author.Tests.{eqb-true, eqb-false, ltb-true, ltb-false, eq-eqb, ne-eqb, lt-ltb, le-leb, not-false}
+use Rattle.document.specs.Numbers.{isIn, done, layoutWrong}
 use Rattle.document.specs.Areas.{mayBeRecorded}
 use Rattle.document.specs.declared.Variable.{Variable}
 use Rattle.document.specs.Variables.{countIn, lengthGiven, countWrong, anySizeZero, allMay, setSize}
-use Rattle.document.specs.Plan.{Trigger, Plan, modeField, samplesField, headWidth, variablesPart, recordedIn, looksAtTrigger, noTrigger, triggerIn, planIn, recorderLayoutWrong, recorderSizeWrong, recorderRangeWrong}
+use Rattle.document.specs.Plan.{Trigger, modeField, samplesField, headWidth, variablesPart, recordedIn, looksAtTrigger, triggerIn, planIn, recorderLayoutWrong, recorderSizeWrong, recorderRangeWrong}
 use Rattle.variables.specs.declared.Variables.{Variables}
 use Rattle.variables.specs.State.{variablesOf}
 use Rattle.variables.specs.Parts.{kept, isWhole, partRead}
@@ -20,7 +20,7 @@ use Rattle.variables.specs.declared.parts.Part.{Part}
 use Rattle.variables.proofs.Read.{definitions-length, read-kept, kept-all}
 use Rattle.recorder.specs.declared.state.Plan.{Plan as PlanState}
 use Rattle.recorder.specs.State.{planOf, planKept}
-use Rattle.recorder.specs.Bounds.{fits, sizeSound, triggerSound, variablesSound, planSound}
+use Rattle.recorder.specs.Bounds.{sizeSound, triggerSound, planSound}
 use Rattle.recorder.specs.Setup.{planLayoutWrong, planSizeWrong, planRangeWrong, firstWrong, planStatus, bodyStatus}
 use Rattle.recorder.proofs.Cases.{split, neither}
 use Rattle.recorder.proofs.Accepted.{none-of}

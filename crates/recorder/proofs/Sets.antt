@@ -2,22 +2,22 @@
 -- each tick takes the first of it.
 use mathlib.Core.Path.{_≡_, refl, sym, ap, _∙_}
 use mathlib.Core.Bool.{Bool, true, false, cond}
-use mathlib.Core.List.{List, [], _∷_, _++_, map}
-use Prim.Native.Nat.{ℕ, zero, suc, _+_, _-_, _*_, _<_, _≤_}
+use mathlib.Core.List.{List, [], _∷_, map}
+use Prim.Native.Nat.{ℕ, suc, _-_, _<_}
 use native.Mathlib.Omega.{arith}
 use lib.Dec.{ltb}
-use lib.ListN.{length, take, drop}
+use lib.ListN.{take}
 use lib.Seq.{take-nil}
 use borrow.Author.Tests.{ltb-true, ltb-false}
 use Rattle.document.specs.Areas.{calibrationEnd}
 use Rattle.document.specs.Plan.{Plan}
 use Rattle.document.specs.Trigger.{triggerValue, fires}
-use Rattle.document.specs.Run.{Watch, Run, started, stopped, placeBegins, setOf, watched, goesOn, setTaken, waited, ranTick, memoryAfterTick}
+use Rattle.document.specs.Run.{Watch, Run, placeBegins, setOf, watched, goesOn, setTaken, memoryAfterTick}
 use Rattle.document.specs.Run.Watch.{unprimed, previous, triggered}
 use Rattle.document.specs.Sets.{every, untilStop, fromFirst, setsTaken}
-use Rattle.recorder.specs.History.{PlanFits, CountsFit, Event, Recording, begun, stepped, takenAt, taken, memoriesLeft, memoriesFound}
+use Rattle.recorder.specs.History.{PlanFits, CountsFit, Event, Recording, begun, stepped, taken, memoriesLeft, memoriesFound}
 use Rattle.recorder.specs.History.Event.{tick, others, stop}
-use Rattle.recorder.proofs.Cases.{split, neither}
+use Rattle.recorder.proofs.Cases.{split}
 use Rattle.recorder.proofs.Bytes.{take-sets}
 use Rattle.recorder.proofs.Sources.{set-agrees, value-agrees}
 use Rattle.recorder.proofs.Counts.{started-fits, tick-fits}

@@ -6,7 +6,7 @@ use Prim.Native.Nat.{ℕ, _-_, _*_, _^_, _<_}
 use native.Mathlib.Omega.{arith}
 use lib.Dec.{eqb}
 use lib.ListN.{length}
-use borrow.Author.Tests.{eqb-true, eq-eqb, ne-eqb}
+use borrow.Author.Tests.{eq-eqb, ne-eqb}
 use Rattle.document.specs.Areas.{memoryEnd}
 use Rattle.document.specs.Stores.{stored}
 use Rattle.document.specs.Numbers.{stateRefused, memoryRefused, taken}
@@ -16,7 +16,6 @@ use Rattle.document.specs.Recorder.{Recorder, tickedMemory}
 use Rattle.document.specs.Calls.{tickRefusal}
 use Rattle.recorder.specs.declared.state.Run.{Run as RunState}
 use Rattle.recorder.specs.declared.state.Recorder.{Recorder as RecorderState}
-use Rattle.recorder.specs.declared.tick.Ticked.{Ticked}
 use Rattle.recorder.specs.State.{isSet, triggerOf, planOf, runOf, runKept, recorderOf, withRun}
 use Rattle.recorder.specs.Bounds.{sound}
 use Rattle.recorder.specs.Calls.{tickedState, TickTaken, TickSettled}

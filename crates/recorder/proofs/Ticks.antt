@@ -2,7 +2,7 @@
 use mathlib.Core.Path.{_≡_, refl, ap, _∙_}
 use mathlib.Core.Bool.{Bool, true, false, cond}
 use mathlib.Core.List.{List, [], _∷_}
-use Prim.Native.Nat.{ℕ, _+_, _*_, _<_, _≤_}
+use Prim.Native.Nat.{ℕ, _+_, _<_, _≤_}
 use native.Mathlib.Omega.{arith}
 use lib.Dec.{eqb}
 use lib.ListN.{length, take, drop}
@@ -11,7 +11,7 @@ use borrow.Author.Tests.{eq-eqb, ne-eqb, eqb-true, eqb-false}
 use Rattle.document.specs.Variables.{setSize}
 use Rattle.document.specs.Plan.{Plan}
 use Rattle.document.specs.Run.{Run, placeBegins, setOf, setTaken, waited, ranTick, memoryAfterTick}
-use Rattle.recorder.specs.History.{PlanFits, Recording, takenAt}
+use Rattle.recorder.specs.History.{PlanFits, takenAt}
 use Rattle.recorder.specs.History.Event.{tick}
 use Rattle.recorder.proofs.Cases.{split}
 use Rattle.recorder.proofs.Bytes.{take-sets, drop-sets}

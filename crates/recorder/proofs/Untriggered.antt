@@ -1,19 +1,17 @@
 -- A recorder that no stop reaches runs until its trigger comes, and stops by itself only after one; with mode 0 none comes.
 use mathlib.Core.Path.{_≡_, refl, sym, ap, _∙_}
-use mathlib.Core.Bool.{Bool, true, false}
-use mathlib.Core.List.{List, [], _∷_, _++_, append-assoc}
-use Prim.Native.Nat.{ℕ, suc, _+_, _*_, _<_, _≤_}
-use native.Mathlib.Omega.{arith}
-use lib.Dec.{eqb, ltb}
+use mathlib.Core.Bool.{true, false}
+use mathlib.Core.List.{List, [], _∷_}
+use Prim.Native.Nat.{ℕ, suc, _*_}
 use borrow.Author.Tests.{ltb-false}
 use Rattle.document.specs.Plan.{Plan}
 use Rattle.document.specs.Trigger.{triggerValue, fires}
-use Rattle.document.specs.Run.{Watch, Run, watched, goesOn, setTaken, waited, ranTick}
+use Rattle.document.specs.Run.{Watch, Run, watched, goesOn}
 use Rattle.document.specs.Run.Watch.{unprimed, previous, triggered}
 use Rattle.recorder.specs.History.{Event, Recording, begun, stepped, after, ticks, Unstopped, TriggersNext, StoppedByTrigger}
 use Rattle.recorder.specs.History.Event.{tick, others, stop}
 use Rattle.recorder.proofs.Cases.{split, neither}
-use Rattle.recorder.proofs.Ticks.{by-case, stopped-run, waits-run, takes-run}
+use Rattle.recorder.proofs.Ticks.{by-case, waits-run, takes-run}
 use Rattle.recorder.proofs.Stop.{hasTriggered, stops}
 
 -- no trigger has come, and it runs

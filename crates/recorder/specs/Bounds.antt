@@ -1,6 +1,6 @@
 -- The bounds of a recorder's numbers: a state outside them is refused, and none that is handed out ever is outside.
 use mathlib.Core.Bool.{Bool, true, cond, not, _&&_, _||_}
-use mathlib.Core.List.{List, [], _∷_}
+use mathlib.Core.List.{[], _∷_}
 use Prim.Native.Nat.{ℕ, _*_, _^_}
 use lib.Dec.{eqb, ltb, leb}
 use Rattle.document.specs.Numbers.{isIn}

@@ -1,6 +1,6 @@
 -- What a plan grants, what happens to a recorder since a start, and what it takes: the words of the theorems.
 use mathlib.Core.Path.{_≡_}
-use mathlib.Core.Bool.{Bool, true, false, cond, _&&_}
+use mathlib.Core.Bool.{true, cond, _&&_}
 use mathlib.Core.List.{List, [], _∷_, _++_}
 use Prim.Native.Nat.{ℕ, zero, suc, _*_, _<_, _≤_}
 use lib.ListN.{length, drop}

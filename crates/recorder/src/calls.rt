@@ -1,6 +1,5 @@
 // Reset, start, stop, status and buffer query. Any state may come: what is not set up, or runs, decides by its flags alone.
 ghost use mathlib.Core.Path.{_≡_};
-ghost use Rattle.document.specs.Recorder.{isRunning};
 ghost use Rattle.recorder.specs.State.{recorderOf, noRecorder};
 ghost use Rattle.recorder.specs.Calls.{StartSettled, StopSettled, statusStatus, QuerySettled};
 use crate::state::Plan;
@@ -58,15 +57,6 @@ impl Recorder {
         }
     }
 
-    pub fn is_running(self) -> bool
-        ensures { λ r. ⌜ r ≡ isRunning (recorderOf self) ⌝ }
-    {
-        if self.ready == 0 {
-            return false;
-        }
-        self.run.running == 1
-    }
-
     // Running it stays as it is; stopped it forgets the run before.
     pub fn start(mut self) -> Answered
         ensures { λ r. ⌜ StartSettled self r ⌝ }
@@ -83,8 +73,9 @@ impl Recorder {
                 next: self,
             };
         }
-        let run = Run::begin();
-        self.run = run;
+        let run = self.run;
+        let begun = run.restarted();
+        self.run = begun;
         Answered {
             status: DONE,
             next: self,
@@ -121,10 +112,9 @@ impl Recorder {
             return NOT_SET_UP;
         }
         if self.run.running == 1 {
-            RECORDER_RUNS
-        } else {
-            RECORDER_STOPPED
+            return RECORDER_RUNS;
         }
+        RECORDER_STOPPED
     }
 
     // The start index is 0 until 'samples' sets are taken, then the place that would be written next.

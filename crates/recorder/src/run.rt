@@ -1,11 +1,11 @@
-// What changes while a recorder runs: a start, a set with its place, its wait and its watch for the trigger.
+// What a set changes of a run: its place, its wait and its watch for the trigger.
 ghost use mathlib.Core.Path.{_≡_};
 ghost use mathlib.Core.Bool.{true};
 ghost use mathlib.Core.List.{List};
 ghost use Prim.Native.Nat.{ℕ, _+_, _*_, _^_, _≤_, _<_};
 ghost use lib.Dec.{ltb};
 ghost use Rattle.document.specs.Trigger.{fires, triggerValue};
-ghost use Rattle.document.specs.Run.{started, placeAfter, fullAfter, watched, setTaken};
+ghost use Rattle.document.specs.Run.{placeAfter, fullAfter, watched, setTaken};
 ghost use Rattle.recorder.specs.State.{isSet, flagOf, triggerOf, planOf, watchOf, watching, runOf, runKept};
 ghost use Rattle.recorder.specs.Bounds.{planSound, watchSound, runSound};
 use crate::state::PREVIOUS;
@@ -38,20 +38,6 @@ impl Plan {
 }
 
 impl Run {
-    // A start forgets everything of the run before.
-    pub fn begin() -> Run
-        ensures { λ r. ⌜ r ≡ runKept started ⌝ }
-    {
-        Run {
-            running: 1,
-            full: 0,
-            watch: UNPRIMED,
-            wait: 0,
-            place: 0,
-            value: 0,
-        }
-    }
-
     fn next_place(mut self, samples: u16) -> Run
         requires { ⌜ (self .place < samples) × (self .full ≤ 1) ⌝ }
         ensures { λ r. ⌜ r ≡ record { running = self .running; full = flagOf (fullAfter samples (self .place) (isSet (self .full))); watch = self .watch; wait = self .wait; place = placeAfter samples (self .place); value = self .value } ⌝ }
@@ -105,7 +91,7 @@ impl Run {
         self.counting(self.value - 1)
     }
 
-    // A set is taken, at which the trigger variable held `value`.
+    // A set is taken, at which the trigger variable held `value`. The tick, which calls this, has a state within its bounds.
     pub fn after_set(mut self, plan: Plan, value: u32) -> Run
         requires { ⌜ (planSound plan ≡ true) × (runSound plan self ≡ true) × (self .running ≡ 1) × (value < 2 ^ (8 * plan .size)) ⌝ }
         ensures { λ r. ⌜ ((memory : List ℕ) → value ≡ triggerValue (triggerOf plan) memory → r ≡ runKept (setTaken (planOf plan) (runOf self) memory)) ⌝ }

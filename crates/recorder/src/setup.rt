@@ -6,14 +6,14 @@ ghost use Rattle.document.specs.Areas.{bytesAt};
 ghost use Rattle.document.specs.Values.{number};
 ghost use Rattle.document.specs.Variables.{addressWidth};
 ghost use Rattle.document.specs.Plan.{headWidth, planIn};
-ghost use Rattle.recorder.specs.State.{planKept};
+ghost use Rattle.document.specs.Recorder.{isRunning};
+ghost use Rattle.recorder.specs.State.{recorderOf, planKept};
 ghost use Rattle.recorder.specs.Setup.{planLayoutWrong, planSizeWrong, planRangeWrong, planStatus, SetUpSettled};
 use crate::bounds::BUFFER_SIZE;
 use crate::bounds::MOST_VARIABLES;
 use crate::bounds::is_trigger_size;
 use crate::state::Plan;
 use crate::state::Recorder;
-use crate::state::Run;
 use crate::wide::wide_count;
 use crate::wide::wide_size;
 use memory::CALIBRATION_END;
@@ -161,6 +161,15 @@ fn status_of(whole: bool, count: u8, plan: Plan) -> u8
 }
 
 impl Recorder {
+    fn is_running(self) -> bool
+        ensures { λ r. ⌜ r ≡ isRunning (recorderOf self) ⌝ }
+    {
+        if self.ready == 0 {
+            return false;
+        }
+        self.run.running == 1
+    }
+
     // Any data part will do, and any state: refused, it comes back as it was; accepted, nothing of it is left.
     pub fn set_up(self, ex: bool, body: &[u8]) -> SetUp
         ensures { λ r. ⌜ SetUpSettled self ex (now (body .entry)) r ⌝ }
@@ -185,7 +194,8 @@ impl Recorder {
         if status != codes::DONE {
             return SetUp { status, next: self };
         }
-        let run = Run::begin();
+        let former = self.run;
+        let run = former.restarted();
         SetUp {
             status,
             next: Recorder {

@@ -1,4 +1,7 @@
 // What a recorder holds: numbers alone, so that every bit pattern is a value and one outside the bounds can be refused.
+ghost use mathlib.Core.Path.{_≡_};
+ghost use Rattle.document.specs.Run.{started};
+ghost use Rattle.recorder.specs.State.{runKept};
 
 // What a setup fixes.
 #[repr(C)]
@@ -36,7 +39,22 @@ pub struct Run {
     pub value: u32,
 }
 
-// `ready` is 0 until a setup is accepted; then nothing else is looked at.
+impl Run {
+    // A start sets every field, so that nothing of the run before is left.
+    pub fn restarted(mut self) -> Run
+        ensures { λ r. ⌜ r ≡ runKept started ⌝ }
+    {
+        self.running = 1;
+        self.full = 0;
+        self.watch = UNPRIMED;
+        self.wait = 0;
+        self.place = 0;
+        self.value = 0;
+        self
+    }
+}
+
+// `ready` is 0 until a setup is accepted, and while it is 0 nothing else is looked at.
 #[repr(C)]
 pub struct Recorder {
     pub ready: u8,

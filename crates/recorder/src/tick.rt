@@ -1,7 +1,7 @@
 // The gate's tick: a set every (time divider + 1)th, into its place of the ring.
 ghost use mathlib.Core.Path.{_≡_};
 ghost use mathlib.Core.Bool.{true};
-ghost use Prim.Native.Nat.{_*_, _^_, _<_, _≤_};
+ghost use Prim.Native.Nat.{_*_, _^_, _<_};
 ghost use lib.ListN.{length};
 ghost use Rattle.document.specs.Areas.{memoryEnd};
 ghost use Rattle.document.specs.Stores.{stored};

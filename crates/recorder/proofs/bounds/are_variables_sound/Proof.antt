@@ -1,16 +1,11 @@
 -- Test by test; a count that passes is at most 8, which the others lean on.
-use mathlib.Core.Path.{_≡_, sym, ap, _∙_}
+use mathlib.Core.Path.{sym, _∙_}
 use native.Mathlib.Nat.{mul-le-mul}
 use borrow.Author.Tests.{eq-eqb, ne-eqb, lt-ltb, le-ltb, not-true, not-false}
 use native.Mathlib.Omega.{arith}
 use borrow.Author.Needs.{needs}
 use Rattle.recorder.proofs.bounds.are_variables_sound.Statement.{statement}
 use Rattle.recorder.proofs.bounds.are_variables_sound.Tie as tie
-use Rattle.recorder.proofs.bounds.are_variables_sound.Reads as reads
-use Rattle.recorder.proofs.bounds.are_variables_sound.Lts as lts
-use Rattle.variables.proofs.all_within.Reads as all-within-reads
-use Rattle.variables.proofs.any_size_zero.Reads as any-size-zero-reads
-use Rattle.variables.proofs.set_size.Reads as set-size-reads
 
 returns : tie.Need-returns
 returns c = rw (eq-eqb (c .before .before .args .v .count) 0 (c .if1 .taken))

@@ -1,11 +1,7 @@
 -- The comparison is made at a width that holds both.
-use native.Mathlib.Omega.{arith}
 use borrow.Author.Needs.{needs}
 use Rattle.recorder.proofs.bounds.does_fit.Statement.{statement}
 use Rattle.recorder.proofs.bounds.does_fit.Tie as tie
-use Rattle.recorder.proofs.bounds.does_fit.Reads as reads
-use Rattle.recorder.proofs.bounds.does_fit.Lts as lts
-use Rattle.recorder.proofs.bounds.too_large.Reads as too-large-reads
 
 wide-number-requires : tie.Need-wide-number-requires
 wide-number-requires c κs = search needs

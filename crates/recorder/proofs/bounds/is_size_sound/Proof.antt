@@ -1,12 +1,8 @@
 -- Without a trigger no size, else one of three.
 use borrow.Author.Tests.{eq-eqb, ne-eqb}
-use native.Mathlib.Omega.{arith}
 use borrow.Author.Needs.{needs}
 use Rattle.recorder.proofs.bounds.is_size_sound.Statement.{statement}
 use Rattle.recorder.proofs.bounds.is_size_sound.Tie as tie
-use Rattle.recorder.proofs.bounds.is_size_sound.Reads as reads
-use Rattle.recorder.proofs.bounds.is_size_sound.Lts as lts
-use Rattle.recorder.proofs.bounds.is_trigger_size.Reads as is-trigger-size-reads
 
 returns : tie.Need-returns
 returns c = rw (eq-eqb (c .before .args .mode) 0 (c .if1 .taken))

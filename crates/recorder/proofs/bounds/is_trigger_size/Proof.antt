@@ -1,10 +1,7 @@
 -- The three sizes in turn.
 use borrow.Author.Tests.{eq-eqb, ne-eqb}
-use native.Mathlib.Omega.{arith}
 use Rattle.recorder.proofs.bounds.is_trigger_size.Statement.{statement}
 use Rattle.recorder.proofs.bounds.is_trigger_size.Tie as tie
-use Rattle.recorder.proofs.bounds.is_trigger_size.Reads as reads
-use Rattle.recorder.proofs.bounds.is_trigger_size.Lts as lts
 
 returns : tie.Need-returns
 returns c = rw (eq-eqb (c .before .args .size) 1 (c .if1 .taken))

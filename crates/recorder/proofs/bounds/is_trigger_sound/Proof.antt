@@ -1,16 +1,11 @@
 -- Test by test; a size that passes is at most 4, which the last one leans on.
-use mathlib.Core.Path.{_≡_, sym, ap, _∙_}
+use mathlib.Core.Path.{sym, _∙_}
 use borrow.Author.Tests.{le-leb, lt-leb, not-true, not-false}
 use Rattle.recorder.proofs.Granted.{size-bounds}
 use native.Mathlib.Omega.{arith}
 use borrow.Author.Needs.{needs}
 use Rattle.recorder.proofs.bounds.is_trigger_sound.Statement.{statement}
 use Rattle.recorder.proofs.bounds.is_trigger_sound.Tie as tie
-use Rattle.recorder.proofs.bounds.is_trigger_sound.Reads as reads
-use Rattle.recorder.proofs.bounds.is_trigger_sound.Lts as lts
-use Rattle.memory.proofs.may_be_recorded.Reads as may-be-recorded-reads
-use Rattle.recorder.proofs.bounds.does_fit.Reads as does-fit-reads
-use Rattle.recorder.proofs.bounds.is_size_sound.Reads as is-size-sound-reads
 
 returns : tie.Need-returns
 returns c = rw (lt-leb (c .before .args .mode) 2 (c .if1 .taken))

@@ -1,12 +1,8 @@
 -- By the watch, and within it test by test.
 use borrow.Author.Tests.{eq-eqb, ne-eqb, le-leb, lt-leb}
-use native.Mathlib.Omega.{arith}
 use borrow.Author.Needs.{needs}
 use Rattle.recorder.proofs.bounds.is_watch_sound.Statement.{statement}
 use Rattle.recorder.proofs.bounds.is_watch_sound.Tie as tie
-use Rattle.recorder.proofs.bounds.is_watch_sound.Reads as reads
-use Rattle.recorder.proofs.bounds.is_watch_sound.Lts as lts
-use Rattle.recorder.proofs.bounds.does_fit.Reads as does-fit-reads
 
 returns : tie.Need-returns
 returns c = rw (eq-eqb (c .before .args .watch) 0 (c .if1 .taken))

@@ -8,8 +8,6 @@ use native.Mathlib.Omega.{arith}
 use borrow.Author.Needs.{needs}
 use Rattle.recorder.proofs.bounds.too_large.Statement.{statement}
 use Rattle.recorder.proofs.bounds.too_large.Tie as tie
-use Rattle.recorder.proofs.bounds.too_large.Reads as reads
-use Rattle.recorder.proofs.bounds.too_large.Lts as lts
 
 mul-result : tie.Need-mul-result
 mul-result c = search needs

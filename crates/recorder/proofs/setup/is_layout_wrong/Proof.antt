@@ -1,11 +1,8 @@
 -- Length, mode, sign in turn.
 use borrow.Author.Tests.{lt-ltb, le-ltb, ne-eqb, not-false}
-use native.Mathlib.Omega.{arith}
 use borrow.Author.Needs.{needs}
 use Rattle.recorder.proofs.setup.is_layout_wrong.Statement.{statement}
 use Rattle.recorder.proofs.setup.is_layout_wrong.Tie as tie
-use Rattle.recorder.proofs.setup.is_layout_wrong.Reads as reads
-use Rattle.recorder.proofs.setup.is_layout_wrong.Lts as lts
 
 returns : tie.Need-returns
 returns c = search needs

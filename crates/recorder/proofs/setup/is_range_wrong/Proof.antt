@@ -1,16 +1,10 @@
 -- Variables, then the trigger where there is one.
-use mathlib.Core.Path.{_≡_, sym, ap, _∙_}
+use mathlib.Core.Path.{sym, ap, _∙_}
 use mathlib.Core.Bool.{not}
 use borrow.Author.Tests.{ne-eqb, not-true, not-false}
-use native.Mathlib.Omega.{arith}
 use borrow.Author.Needs.{needs}
 use Rattle.recorder.proofs.setup.is_range_wrong.Statement.{statement}
 use Rattle.recorder.proofs.setup.is_range_wrong.Tie as tie
-use Rattle.recorder.proofs.setup.is_range_wrong.Reads as reads
-use Rattle.recorder.proofs.setup.is_range_wrong.Lts as lts
-use Rattle.memory.proofs.may_be_recorded.Reads as may-be-recorded-reads
-use Rattle.recorder.proofs.wide.wide_size.Reads as wide-size-reads
-use Rattle.variables.proofs.all_within.Reads as all-within-reads
 
 all-within-requires : tie.Need-all-within-requires
 all-within-requires c κs = search needs

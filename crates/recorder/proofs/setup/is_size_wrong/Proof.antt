@@ -1,5 +1,5 @@
 -- In the order of the table's words.
-use mathlib.Core.Path.{_≡_, sym, ap, _∙_}
+use mathlib.Core.Path.{sym, ap, _∙_}
 use mathlib.Core.Bool.{not}
 use Prim.Native.Nat.{_*_}
 use native.Mathlib.Nat.{mul-le-mul}
@@ -8,12 +8,6 @@ use native.Mathlib.Omega.{arith}
 use borrow.Author.Needs.{needs}
 use Rattle.recorder.proofs.setup.is_size_wrong.Statement.{statement}
 use Rattle.recorder.proofs.setup.is_size_wrong.Tie as tie
-use Rattle.recorder.proofs.setup.is_size_wrong.Reads as reads
-use Rattle.recorder.proofs.setup.is_size_wrong.Lts as lts
-use Rattle.recorder.proofs.bounds.is_trigger_size.Reads as is-trigger-size-reads
-use Rattle.recorder.proofs.wide.wide_count.Reads as wide-count-reads
-use Rattle.variables.proofs.any_size_zero.Reads as any-size-zero-reads
-use Rattle.variables.proofs.set_size.Reads as set-size-reads
 
 any-size-zero-requires : tie.Need-any-size-zero-requires
 any-size-zero-requires c κs = search needs

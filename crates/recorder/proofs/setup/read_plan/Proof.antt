@@ -1,5 +1,5 @@
 -- Field by field; without a trigger its fields are 0.
-use mathlib.Core.Path.{_≡_, refl, ap, _∙_}
+use mathlib.Core.Path.{refl, ap, _∙_}
 use Prim.Native.Nat.{ℕ, _+_}
 use lib.ListN.{getD, take}
 use Rattle.document.specs.Areas.{bytesAt}
@@ -10,13 +10,6 @@ use native.Mathlib.Omega.{arith}
 use borrow.Author.Needs.{needs}
 use Rattle.recorder.proofs.setup.read_plan.Statement.{statement}
 use Rattle.recorder.proofs.setup.read_plan.Tie as tie
-use Rattle.recorder.proofs.setup.read_plan.Reads as reads
-use Rattle.recorder.proofs.setup.read_plan.Lts as lts
-use Rattle.memory.proofs.number_at.Reads as number-at-reads
-use Rattle.recorder.proofs.setup.address_width.Reads as address-width-reads
-use Rattle.recorder.proofs.setup.threshold_at.Reads as threshold-at-reads
-use Rattle.recorder.proofs.setup.word_at.Reads as word-at-reads
-use Rattle.recorder.proofs.wide.wide_size.Reads as wide-size-reads
 
 word-at-requires : tie.Need-word-at-requires
 word-at-requires c κs = search needs

@@ -1,14 +1,8 @@
 -- The lines of the table in turn.
-use mathlib.Core.Path.{_≡_, sym, ap, _∙_}
-use native.Mathlib.Omega.{arith}
+use mathlib.Core.Path.{sym, _∙_}
 use borrow.Author.Needs.{needs}
 use Rattle.recorder.proofs.setup.status_of.Statement.{statement}
 use Rattle.recorder.proofs.setup.status_of.Tie as tie
-use Rattle.recorder.proofs.setup.status_of.Reads as reads
-use Rattle.recorder.proofs.setup.status_of.Lts as lts
-use Rattle.recorder.proofs.setup.is_layout_wrong.Reads as is-layout-wrong-reads
-use Rattle.recorder.proofs.setup.is_range_wrong.Reads as is-range-wrong-reads
-use Rattle.recorder.proofs.setup.is_size_wrong.Reads as is-size-wrong-reads
 
 is-layout-wrong-requires : tie.Need-is-layout-wrong-requires
 is-layout-wrong-requires c κs = search needs

@@ -1,13 +1,10 @@
 -- Fewer than four bytes are the front of the four.
-use mathlib.Core.Path.{_≡_, sym, ap, _∙_}
+use mathlib.Core.Path.{_≡_, _∙_}
 use Rattle.recorder.proofs.Plans.{threshold-short, threshold-whole}
 use native.Mathlib.Omega.{arith}
 use borrow.Author.Needs.{needs}
 use Rattle.recorder.proofs.setup.threshold_at.Statement.{statement}
 use Rattle.recorder.proofs.setup.threshold_at.Tie as tie
-use Rattle.recorder.proofs.setup.threshold_at.Reads as reads
-use Rattle.recorder.proofs.setup.threshold_at.Lts as lts
-use Rattle.memory.proofs.number_at.Reads as number-at-reads
 
 number-at-requires : tie.Need-number-at-requires
 number-at-requires c κs = search needs

@@ -2,14 +2,9 @@
 use borrow.Author.Tests.{eq-eqb, ne-eqb}
 use Rattle.document.specs.Trigger.{fires}
 use Rattle.recorder.proofs.Edges.{edge-handed}
-use native.Mathlib.Omega.{arith}
 use borrow.Author.Needs.{needs}
 use Rattle.recorder.proofs.trigger.comes.Statement.{statement}
 use Rattle.recorder.proofs.trigger.comes.Tie as tie
-use Rattle.recorder.proofs.trigger.comes.Reads as reads
-use Rattle.recorder.proofs.trigger.comes.Lts as lts
-use Rattle.memory.proofs.signed_value.Reads as signed-value-reads
-use Rattle.recorder.proofs.trigger.crosses.Reads as crosses-reads
 
 signed-value-requires : tie.Need-signed-value-requires
 signed-value-requires c κs = search needs

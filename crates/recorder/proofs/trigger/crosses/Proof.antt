@@ -1,14 +1,9 @@
 -- The two comparisons, the second only where the first holds.
 use lib.Signed.{ltZ, leZ}
 use Rattle.recorder.proofs.Edges.{compared-handed, both-hold, first-fails}
-use native.Mathlib.Omega.{arith}
 use borrow.Author.Needs.{needs}
 use Rattle.recorder.proofs.trigger.crosses.Statement.{statement}
 use Rattle.recorder.proofs.trigger.crosses.Tie as tie
-use Rattle.recorder.proofs.trigger.crosses.Reads as reads
-use Rattle.recorder.proofs.trigger.crosses.Lts as lts
-use Rattle.recorder.proofs.trigger.at_most.Reads as at-most-reads
-use Rattle.recorder.proofs.trigger.below.Reads as below-reads
 
 below-requires : tie.Need-below-requires
 below-requires c κs = search needs

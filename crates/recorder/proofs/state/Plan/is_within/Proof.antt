@@ -1,15 +1,10 @@
 -- Samples, trigger, variables in turn.
-use mathlib.Core.Path.{_≡_, sym, ap, _∙_}
+use mathlib.Core.Path.{sym, _∙_}
 use borrow.Author.Tests.{eq-eqb, ne-eqb, not-true, not-false}
 use Rattle.recorder.specs.Bounds.{planSound}
-use native.Mathlib.Omega.{arith}
 use borrow.Author.Needs.{needs}
 use Rattle.recorder.proofs.state.Plan.is_within.Statement.{statement}
 use Rattle.recorder.proofs.state.Plan.is_within.Tie as tie
-use Rattle.recorder.proofs.state.Plan.is_within.Reads as reads
-use Rattle.recorder.proofs.state.Plan.is_within.Lts as lts
-use Rattle.recorder.proofs.bounds.are_variables_sound.Reads as are-variables-sound-reads
-use Rattle.recorder.proofs.bounds.is_trigger_sound.Reads as is-trigger-sound-reads
 
 returns : tie.Need-returns
 unfolding planSound

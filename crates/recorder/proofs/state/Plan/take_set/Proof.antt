@@ -12,10 +12,6 @@ use native.Mathlib.Omega.{arith}
 use borrow.Author.Needs.{needs}
 use Rattle.recorder.proofs.state.Plan.take_set.Statement.{statement}
 use Rattle.recorder.proofs.state.Plan.take_set.Tie as tie
-use Rattle.recorder.proofs.state.Plan.take_set.Reads as reads
-use Rattle.recorder.proofs.state.Plan.take_set.Lts as lts
-use Rattle.variables.proofs.copy_set.Reads as copy-set-reads
-use Rattle.variables.proofs.set_size.Reads as set-size-reads
 
 room : (s : tie.Start) (size place : ℕ) → size ≡ setSize (variablesOf (s .args .self .variables)) → place ≡ s .args .place
     → place * size + size ≤ 4096

@@ -1,5 +1,5 @@
 -- The trigger lies below the buffer, so within the memory.
-use mathlib.Core.Path.{_≡_, ap, _∙_}
+use mathlib.Core.Path.{ap, _∙_}
 use Prim.Native.Nat.{ℕ, _+_}
 use borrow.Author.Tests.{leb-true}
 use Rattle.document.specs.Areas.{bytesAt}
@@ -9,9 +9,6 @@ use native.Mathlib.Omega.{arith}
 use borrow.Author.Needs.{needs}
 use Rattle.recorder.proofs.state.Plan.trigger_value.Statement.{statement}
 use Rattle.recorder.proofs.state.Plan.trigger_value.Tie as tie
-use Rattle.recorder.proofs.state.Plan.trigger_value.Reads as reads
-use Rattle.recorder.proofs.state.Plan.trigger_value.Lts as lts
-use Rattle.memory.proofs.number_at.Reads as number-at-reads
 
 wide-address-requires : tie.Need-wide-address-requires
 wide-address-requires c κs = search needs

@@ -1,14 +1,10 @@
 -- Mode 0 fires never; else the comparison is that of the trigger's size.
-use mathlib.Core.Path.{_≡_, ap, _∙_}
+use mathlib.Core.Path.{ap, _∙_}
 use Prim.Native.Nat.{ℕ}
 use Rattle.document.specs.Trigger.{fires}
-use native.Mathlib.Omega.{arith}
 use borrow.Author.Needs.{needs}
 use Rattle.recorder.proofs.state.Plan.triggers.Statement.{statement}
 use Rattle.recorder.proofs.state.Plan.triggers.Tie as tie
-use Rattle.recorder.proofs.state.Plan.triggers.Reads as reads
-use Rattle.recorder.proofs.state.Plan.triggers.Lts as lts
-use Rattle.recorder.proofs.trigger.comes.Reads as comes-reads
 
 returns : tie.Need-returns
 unfolding fires

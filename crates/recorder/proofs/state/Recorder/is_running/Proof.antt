@@ -1,12 +1,9 @@
 -- Without a setup it does not run; else its flag says.
-use mathlib.Core.Path.{_≡_, sym}
+use mathlib.Core.Path.{sym}
 use Rattle.document.specs.Recorder.{isRunning}
 use Rattle.recorder.proofs.Readings.{at-absent, at-planned}
-use native.Mathlib.Omega.{arith}
 use Rattle.recorder.proofs.state.Recorder.is_running.Statement.{statement}
 use Rattle.recorder.proofs.state.Recorder.is_running.Tie as tie
-use Rattle.recorder.proofs.state.Recorder.is_running.Reads as reads
-use Rattle.recorder.proofs.state.Recorder.is_running.Lts as lts
 
 returns : tie.Need-returns
 returns c = sym (at-absent isRunning (c .before .before .args .self) (c .if1 .taken))

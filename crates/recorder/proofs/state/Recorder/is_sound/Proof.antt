@@ -1,15 +1,10 @@
 -- Not set up, or a plan and a run within their bounds.
-use mathlib.Core.Path.{_≡_, sym, ap, _∙_}
+use mathlib.Core.Path.{sym, _∙_}
 use borrow.Author.Tests.{eq-eqb, ne-eqb, not-true, not-false}
 use Rattle.recorder.proofs.Granted.{plan-bounds}
-use native.Mathlib.Omega.{arith}
 use borrow.Author.Needs.{needs}
 use Rattle.recorder.proofs.state.Recorder.is_sound.Statement.{statement}
 use Rattle.recorder.proofs.state.Recorder.is_sound.Tie as tie
-use Rattle.recorder.proofs.state.Recorder.is_sound.Reads as reads
-use Rattle.recorder.proofs.state.Recorder.is_sound.Lts as lts
-use Rattle.recorder.proofs.state.Plan.is_within.Reads as state-Plan-is-within-reads
-use Rattle.recorder.proofs.state.Run.is_within.Reads as state-Run-is-within-reads
 
 returns : tie.Need-returns
 returns c = rw (eq-eqb (c .before .before .args .self .ready) 0 (c .if1 .taken))

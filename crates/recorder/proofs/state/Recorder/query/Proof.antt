@@ -1,13 +1,10 @@
 -- The flags decide the status; the index is the next place once the ring is full.
-use mathlib.Core.Path.{_≡_, refl, sym}
+use mathlib.Core.Path.{refl, sym}
 use Rattle.recorder.specs.Calls.{queryStatus, indexOf}
 use Rattle.recorder.proofs.Readings.{at-absent, at-running, at-full, at-filling}
 use Rattle.recorder.proofs.Settled.{query-settled}
-use native.Mathlib.Omega.{arith}
 use Rattle.recorder.proofs.state.Recorder.query.Statement.{statement}
 use Rattle.recorder.proofs.state.Recorder.query.Tie as tie
-use Rattle.recorder.proofs.state.Recorder.query.Reads as reads
-use Rattle.recorder.proofs.state.Recorder.query.Lts as lts
 
 returns : tie.Need-returns
 returns c =

@@ -1,8 +1,7 @@
 -- What runs is busy; else the refusals of the plan that was read are those of the data part.
 use mathlib.Core.Path.{_≡_, sym, ap, _∙_}
-use Prim.Native.Nat.{ℕ, _+_, _-_, _≤_}
-use lib.ListN.{length, take, drop, length-drop}
-use lib.Seq.{take-all}
+use Prim.Native.Nat.{ℕ, _+_, _≤_}
+use lib.ListN.{length}
 use Rattle.document.specs.Plan.{headWidth, variablesPart, recordedIn, planIn}
 use Rattle.variables.specs.Parts.{kept, partRead}
 use Rattle.variables.specs.declared.parts.Part.{Part}
@@ -15,14 +14,6 @@ use native.Mathlib.Omega.{arith}
 use borrow.Author.Needs.{needs}
 use Rattle.recorder.proofs.state.Recorder.set_up.Statement.{statement}
 use Rattle.recorder.proofs.state.Recorder.set_up.Tie as tie
-use Rattle.recorder.proofs.state.Recorder.set_up.Reads as reads
-use Rattle.recorder.proofs.state.Recorder.set_up.Lts as lts
-use Rattle.recorder.proofs.setup.address_width.Reads as address-width-reads
-use Rattle.recorder.proofs.setup.read_plan.Reads as read-plan-reads
-use Rattle.recorder.proofs.setup.status_of.Reads as status-of-reads
-use Rattle.recorder.proofs.state.Recorder.is_running.Reads as is-running-reads
-use Rattle.recorder.proofs.state.Run.begin.Reads as begin-reads
-use Rattle.variables.proofs.read_variables.Reads as read-variables-reads
 
 abbrev start : tie.After-read-variables → tie.Start
 start p = p .before .before .before .before .before .before .before
@@ -109,22 +100,22 @@ returns-3 c =
     let s = start (t .before .before .before) in
     refused (s .args .self) (s .args .ex) (s .args .body .now) (t .status-of .result) (answered t) (c .if3 .taken)
 
-begin-requires : tie.Need-begin-requires
-begin-requires c κs = search needs
+restarted-requires : tie.Need-restarted-requires
+restarted-requires c κs = search needs
 
 returns-4 : tie.Need-returns-4
 returns-4 c =
-    let t = c .before .before in
+    let t = c .before .before .before in
     let p = t .before .before .before in
     let s = start p in
     let ex = s .args .ex in
     let body = s .args .body .now in
-    let d : bodyStatus ex body ≡ 0 = sym (told t) ∙ c .before .if3 .left in
+    let d : bodyStatus ex body ≡ 0 = sym (told t) ∙ c .before .before .if3 .left in
     let v = accepted-variables ex body (long p) d in
     let e : t .before .read-plan .result ≡ planKept (planIn ex body) (kept (recordedIn ex body)) =
     t .before .read-plan .ensures .0 ∙ ap (λ (q : Part). planKept (planIn ex body) (q .variables)) (part-is p) ∙ ap (planKept (planIn ex body)) v in
-    taken-up (s .args .self) ex body (t .status-of .result) _ (answered t) (c .before .if3 .left)
-    (λ i. record { ready = 1; plan = e i; run = c .begin .ensures i })
+    taken-up (s .args .self) ex body (t .status-of .result) _ (answered t) (c .before .before .if3 .left)
+    (λ i. record { ready = 1; plan = e i; run = c .restarted .ensures i })
     (accepted-sound ex body (long p) d (bounded (t .before .read-plan .result) _ e (t .before .read-plan .ensures .1)))
 
 pub set-up-spec : {M : Type 1} → statement M
@@ -143,5 +134,5 @@ set-up-spec =
     read-plan-requires
     status-of-requires
     returns-3
-    begin-requires
+    restarted-requires
     returns-4)

@@ -1,15 +1,11 @@
 -- The flags decide the status, and the status the state.
-use mathlib.Core.Path.{_≡_, refl}
+use mathlib.Core.Path.{refl}
 use Rattle.recorder.specs.Calls.{startStatus}
 use Rattle.recorder.proofs.Readings.{at-absent, at-running, at-stopped}
 use Rattle.recorder.proofs.Settled.{start-settled}
-use native.Mathlib.Omega.{arith}
 use borrow.Author.Needs.{needs}
 use Rattle.recorder.proofs.state.Recorder.start.Statement.{statement}
 use Rattle.recorder.proofs.state.Recorder.start.Tie as tie
-use Rattle.recorder.proofs.state.Recorder.start.Reads as reads
-use Rattle.recorder.proofs.state.Recorder.start.Lts as lts
-use Rattle.recorder.proofs.state.Run.begin.Reads as begin-reads
 
 returns : tie.Need-returns
 returns c =
@@ -21,14 +17,14 @@ returns-2 c =
     let r = c .before .before .before .before .args .self in
     start-settled r 0x01 r (at-running startStatus r (c .before .before .if1 .left) (c .if2 .taken)) refl
 
-begin-requires : tie.Need-begin-requires
-begin-requires c κs = search needs
+restarted-requires : tie.Need-restarted-requires
+restarted-requires c κs = search needs
 
 returns-3 : tie.Need-returns-3
 returns-3 c =
-    let r = c .before .before .before .before .before .args .self in
-    start-settled r 0x00 _ (at-stopped startStatus r (c .before .before .before .if1 .left) (c .before .if2 .left))
-    (λ i. record { ready = r .ready; plan = r .plan; run = c .begin .ensures i })
+    let r = c .before .before .before .before .before .before .args .self in
+    start-settled r 0x00 _ (at-stopped startStatus r (c .before .before .before .before .if1 .left) (c .before .before .if2 .left))
+    (λ i. record { ready = r .ready; plan = r .plan; run = c .restarted .ensures i })
 
 pub start-spec : {M : Type 1} → statement M
-start-spec = tie.close (tie.spec returns returns-2 begin-requires returns-3)
+start-spec = tie.close (tie.spec returns returns-2 restarted-requires returns-3)

@@ -1,12 +1,9 @@
 -- The flags decide.
-use mathlib.Core.Path.{_≡_, sym}
+use mathlib.Core.Path.{sym}
 use Rattle.recorder.specs.Calls.{statusStatus}
 use Rattle.recorder.proofs.Readings.{at-absent, at-running, at-stopped}
-use native.Mathlib.Omega.{arith}
 use Rattle.recorder.proofs.state.Recorder.status.Statement.{statement}
 use Rattle.recorder.proofs.state.Recorder.status.Tie as tie
-use Rattle.recorder.proofs.state.Recorder.status.Reads as reads
-use Rattle.recorder.proofs.state.Recorder.status.Lts as lts
 
 returns : tie.Need-returns
 returns c = sym (at-absent statusStatus (c .before .before .args .self) (c .if1 .taken))

@@ -1,13 +1,10 @@
 -- The flags decide the status, and the status the state.
-use mathlib.Core.Path.{_≡_, refl}
+use mathlib.Core.Path.{refl}
 use Rattle.recorder.specs.Calls.{stopStatus}
 use Rattle.recorder.proofs.Readings.{at-absent, at-running, at-stopped}
 use Rattle.recorder.proofs.Settled.{stop-settled}
-use native.Mathlib.Omega.{arith}
 use Rattle.recorder.proofs.state.Recorder.stop.Statement.{statement}
 use Rattle.recorder.proofs.state.Recorder.stop.Tie as tie
-use Rattle.recorder.proofs.state.Recorder.stop.Reads as reads
-use Rattle.recorder.proofs.state.Recorder.stop.Lts as lts
 
 returns : tie.Need-returns
 returns c =

@@ -1,15 +1,10 @@
 -- The state first, then the length, as the numbers go.
-use mathlib.Core.Path.{_≡_, sym, ap, _∙_}
+use mathlib.Core.Path.{sym, _∙_}
 use borrow.Author.Tests.{not-true, not-false}
 use Rattle.recorder.proofs.Taken.{refused-state, refused-memory, not-refused}
-use native.Mathlib.Omega.{arith}
 use borrow.Author.Needs.{needs}
 use Rattle.recorder.proofs.state.Recorder.tick.Statement.{statement}
 use Rattle.recorder.proofs.state.Recorder.tick.Tie as tie
-use Rattle.recorder.proofs.state.Recorder.tick.Reads as reads
-use Rattle.recorder.proofs.state.Recorder.tick.Lts as lts
-use Rattle.recorder.proofs.state.Recorder.is_sound.Reads as is-sound-reads
-use Rattle.recorder.proofs.state.Recorder.tick_within.Reads as tick-within-reads
 
 is-sound-requires : tie.Need-is-sound-requires
 is-sound-requires c κs = search needs

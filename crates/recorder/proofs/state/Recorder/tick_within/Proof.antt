@@ -5,11 +5,6 @@ use native.Mathlib.Omega.{arith}
 use borrow.Author.Needs.{needs}
 use Rattle.recorder.proofs.state.Recorder.tick_within.Statement.{statement}
 use Rattle.recorder.proofs.state.Recorder.tick_within.Tie as tie
-use Rattle.recorder.proofs.state.Recorder.tick_within.Reads as reads
-use Rattle.recorder.proofs.state.Recorder.tick_within.Lts as lts
-use Rattle.recorder.proofs.state.Plan.take_set.Reads as take-set-reads
-use Rattle.recorder.proofs.state.Plan.trigger_value.Reads as trigger-value-reads
-use Rattle.recorder.proofs.state.Run.after_set.Reads as after-set-reads
 
 returns : tie.Need-returns
 returns c =
@@ -48,7 +43,7 @@ take-set-requires c κs =
     let f = d .before .before in
     let s = f .before .before .before in
     let b = parts (s .args .self) (s .args .memory .now) (s .pre .0) (f .if1 .left) in
-    (b .plan, run-bounds (s .args .self .plan) (s .args .self .run) (b .run) .place, s .pre .1)
+    (b .plan, omega (arith, run-bounds (s .args .self .plan) (s .args .self .run) (b .run) .place), s .pre .1)
 
 after-set-requires : tie.Need-after-set-requires
 after-set-requires c κs =

@@ -1,16 +1,11 @@
 -- The wait begins anew, the place goes on, and the watch looks at the value.
-use mathlib.Core.Path.{_≡_, ap, _∙_}
+use mathlib.Core.Path.{ap, _∙_}
 use Rattle.recorder.specs.declared.state.Run.{Run}
 use Rattle.recorder.specs.Bounds.{watchSound}
 use Rattle.recorder.proofs.Granted.{run-bounds}
 use Rattle.recorder.proofs.Watches.{set-kept}
-use native.Mathlib.Omega.{arith}
 use Rattle.recorder.proofs.state.Run.after_set.Statement.{statement}
 use Rattle.recorder.proofs.state.Run.after_set.Tie as tie
-use Rattle.recorder.proofs.state.Run.after_set.Reads as reads
-use Rattle.recorder.proofs.state.Run.after_set.Lts as lts
-use Rattle.recorder.proofs.state.Run.next_place.Reads as next-place-reads
-use Rattle.recorder.proofs.state.Run.watch_on.Reads as watch-on-reads
 
 next-place-requires : tie.Need-next-place-requires
 next-place-requires c κs =

@@ -3,8 +3,6 @@ use borrow.Author.Tests.{lt-ltb}
 use native.Mathlib.Omega.{arith}
 use Rattle.recorder.proofs.state.Run.counting.Statement.{statement}
 use Rattle.recorder.proofs.state.Run.counting.Tie as tie
-use Rattle.recorder.proofs.state.Run.counting.Reads as reads
-use Rattle.recorder.proofs.state.Run.counting.Lts as lts
 
 returns : tie.Need-returns
 returns c = simp (c .if1 .taken)

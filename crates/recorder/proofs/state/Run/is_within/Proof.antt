@@ -1,13 +1,9 @@
 -- Flags, counts and the watch in turn.
 use borrow.Author.Tests.{le-leb, lt-leb, lt-ltb, le-ltb}
 use Rattle.recorder.specs.Bounds.{runSound}
-use native.Mathlib.Omega.{arith}
 use borrow.Author.Needs.{needs}
 use Rattle.recorder.proofs.state.Run.is_within.Statement.{statement}
 use Rattle.recorder.proofs.state.Run.is_within.Tie as tie
-use Rattle.recorder.proofs.state.Run.is_within.Reads as reads
-use Rattle.recorder.proofs.state.Run.is_within.Lts as lts
-use Rattle.recorder.proofs.bounds.is_watch_sound.Reads as is-watch-sound-reads
 
 returns : tie.Need-returns
 unfolding runSound

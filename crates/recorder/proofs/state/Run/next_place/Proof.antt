@@ -2,12 +2,9 @@
 use Prim.Native.Nat.{_+_}
 use borrow.Author.Tests.{eq-eqb, ne-eqb}
 use Rattle.recorder.proofs.Flags.{flag-kept, flag-filled}
-use native.Mathlib.Omega.{arith}
 use borrow.Author.Needs.{needs}
 use Rattle.recorder.proofs.state.Run.next_place.Statement.{statement}
 use Rattle.recorder.proofs.state.Run.next_place.Tie as tie
-use Rattle.recorder.proofs.state.Run.next_place.Reads as reads
-use Rattle.recorder.proofs.state.Run.next_place.Lts as lts
 
 add-if1 : tie.Need-add-if1
 add-if1 c = search needs

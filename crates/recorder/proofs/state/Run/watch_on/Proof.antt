@@ -1,20 +1,14 @@
 -- The three watches: the first set primes, a set after the previous is looked at, one after the trigger is counted.
-use mathlib.Core.Path.{_≡_, sym, ap, _∙_}
+use mathlib.Core.Path.{sym, ap, _∙_}
 use mathlib.Core.Bool.{true, false}
 use Prim.Native.Nat.{ℕ}
 use Rattle.document.specs.Run.Watch.{triggered}
 use Rattle.recorder.specs.State.{planOf, watching}
 use Rattle.recorder.proofs.Granted.{plan-bounds, previous-fits, watch-two, left-some}
 use Rattle.recorder.proofs.Watches.{still-running, first-set, looked-set, counted-set}
-use native.Mathlib.Omega.{arith}
 use borrow.Author.Needs.{needs}
 use Rattle.recorder.proofs.state.Run.watch_on.Statement.{statement}
 use Rattle.recorder.proofs.state.Run.watch_on.Tie as tie
-use Rattle.recorder.proofs.state.Run.watch_on.Reads as reads
-use Rattle.recorder.proofs.state.Run.watch_on.Lts as lts
-use Rattle.recorder.proofs.state.Plan.triggers.Reads as triggers-reads
-use Rattle.recorder.proofs.state.Run.counting.Reads as counting-reads
-use Rattle.recorder.proofs.state.Run.primed.Reads as primed-reads
 
 primed-requires : tie.Need-primed-requires
 primed-requires c κs = search needs
