@@ -1,0 +1,1 @@
+// The other end of the cable: a writer of command messages and a reader of answers.

@@ -1,0 +1,1 @@
+// The line: the sum, doubling, and the writer of answers, whatever any command means.

@@ -1,0 +1,1 @@
+// The receiver: bytes to whole messages, one byte a call.

@@ -1,0 +1,1 @@
+// The recorder: its setup, start, stop, tick, trigger and start index.

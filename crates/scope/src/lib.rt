@@ -1,0 +1,1 @@
+// The scope: up to eight variables that one short command reads together.
