@@ -1,6 +1,5 @@
 // The answer writer: straight into the lent buffer, so that no second copy of an answer is held.
 ghost use mathlib.Core.Path.{_≡_};
-ghost use Rattle.document.specs.Answer.{Answer};
 ghost use Rattle.document.specs.AnswerWriter.{answerFormed};
 ghost use Rattle.line.specs.AnswerWritten.{AnswerWritten};
 use crate::Written;
