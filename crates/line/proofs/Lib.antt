@@ -7,6 +7,8 @@ pub mod Frames
 pub mod Resync
 pub mod RightSum
 pub mod RoundTrip
+pub mod Ends
+pub mod Half
 -- the line, written
 pub mod Stuffed
 pub mod Writing
