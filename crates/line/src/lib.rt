@@ -1,1 +1,13 @@
 // The line: the sum, doubling, and the writer of answers, whatever any command means.
+mod answer;
+pub mod doubling;
+pub mod numbers;
+pub mod sum;
+
+pub use answer::write_answer;
+
+// What a writer did: with which number it refused, or how many bytes it wrote.
+pub struct Written {
+    pub refusal: u8,
+    pub length: usize,
+}

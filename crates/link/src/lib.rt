@@ -1,1 +1,70 @@
-// The receiver: bytes to whole messages, one byte a call.
+// The receiver: bytes to whole messages, one byte a call. It is the small head alone; the 64-byte body stands beside
+// it with the caller, and each event says what to do with it.
+mod bounds;
+mod step;
+
+ghost use mathlib.Core.Path.{_≡_};
+ghost use Rattle.link.specs.Bounds.{fresh};
+ghost use Rattle.link.specs.Step.{taken};
+
+// The phases: outside a message, or which literal comes next.
+pub const IDLE: u8 = 0;
+
+pub const LENGTH_NEXT: u8 = 1;
+
+pub const DATA_NEXT: u8 = 2;
+
+pub const SUM_NEXT: u8 = 3;
+
+#[repr(C)]
+pub struct Receiver {
+    pub waiting: u8,
+    pub phase: u8,
+    pub command: u8,
+    pub length: u8,
+    pub have: u8,
+    pub sum: u8,
+}
+
+pub enum Event {
+    Nothing,
+    // This data byte goes to this place, 0 to 63, of the body.
+    Keep { at: u8, byte: u8 },
+    // A whole message; its sum, modulo 256, is 0 where it is right.
+    Whole { command: u8, length: u8, sum: u8 },
+    // The state is outside its bounds.
+    Refused,
+}
+
+pub struct Taken {
+    pub next: Receiver,
+    pub event: Event,
+}
+
+impl Receiver {
+    pub fn new() -> Receiver
+        ensures { λ r. ⌜ r ≡ fresh ⌝ }
+    {
+        Receiver {
+            waiting: 0,
+            phase: IDLE,
+            command: 0,
+            length: 0,
+            have: 0,
+            sum: 0,
+        }
+    }
+
+    // A byte of the line. A state outside its bounds is refused and comes back as it is.
+    pub fn take(self, byte: u8) -> Taken
+        ensures { λ r. ⌜ r ≡ taken self byte ⌝ }
+    {
+        if self.is_sound() {
+            return self.step(byte);
+        }
+        Taken {
+            next: self,
+            event: Event::Refused,
+        }
+    }
+}

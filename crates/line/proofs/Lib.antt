@@ -1,0 +1,16 @@
+-- What follows from the definitions of the line.
+pub mod Cases
+-- the line, read
+pub mod Pairing
+pub mod Machine
+pub mod Frames
+pub mod Resync
+pub mod RightSum
+pub mod RoundTrip
+pub mod Ends
+pub mod Half
+-- the line, written
+pub mod Stuffed
+pub mod Writing
+pub mod Statuses
+pub mod Left

@@ -1,0 +1,3 @@
+-- What the calls of the line promise, with the definitions of the document.
+pub mod Put
+pub mod AnswerWritten

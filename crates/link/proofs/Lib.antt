@@ -1,0 +1,8 @@
+-- What follows from the definitions of the receiver.
+pub mod Sound
+pub mod Body
+pub mod Owed
+pub mod Reports
+pub mod Runs
+pub mod Demands
+pub mod Places
