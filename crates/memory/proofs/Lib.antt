@@ -1,0 +1,6 @@
+-- What follows from the definitions, for the proofs of this crate and of those above it.
+pub mod Reach
+pub mod Widths
+pub mod Masks
+pub mod Copies
+pub mod Answers
