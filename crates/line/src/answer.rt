@@ -7,9 +7,9 @@ use crate::doubling::PLUS;
 use crate::doubling::Progress;
 use crate::doubling::put_all;
 use crate::doubling::put_sum;
-use crate::numbers::FORM_REFUSED;
-use crate::numbers::ROOM_REFUSED;
-use crate::numbers::TAKEN;
+use codes::FORM_REFUSED;
+use codes::ROOM_REFUSED;
+use codes::TAKEN;
 
 // Start, status, and 65 bytes that may all be doubled.
 const ANSWER_ROOM: usize = 132;
