@@ -1,16 +1,15 @@
 -- Nothing by half: a byte that finds something ends a start and stuffed literals, all of them its own; and a byte that
 -- finds a message ends exactly that message on the wire.
-use Prim.Native.Nat.{ℕ, zero, suc, _<_, _≤_, _+_}
+use Prim.Native.Nat.{ℕ, _+_}
 use mathlib.Core.Path.{_≡_, refl, sym, _∙_, ap}
-use mathlib.Core.List.{List, [], _∷_, _++_, append-assoc, append-nil, map, foldl, foldl-append, nil≢cons, head-eq-of-cons-eq, tail-eq-of-cons-eq}
-use mathlib.Core.Bool.{Bool, true, false, cond}
-use native.Mathlib.Omega.{arith}
-use borrow.Author.Tests.{eqb-true, ltb-true, ltb-false, lt-ltb, le-ltb, le-leb, eq-eqb}
-use lib.ListN.{length, take, drop, getD, length-append}
-use lib.Seq.{take-at, getD-at, drop-append-seam, drop-append-add, drop-length, drop-nil, getD-append-add}
-use lib.Dec.{ltb, eqb}
+use mathlib.Core.List.{List, [], _∷_, _++_, append-assoc, append-nil, foldl, foldl-append, nil≢cons, head-eq-of-cons-eq, tail-eq-of-cons-eq}
+use mathlib.Core.Bool.{Bool, true, false}
+use borrow.Author.Tests.{eqb-true}
+use lib.ListN.{length, drop, length-append}
+use lib.Seq.{drop-append-add, drop-length, drop-nil}
+use lib.Dec.{eqb}
 use Rattle.document.specs.Doubling.{stuffed}
-use Rattle.document.specs.Pairing.{paired, opened, literal}
+use Rattle.document.specs.Pairing.{paired, opened}
 use Rattle.line.proofs.Cases.{split}
 use Rattle.line.proofs.Pairing.{waitsBehind, waitsAfter, reset, framed, paired-stuffed, paired-settled, opened-literals, opened-framed}
 use Rattle.line.proofs.Stuffed.{stuffed-cons, stuffed-append}

@@ -2,16 +2,16 @@
 use Prim.Native.Nat.{ℕ, _≤_, _<_, _+_}
 use mathlib.Core.Path.{_≡_, refl, sym, _∙_, ap}
 use mathlib.Core.List.{List, [], _∷_, _++_, append-assoc, append-nil, nil≢cons, head-eq-of-cons-eq, tail-eq-of-cons-eq}
-use mathlib.Core.Bool.{Bool, true, false, cond, not}
+use mathlib.Core.Bool.{true, false, cond, not}
 use native.Mathlib.Omega.{arith}
 use borrow.Author.Tests.{eqb-true, not-true, lt-ltb, le-ltb}
-use lib.ListN.{length, take, drop, getD, length-append}
+use lib.ListN.{length, take, getD, length-append}
 use lib.Seq.{take-at, getD-at, drop-append-seam, drop-length}
 use lib.Dec.{ltb, eqb}
 use Rattle.document.specs.Doubling.{stuffed}
 use Rattle.document.specs.Pairing.{paired, opened}
 use Rattle.document.specs.Kinds.{hasLengthByte, fastLength}
-use Rattle.document.specs.Message.{Message, lengthPart, lengthFits, wellFormed, onWire, wholeMessage, ofLength, afterLengthByte}
+use Rattle.document.specs.Message.{Message, lengthPart, lengthFits, wellFormed, wholeMessage, afterLengthByte}
 use Rattle.line.proofs.Cases.{split, and-left, and-right}
 use Rattle.line.proofs.Pairing.{waitsAfter, framed, opened-framed, paired-settled}
 use Rattle.line.proofs.Machine.{foundBy}

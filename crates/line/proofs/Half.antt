@@ -1,13 +1,13 @@
 -- Nothing by half: a byte that finishes a message ends exactly that message on the wire, well-formed and behind a start
 -- in the pairing of all bytes, and finishes no other.
-use Prim.Native.Nat.{ℕ, _<_, _≤_, _+_}
-use mathlib.Core.Path.{_≡_, refl, sym, _∙_, ap}
+use Prim.Native.Nat.{ℕ, _<_, _+_}
+use mathlib.Core.Path.{_≡_, refl, sym, _∙_}
 use mathlib.Core.List.{List, [], _∷_, _++_, nil≢cons, head-eq-of-cons-eq, tail-eq-of-cons-eq}
-use mathlib.Core.Bool.{Bool, true, false, cond, not}
+use mathlib.Core.Bool.{true, false}
 use native.Mathlib.Omega.{arith}
 use borrow.Author.Tests.{eqb-true, ltb-true, ltb-false, lt-ltb, le-ltb, le-leb, eq-eqb}
-use lib.ListN.{length, take, drop, getD, length-append}
-use lib.Seq.{take-at, getD-at, drop-nil, getD-append-add}
+use lib.ListN.{length, drop, getD, length-append}
+use lib.Seq.{take-at, getD-at, getD-append-add}
 use lib.Dec.{ltb, eqb}
 use Rattle.document.specs.Doubling.{stuffed}
 use Rattle.document.specs.Kinds.{hasLengthByte, fastLength}
@@ -15,7 +15,7 @@ use Rattle.document.specs.Message.{Message, wellFormed, onWire, wholeMessage, a
 use Rattle.line.proofs.Cases.{split}
 use Rattle.line.proofs.Pairing.{waitsAfter, framed}
 use Rattle.line.proofs.Machine.{foundBy, finished-found}
-use Rattle.line.proofs.Frames.{counted, message, literals}
+use Rattle.line.proofs.Frames.{counted, message}
 use Rattle.line.proofs.Ends.{Ends, ends}
 
 -- ---- a last literal that completes a count

@@ -1,6 +1,6 @@
 -- Demand 3 of the definition and of the receiver, over any bytes since reset: resynchronising, nothing by half, and
 -- that what the command writer writes is taken as that message.
-use Prim.Native.Nat.{ℕ, _<_, _%_}
+use Prim.Native.Nat.{ℕ, _<_}
 use mathlib.Core.Path.{_≡_, refl, sym, _∙_, ap}
 use mathlib.Core.List.{List, [], _∷_, _++_, map, nil≢cons, head-eq-of-cons-eq, tail-eq-of-cons-eq}
 use mathlib.Core.Bool.{true, false}

@@ -1,8 +1,8 @@
 -- What a state of the receiver will yet report of the literals up to the next start.
 use Prim.Native.Nat.{ℕ, zero, suc, _<_, _≤_, _+_, _-_, _%_}
-use mathlib.Core.Path.{_≡_, refl, sym, _∙_, ap}
+use mathlib.Core.Path.{_≡_, refl, sym, _∙_}
 use mathlib.Core.List.{List, [], _∷_, _++_, map}
-use mathlib.Core.Bool.{Bool, true, false, cond}
+use mathlib.Core.Bool.{true, false, cond}
 use native.Mathlib.Omega.{arith}
 use native.Mathlib.Numerals.{add-one}
 use native.Mathlib.Nat.{zero-add, sub-zero}
@@ -12,14 +12,13 @@ use lib.ListN.{length, take, getD, set}
 use lib.Seq.{sets, set-out, length-take-le}
 use Rattle.document.specs.Sum.{total}
 use Rattle.document.specs.Kinds.{hasLengthByte, fastLength}
-use Rattle.document.specs.Message.{Message, ofLength, afterLengthByte, wholeMessage}
+use Rattle.document.specs.Message.{ofLength, afterLengthByte, wholeMessage}
 use Rattle.line.proofs.Cases.{split}
 use Rattle.line.proofs.RightSum.{total-append}
 use Rattle.line.proofs.Frames.{message}
 use Rattle.link.specs.declared.Receiver.{Receiver}
-use Rattle.link.specs.declared.Event.{Event}
-use Rattle.link.specs.declared.Event.the-variants.{Nothing, Keep, Whole, Refused}
-use Rattle.link.specs.Bounds.{idle, lengthNext, dataNext, sumNext, sound}
+use Rattle.link.specs.declared.Event.the-variants.{Nothing, Keep}
+use Rattle.link.specs.Bounds.{lengthNext, dataNext, sumNext, sound}
 use Rattle.link.specs.Step.{added, nextPhase, more, opened, counted}
 use Rattle.link.specs.Report.{Held, held, bodyAfter, reportOf}
 use Rattle.link.proofs.Sound.{literalTaken, other-phase, by-phase, data-of, sum-of, literal-data, literal-sum, literal-length, literal-outside}

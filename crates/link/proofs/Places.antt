@@ -1,16 +1,15 @@
 -- The place of a byte that is to be kept lies in the 64-byte body, and the byte is the one that was taken.
 use Prim.Native.Nat.{ℕ, _<_}
-use mathlib.Core.Path.{_≡_, refl, sym, _∙_, ap}
-use mathlib.Core.Bool.{Bool, true, false, cond}
+use mathlib.Core.Path.{_≡_}
+use mathlib.Core.Bool.{cond}
 use native.Mathlib.Omega.{arith}
 use borrow.Author.Tests.{ltb-true}
 use lib.Dec.{ltb, eqb}
 use Rattle.line.proofs.Cases.{split}
 use Rattle.link.specs.declared.Receiver.{Receiver}
-use Rattle.link.specs.declared.Event.{Event}
 use Rattle.link.specs.declared.Event.the-variants.{Nothing, Keep, Whole}
 use Rattle.link.specs.Step.{plus, withWaiting, afterByte, byteEvent, stepped}
-use Rattle.link.proofs.Sound.{literalTaken, by-phase, literal-data, literal-sum, literal-length, literal-outside, plus-is}
+use Rattle.link.proofs.Sound.{literalTaken, by-phase, literal-data, literal-sum, literal-length, literal-outside}
 
 module _ (b place byte : ℕ) where
   abbrev InBody : Type 0

@@ -1,9 +1,9 @@
 -- The receiver with the body beside it reports exactly the messages in the bytes since reset, each at its last byte:
 -- it is one of the readers of `Rattle.line.proofs.Machine`.
-use Prim.Native.Nat.{ℕ, _<_, _≤_}
+use Prim.Native.Nat.{ℕ}
 use mathlib.Core.Path.{_≡_, refl, sym, _∙_, ap}
-use mathlib.Core.List.{List, [], _∷_, _++_, map, foldl}
-use mathlib.Core.Bool.{Bool, true, false, cond, not}
+use mathlib.Core.List.{List, [], _∷_, _++_, map}
+use mathlib.Core.Bool.{Bool, true, false}
 use native.Mathlib.Omega.{arith}
 use borrow.Author.Tests.{leb-true, eqb-true, eqb-false, eq-eqb, ne-eqb}
 use lib.Dec.{leb, eqb}
@@ -13,7 +13,6 @@ use Rattle.line.proofs.Cases.{split}
 use Rattle.line.proofs.Pairing.{waitsBehind}
 use Rattle.line.proofs.Machine.{Reads, within-after, reported-at, found-map, finished-found}
 use Rattle.link.specs.declared.Receiver.{Receiver}
-use Rattle.link.specs.declared.Taken.{Taken}
 use Rattle.link.specs.Bounds.{fresh, sound}
 use Rattle.link.specs.Step.{plus, opened, withWaiting, afterByte, byteEvent, stepped, taken}
 use Rattle.link.specs.Report.{Held, held, Beside, onByte, reportedAt, sinceReset, reporting}

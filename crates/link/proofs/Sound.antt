@@ -1,9 +1,9 @@
 -- The bounds of the receiver's state: a step keeps them, and only a state outside is refused.
 use Prim.Native.Nat.{ℕ, _<_, _≤_, _+_}
-use mathlib.Core.Path.{_≡_, refl, sym, _∙_, ap}
+use mathlib.Core.Path.{_≡_, refl}
 use mathlib.Core.Bool.{Bool, true, false, cond, not, _&&_, _||_}
 use native.Mathlib.Omega.{arith}
-use borrow.Author.Tests.{ltb-true, ltb-false, eqb-true, not-true, eq-eqb, lt-ltb, le-ltb, le-leb}
+use borrow.Author.Tests.{ltb-true, ltb-false, eqb-true, not-true, eq-eqb, lt-ltb}
 use lib.Dec.{ltb, leb, eqb}
 use Rattle.document.specs.Numbers as numbers
 use Rattle.document.specs.Kinds.{hasLengthByte, fastLength}
