@@ -31,7 +31,7 @@ pub struct Maker {
 type Step = fn(&mut Maker);
 
 /// Each step with its weight.
-const STEPS: [(u64, Step); 21] = [
+const STEPS: [(u64, Step); 23] = [
     (8, Maker::fast_read),
     (8, Maker::fast_write),
     (10, Maker::block),
@@ -48,6 +48,8 @@ const STEPS: [(u64, Step); 21] = [
     (4, Maker::interrupted),
     (3, Maker::start_bytes),
     (4, Maker::any_command),
+    (2, Maker::sweep),
+    (3, Maker::start_sums),
     (3, Maker::long_message),
     (4, Maker::wrong_sum),
     (4, Maker::some_poke),

@@ -74,7 +74,7 @@ impl Maker {
     /// Mostly a status of the paper, at times any.
     fn status(&mut self) -> u8 {
         match self.rng.below(8) {
-            0 => *self.rng.pick(&[0x03, 0x7F, 0x80, 0x8A, 0xFF, 0x2B]),
+            0 => *self.rng.pick(&[0x03, 0x80, 0x8A, 0x7F, 0xFF, 0x2B]),
             1 => self.rng.byte(),
             2 | 3 => 0x81 + self.rng.below(9) as u8,
             _ => self.rng.below(3) as u8,

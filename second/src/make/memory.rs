@@ -2,9 +2,10 @@
 
 use super::Maker;
 
-/// Sizes at the edges of what a command or an answer holds.
-const SIZES: [u8; 18] = [
-    0, 1, 2, 3, 4, 8, 29, 30, 31, 43, 59, 60, 61, 62, 63, 64, 65, 255,
+/// Sizes at the edges of what a command or an answer holds, and ones that make
+/// the length byte 0x2B.
+const SIZES: [u8; 22] = [
+    0, 1, 2, 3, 4, 8, 19, 20, 29, 30, 31, 38, 40, 43, 59, 60, 61, 62, 63, 64, 65, 255,
 ];
 
 impl Maker {
@@ -93,6 +94,7 @@ impl Maker {
             0 => 1 + self.rng.below(8) as u8,
             1 => largest as u8,
             2 => 1 + self.rng.below(largest as u64) as u8,
+            _ if parts == 0 && self.rng.once_in(2) => *self.rng.pick(&[65, 66, 255]),
             _ => self.size(),
         };
         let data = self.block_data(size, width, parts * usize::from(size));

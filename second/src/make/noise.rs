@@ -2,7 +2,7 @@
 
 use super::wire::literals;
 use super::Maker;
-use crate::line::{stuffed, START};
+use crate::line::{stuffed, sum_byte, START};
 use crate::message::fast_length;
 
 /// Messages that make the target answer whatever came before them.
@@ -90,6 +90,40 @@ impl Maker {
         };
         let data = self.rng.bytes(count);
         self.send(command, &data);
+    }
+
+    /// A part of all command values in their order, on one line.
+    pub fn sweep(&mut self) {
+        let first = self.rng.next() as u8;
+        let mut wire = Vec::new();
+        for number in 0..32 {
+            let command = first.wrapping_add(number);
+            let some = *self.rng.pick(&[0, 0, 3, 5]);
+            let data = self.rng.bytes(fast_length(command).unwrap_or(some));
+            wire.extend(stuffed(&literals(command, &data)));
+        }
+        self.bytes(&wire);
+    }
+
+    /// Sum bytes of 0x2B: in a message, whose second one may come late or be
+    /// another message's start, and in an answer.
+    pub fn start_sums(&mut self) {
+        let address = self.rng.below(64) as u8;
+        let value = self.rng.byte();
+        // The byte that 0xE3 ignores makes the sum.
+        let before = [0xE3, address, 0x00, value, START];
+        let data = [address, 0x00, value, sum_byte(&before)];
+        let wire = stuffed(&literals(0xE3, &data));
+        let (all_but_last, last) = wire.split_at(wire.len() - 1);
+        self.bytes(all_but_last);
+        match self.rng.below(3) {
+            0 => self.information(),
+            1 => self.some_ticks(),
+            _ => {}
+        }
+        self.bytes(last);
+        self.poke(usize::from(address), &[sum_byte(&[START])]);
+        self.send(0xD0, &[address, 0x00]);
     }
 
     /// Length bytes around and far above 64.

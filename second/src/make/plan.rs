@@ -202,7 +202,7 @@ impl Maker {
             2 => plan.samples = 0,
             3 => plan.samples = most + 1,
             4 => plan.samples = *self.rng.pick(&[4_096, 4_097, 32_768, 65_535]),
-            5 => plan.size = *self.rng.pick(&[0, 3, 5, 8, 255]),
+            5 => plan.size = *self.rng.pick(&[0, 3, 3, 3, 5, 8, 255]),
             6 => plan.address = 12_288 + 1 - u32::from(plan.size.min(4)),
             7 => plan.address = *self.rng.pick(&[12_288, 16_383, 65_535]),
             8 => plan.variables.clear(),
