@@ -8,10 +8,10 @@ impl Maker {
     /// Some lines of the writers and the reader.
     pub fn other_end(&mut self) {
         for _ in 0..1 + self.rng.below(4) {
-            match self.rng.below(6) {
+            match self.rng.below(7) {
                 0 | 1 => self.write_command(),
-                2 => self.write_answer(),
-                3 => self.begin_reader(),
+                2 | 3 => self.write_answer(),
+                4 => self.begin_reader(),
                 _ => self.read_answers(),
             }
         }
@@ -142,6 +142,8 @@ impl Maker {
     }
 
     fn read_line(&mut self, room: usize, bytes: &[u8]) {
-        self.lines.push(format!("R {room}{}", hex(bytes)));
+        if !bytes.is_empty() {
+            self.lines.push(format!("R {room}{}", hex(bytes)));
+        }
     }
 }

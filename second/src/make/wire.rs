@@ -57,7 +57,11 @@ impl Maker {
     }
 
     pub fn bytes(&mut self, wire: &[u8]) {
-        let line = format!("B{}", hex(wire));
-        self.lines.push(line);
+        let mut bytes = hex(wire);
+        if self.rng.once_in(40) {
+            // Small letters, single digits and more than one space.
+            bytes = bytes.to_ascii_lowercase().replace(" 0", "  ");
+        }
+        self.lines.push(format!("B{bytes}"));
     }
 }
