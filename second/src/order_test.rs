@@ -1,0 +1,129 @@
+//! "the first that applies in this order": messages that two or more rows of
+//! the refusals' table fit.
+
+use crate::line::{stuffed, sum_byte};
+use crate::message::fast_length;
+use crate::target::Target;
+
+/// The literals of a message with its right sum.
+fn literals(command: u8, data: &[u8]) -> Vec<u8> {
+    let mut literals = vec![command];
+    if fast_length(command).is_none() {
+        literals.push(data.len() as u8);
+    }
+    literals.extend_from_slice(data);
+    literals.push(sum_byte(&literals));
+    literals
+}
+
+/// The status of the only answer to the literals.
+fn status(target: &mut Target, literals: &[u8]) -> u8 {
+    let wire = stuffed(literals);
+    let all: Vec<_> = wire.iter().filter_map(|byte| target.byte(*byte)).collect();
+    assert_eq!(all.len(), 1);
+    all[0][1]
+}
+
+fn told(target: &mut Target, command: u8, data: &[u8]) -> u8 {
+    status(target, &literals(command, data))
+}
+
+/// A recorder setup of mode, samples, trigger size, sign and one variable.
+fn setup(mode: u8, samples: u8, trigger: [u8; 3], sign: u8, variable: [u8; 3]) -> Vec<u8> {
+    let [size, low, high] = trigger;
+    let mut data = vec![mode, samples, 0, 0, 0, 0, 0, low, high, size, sign];
+    data.extend_from_slice(&[0, 0, 0, 0, 1]);
+    data.extend_from_slice(&variable);
+    data
+}
+
+/// A target whose recorder runs.
+fn recording() -> Target {
+    let mut target = Target::reset();
+    let data = setup(0, 4, [0, 0, 0], 0, [1, 0, 0]);
+    assert_eq!(told(&mut target, 0x09, &data), 0x00);
+    target
+}
+
+#[test]
+fn a_wrong_sum_comes_first() {
+    for (command, length) in [(0x01, 65), (0x7F, 0), (0x7F, 255), (0x09, 3), (0xC1, 0)] {
+        let mut wrong = literals(command, &vec![0; length]);
+        *wrong.last_mut().unwrap() ^= 1;
+        assert_eq!(status(&mut Target::reset(), &wrong), 0x82, "{command:02X}");
+    }
+}
+
+#[test]
+fn too_long_before_all_but_the_sum() {
+    assert_eq!(told(&mut Target::reset(), 0x7F, &[0; 65]), 0x83);
+    assert_eq!(told(&mut recording(), 0x09, &[0; 65]), 0x83);
+    assert_eq!(told(&mut Target::reset(), 0x02, &[0; 255]), 0x83);
+    assert_eq!(told(&mut Target::reset(), 0x7F, &[0; 64]), 0x81);
+}
+
+#[test]
+fn busy_before_the_fields() {
+    assert_eq!(told(&mut recording(), 0x09, &[]), 0x87);
+    assert_eq!(told(&mut recording(), 0x0B, &[3; 20]), 0x87);
+    assert_eq!(told(&mut recording(), 0xC9, &[]), 0x87);
+    assert_eq!(told(&mut Target::reset(), 0xC4, &[]), 0x88);
+}
+
+#[test]
+fn the_length_before_sizes_and_ranges() {
+    let mut target = Target::reset();
+    assert_eq!(told(&mut target, 0x08, &[0, 0]), 0x85);
+    assert_eq!(told(&mut target, 0x08, &[9, 1, 0, 0]), 0x85);
+    assert_eq!(told(&mut target, 0x01, &[0, 0xFF]), 0x85);
+    let mode_3 = setup(3, 0, [3, 0, 0], 2, [0, 0, 0x40]);
+    assert_eq!(told(&mut target, 0x09, &mode_3), 0x85);
+    let sign_2 = setup(1, 0, [3, 0, 0], 2, [0, 0, 0x40]);
+    assert_eq!(told(&mut target, 0x09, &sign_2), 0x85);
+}
+
+#[test]
+fn sizes_before_answers_and_ranges() {
+    let mut target = Target::reset();
+    assert_eq!(told(&mut target, 0x01, &[0, 0xFF, 0xFF]), 0x86);
+    assert_eq!(told(&mut target, 0x08, &[0]), 0x86);
+    let size_3 = setup(2, 4, [3, 0xFF, 0xFF], 1, [1, 0xFF, 0xFF]);
+    assert_eq!(told(&mut target, 0x09, &size_3), 0x86);
+    let no_samples = setup(0, 0, [3, 0xFF, 0xFF], 9, [1, 0xFF, 0xFF]);
+    assert_eq!(told(&mut target, 0x09, &no_samples), 0x86);
+    let too_many = setup(0, 17, [3, 0xFF, 0xFF], 9, [241, 0, 0]);
+    assert_eq!(told(&mut target, 0x09, &too_many), 0x86);
+}
+
+#[test]
+fn the_answer_before_the_range() {
+    let mut target = Target::reset();
+    assert_eq!(told(&mut target, 0x01, &[65, 0xFF, 0xFF]), 0x84);
+    assert_eq!(told(&mut target, 0x01, &[64, 0xFF, 0xFF]), 0x89);
+    assert_eq!(told(&mut target, 0x04, &[1, 0, 0, 1, 0]), 0x89);
+}
+
+#[test]
+fn ranges_of_setups() {
+    let mut target = Target::reset();
+    let variable = setup(0, 1, [0, 0, 0], 0, [2, 0xFF, 0x2F]);
+    assert_eq!(told(&mut target, 0x09, &variable), 0x89);
+    let trigger = setup(1, 1, [2, 0xFF, 0x2F], 0, [1, 0xFF, 0x2F]);
+    assert_eq!(told(&mut target, 0x09, &trigger), 0x89);
+    assert_eq!(told(&mut target, 0x08, &[1, 1, 0x00, 0x40]), 0x89);
+    assert_eq!(told(&mut target, 0x08, &[1, 255, 0x01, 0x3F]), 0x00);
+    assert_eq!(told(&mut target, 0xC5, &[]), 0x84);
+    let not_looked_at = setup(0, 1, [9, 0xFF, 0xFF], 9, [1, 0xFF, 0x2F]);
+    assert_eq!(told(&mut target, 0x09, &not_looked_at), 0x00);
+}
+
+/// "Application commands (0x10, 0xC6), TSA and string length (0x11, 0x12,
+/// 0xD4, 0xE6) answer 0x81."
+#[test]
+fn named_commands_that_are_not_served() {
+    for command in [0x10, 0x11, 0x12, 0xC6, 0xD4, 0xE6] {
+        let data = vec![0; fast_length(command).unwrap_or(0)];
+        let answered = told(&mut Target::reset(), command, &data);
+        assert_eq!(answered, 0x81, "{command:02X}");
+    }
+}

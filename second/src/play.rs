@@ -1,0 +1,197 @@
+//! Plays a script and prints what comes of it.
+
+use std::io::{BufRead, Write};
+
+use crate::adler::adler32;
+use crate::host::{write_answer, write_command, Reader, Refusal};
+use crate::script::{parse, Call, Operation};
+use crate::target::Target;
+
+/// What every lent buffer is filled with before each call.
+const FILL: u8 = 0xEE;
+
+/// A line that cannot be read, or a failure of the files themselves.
+pub type Failure = String;
+
+/// A writer of the other end of the cable.
+type Writer = fn(u8, &[u8], &mut [u8]) -> Result<usize, Refusal>;
+
+struct Player<'a, O: Write> {
+    target: Target,
+    reader: Reader,
+    /// Wire bytes given so far, on B lines and on R lines.
+    given: u64,
+    read: u64,
+    /// A B, T, P or M line came.
+    memory_used: bool,
+    out: &'a mut O,
+}
+
+/// Plays the script in one pass, "from reset with memory all zero".
+pub fn play(script: &mut impl BufRead, out: &mut impl Write) -> Result<(), Failure> {
+    let mut player = Player {
+        target: Target::reset(),
+        reader: Reader::begin(0).expect("0 is not above 64"),
+        given: 0,
+        read: 0,
+        memory_used: false,
+        out,
+    };
+    let played = player.lines(script);
+    // What came before a line that cannot be read is printed all the same.
+    player.out.flush().map_err(|e| e.to_string())?;
+    played
+}
+
+impl<O: Write> Player<'_, O> {
+    fn lines(&mut self, script: &mut impl BufRead) -> Result<(), Failure> {
+        let mut line = Vec::new();
+        for number in 1.. {
+            line.clear();
+            let length = script.read_until(b'\n', &mut line);
+            if length.map_err(|e| e.to_string())? == 0 {
+                break;
+            }
+            let text = String::from_utf8_lossy(&line);
+            let operation = parse(&text).map_err(|wrong| format!("line {number}: {wrong}"))?;
+            if let Some(operation) = operation {
+                self.operation(operation)?;
+            }
+        }
+        if !self.memory_used {
+            return Ok(());
+        }
+        let sum = adler32(&self.target.memory);
+        self.print(&format!("D adler32 {sum:08X}"), &[])
+    }
+
+    fn operation(&mut self, operation: Operation) -> Result<(), Failure> {
+        match operation {
+            Operation::Bytes(bytes) => {
+                self.memory_used = true;
+                bytes.iter().try_for_each(|byte| self.wire_byte(*byte))
+            }
+            Operation::Ticks(count) => {
+                self.memory_used = true;
+                self.target.ticks(count);
+                Ok(())
+            }
+            Operation::Poke(address, bytes) => {
+                self.memory_used = true;
+                self.target.memory[address..address + bytes.len()].copy_from_slice(&bytes);
+                Ok(())
+            }
+            Operation::Show(address, length) => {
+                self.memory_used = true;
+                let bytes = self.target.memory[address..address + length].to_vec();
+                self.print(&format!("M {address}"), &bytes)
+            }
+            Operation::WriteCommand(call) => self.write('W', write_command, call),
+            Operation::WriteAnswer(call) => self.write('V', write_answer, call),
+            Operation::BeginReader(expected) => self.begin(expected),
+            Operation::Read { room, bytes } => bytes
+                .iter()
+                .try_for_each(|byte| self.read_byte(*byte, room)),
+        }
+    }
+
+    fn wire_byte(&mut self, byte: u8) -> Result<(), Failure> {
+        let index = self.given;
+        self.given += 1;
+        match self.target.byte(byte) {
+            Some(answer) => self.print(&format!("A {index}"), &answer),
+            None => Ok(()),
+        }
+    }
+
+    fn write(&mut self, letter: char, writer: Writer, call: Call) -> Result<(), Failure> {
+        let mut lent = vec![FILL; call.room];
+        let (refusal, written) = match writer(call.first, &call.data, &mut lent) {
+            Ok(written) => (0, written),
+            Err(refusal) => (refusal, 0),
+        };
+        self.print(&format!("{letter} {refusal} {written}"), &lent)
+    }
+
+    /// "refused, the old reader stays"
+    fn begin(&mut self, expected: u64) -> Result<(), Failure> {
+        let refusal = match Reader::begin(expected) {
+            Ok(reader) => {
+                self.reader = reader;
+                0
+            }
+            Err(refusal) => refusal,
+        };
+        self.print(&format!("E {refusal}"), &[])
+    }
+
+    fn read_byte(&mut self, byte: u8, room: usize) -> Result<(), Failure> {
+        let index = self.read;
+        self.read += 1;
+        let mut lent = vec![FILL; room];
+        match self.reader.byte(byte, &mut lent) {
+            Ok(None) => Ok(()),
+            Ok(Some(answer)) => {
+                let (status, count) = (answer.status, answer.count);
+                self.print(&format!("R {index} 0 {status:02X} {count}"), &lent)
+            }
+            Err(refusal) => self.print(&format!("R {index} {refusal}"), &[]),
+        }
+    }
+
+    /// A line: its words, then bytes in hex.
+    fn print(&mut self, words: &str, bytes: &[u8]) -> Result<(), Failure> {
+        let mut line = String::with_capacity(words.len() + 3 * bytes.len() + 1);
+        line.push_str(words);
+        for byte in bytes {
+            line.push_str(&format!(" {byte:02X}"));
+        }
+        line.push('\n');
+        self.out
+            .write_all(line.as_bytes())
+            .map_err(|e| e.to_string())
+    }
+}
+
+#[cfg(test)]
+mod tests {
+    use super::*;
+
+    fn played(script: &str) -> (Result<(), Failure>, String) {
+        let mut out = Vec::new();
+        let result = play(&mut script.as_bytes(), &mut out);
+        (result, String::from_utf8(out).unwrap())
+    }
+
+    #[test]
+    fn prints_answers_memory_and_sum() {
+        let (result, out) = played("P 16 7F\nB 2B D0 10 00 20\n\n# end\nM 15 3\nM 9 0\n");
+        assert_eq!(result, Ok(()));
+        let wanted = "A 4 2B 00 7F 81\nM 15 00 7F 00\nM 9\nD adler32 ";
+        assert!(out.starts_with(wanted), "{out}");
+    }
+
+    #[test]
+    fn the_other_end_prints_no_sum() {
+        let (_, out) = played("W C8 4\nW 2B 0\nV 81 131\nE 65\nE 1\nR 63 2B\n");
+        let (_, refused) = played("V 81 131");
+        let wanted = format!("W 0 3 2B C8 38 EE\nW 4 0\n{refused}E 5\nE 0\nR 0 3\n");
+        assert_eq!(out, wanted);
+        let (_, read) = played("E 1\nR 64 2B 00 07 F9 2B 81 7F\n");
+        let rest = " EE".repeat(63);
+        let wanted = format!("E 0\nR 3 0 00 1 07{rest}\nR 6 0 81 0 EE{rest}\n");
+        assert_eq!(read, wanted);
+    }
+
+    #[test]
+    fn a_line_that_cannot_be_read_ends_it() {
+        let (result, out) = played("M 0 1\n\nQ\nM 0 1\n");
+        assert_eq!(result, Err("line 3: `Q` is no operation".to_string()));
+        assert_eq!(out, "M 0 00\n");
+    }
+
+    #[test]
+    fn an_empty_script_prints_nothing() {
+        assert_eq!(played("# nothing\n"), (Ok(()), String::new()));
+    }
+}

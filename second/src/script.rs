@@ -1,0 +1,177 @@
+//! The lines of a script.
+
+use crate::areas::MEMORY;
+
+/// The most room a W, V or R line may lend.
+const MOST_ROOM: usize = 600;
+
+/// One operation.
+#[derive(Debug, PartialEq, Eq)]
+pub enum Operation {
+    Bytes(Vec<u8>),
+    Ticks(u64),
+    Poke(usize, Vec<u8>),
+    Show(usize, usize),
+    WriteCommand(Call),
+    WriteAnswer(Call),
+    BeginReader(u64),
+    Read { room: usize, bytes: Vec<u8> },
+}
+
+/// A call of a writer: command or status, room of the lent buffer, data.
+#[derive(Debug, PartialEq, Eq)]
+pub struct Call {
+    pub first: u8,
+    pub room: usize,
+    pub data: Vec<u8>,
+}
+
+/// The words of a line that are not read yet.
+struct Words<'a>(std::str::SplitAsciiWhitespace<'a>);
+
+/// The operation of a line, nothing for one that is skipped, or what is wrong.
+pub fn parse(line: &str) -> Result<Option<Operation>, String> {
+    if line.starts_with('#') {
+        return Ok(None);
+    }
+    let mut words = Words(line.split_ascii_whitespace());
+    let Some(letter) = words.0.next() else {
+        return Ok(None);
+    };
+    let operation = words.operation(letter)?;
+    match words.0.next() {
+        None => Ok(Some(operation)),
+        Some(word) => Err(format!("`{word}` is one word too many")),
+    }
+}
+
+impl Words<'_> {
+    fn operation(&mut self, letter: &str) -> Result<Operation, String> {
+        match letter {
+            "B" => Ok(Operation::Bytes(self.bytes()?)),
+            "T" => Ok(Operation::Ticks(self.decimal("number of ticks")?)),
+            "P" => {
+                let (address, bytes) = (self.size("address")?, self.bytes()?);
+                within(address, bytes.len())?;
+                Ok(Operation::Poke(address, bytes))
+            }
+            "M" => {
+                let (address, length) = (self.size("address")?, self.size("length")?);
+                within(address, length)?;
+                Ok(Operation::Show(address, length))
+            }
+            "W" => Ok(Operation::WriteCommand(self.call("command")?)),
+            "V" => Ok(Operation::WriteAnswer(self.call("status")?)),
+            "E" => Ok(Operation::BeginReader(self.decimal("expected length")?)),
+            "R" => Ok(Operation::Read {
+                room: self.room()?,
+                bytes: self.bytes()?,
+            }),
+            other => Err(format!("`{other}` is no operation")),
+        }
+    }
+
+    fn word(&mut self, what: &str) -> Result<&str, String> {
+        self.0.next().ok_or_else(|| format!("no {what}"))
+    }
+
+    fn decimal(&mut self, what: &str) -> Result<u64, String> {
+        let word = self.word(what)?;
+        let digits = word.bytes().all(|b| b.is_ascii_digit());
+        let number = word.parse().ok().filter(|_| digits);
+        number.ok_or_else(|| format!("`{word}` is no {what}"))
+    }
+
+    fn size(&mut self, what: &str) -> Result<usize, String> {
+        let number = self.decimal(what)?;
+        usize::try_from(number).map_err(|_| format!("{number} is too large for a {what}"))
+    }
+
+    fn room(&mut self) -> Result<usize, String> {
+        match self.size("room")? {
+            room if room <= MOST_ROOM => Ok(room),
+            room => Err(format!("a room of {room} is above {MOST_ROOM}")),
+        }
+    }
+
+    fn call(&mut self, what: &str) -> Result<Call, String> {
+        Ok(Call {
+            first: hex(self.word(what)?)?,
+            room: self.room()?,
+            data: self.bytes()?,
+        })
+    }
+
+    /// All words that are left, as bytes.
+    fn bytes(&mut self) -> Result<Vec<u8>, String> {
+        self.0.by_ref().map(hex).collect()
+    }
+}
+
+/// One or two hexadecimal digits.
+fn hex(word: &str) -> Result<u8, String> {
+    let digits = word.len() <= 2 && word.bytes().all(|b| b.is_ascii_hexdigit());
+    let byte = u8::from_str_radix(word, 16).ok().filter(|_| digits);
+    byte.ok_or_else(|| format!("`{word}` is no byte in hex"))
+}
+
+fn within(address: usize, length: usize) -> Result<(), String> {
+    match address.checked_add(length) {
+        Some(end) if end <= MEMORY => Ok(()),
+        _ => Err(format!(
+            "{length} bytes at {address} do not lie within the memory"
+        )),
+    }
+}
+
+#[cfg(test)]
+mod tests {
+    use super::*;
+
+    #[test]
+    fn reads_every_operation() {
+        let read = |line| parse(line).unwrap();
+        assert_eq!(read(""), None);
+        assert_eq!(read("   "), None);
+        assert_eq!(read("# B 2B"), None);
+        let bytes = Operation::Bytes(vec![0x2B, 0x0A, 0xFF]);
+        assert_eq!(read("B 2b  A FF"), Some(bytes));
+        assert_eq!(read("T 70000"), Some(Operation::Ticks(70_000)));
+        assert_eq!(read("P 16 5A"), Some(Operation::Poke(16, vec![0x5A])));
+        assert_eq!(read("M 16383 1"), Some(Operation::Show(16_383, 1)));
+        assert_eq!(read("E 65"), Some(Operation::BeginReader(65)));
+        let call = Call {
+            first: 0xD0,
+            room: 600,
+            data: vec![0x10, 0x00],
+        };
+        assert_eq!(read("W D0 600 10 00"), Some(Operation::WriteCommand(call)));
+    }
+
+    #[test]
+    fn says_what_is_wrong() {
+        for line in [
+            "X",
+            "b 2B",
+            "B 2BC",
+            "B +1",
+            "B G",
+            "T",
+            "T -1",
+            "T +1",
+            "T 1 2",
+            "P",
+            "P 16384 00",
+            "M 0",
+            "M 1 16384",
+            "W",
+            "W D0",
+            "W D0 601",
+            "E",
+            "R",
+            "R 601",
+        ] {
+            assert!(parse(line).is_err(), "{line}");
+        }
+    }
+}

@@ -1,0 +1,60 @@
+//! The target: the bytes it heard, its memory, scope and recorder.
+
+use crate::areas::{Range, MEMORY};
+use crate::commands::carry_out;
+use crate::line::{wire, Heard};
+use crate::message::{CommandLength, Message};
+use crate::recorder::Recorder;
+use crate::refusals::judge;
+
+pub struct Target {
+    pub memory: Vec<u8>,
+    pub scope: Option<Vec<Range>>,
+    pub recorder: Option<Recorder>,
+    heard: Heard,
+}
+
+impl Target {
+    /// The target after reset: an idle link, nothing set up.
+    pub fn reset() -> Target {
+        Target {
+            memory: vec![0; MEMORY],
+            scope: None,
+            recorder: None,
+            heard: Heard::default(),
+        }
+    }
+
+    /// One wire byte; the wire bytes of the answer that comes with it.
+    pub fn byte(&mut self, byte: u8) -> Option<Vec<u8>> {
+        let literals = self.heard.hear(byte, &CommandLength)?;
+        let message = Message::of(&literals);
+        let (status, data) = match judge(&message, self) {
+            Ok(request) => carry_out(request, self),
+            // "A status with its top bit set carries no data."
+            Err(status) => (status, Vec::new()),
+        };
+        Some(wire(status, &data))
+    }
+
+    /// "The gate calls a tick", so many times in a row.
+    pub fn ticks(&mut self, count: u64) {
+        if let Some(recorder) = &mut self.recorder {
+            recorder.ticks(count, &mut self.memory);
+        }
+    }
+
+    /// "the variables' bytes in that order"
+    pub fn scope_bytes(&self) -> Vec<u8> {
+        let variables = self.scope.iter().flatten();
+        variables
+            .flat_map(|v| v.of(&self.memory))
+            .copied()
+            .collect()
+    }
+
+    pub fn scope_size(&self) -> usize {
+        let variables = self.scope.iter().flatten();
+        variables.map(|v| usize::from(v.size)).sum()
+    }
+}
