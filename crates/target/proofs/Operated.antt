@@ -43,7 +43,46 @@ operated-as operation g m e s l =
       s,
       l,
     )
-    (elim operation [ zero ↦ λ h. refl | suc n ↦ elim n [ zero ↦ λ h. refl | suc n ↦ elim n [ zero ↦ λ h. refl | suc n ↦ elim n [ zero ↦ λ h. simp or-false | suc n ↦ elim n [ zero ↦ λ h. simp or-false | suc n ↦ elim n [ zero ↦ λ h. simp or-false | suc n ↦ elim n [ zero ↦ λ h. simp or-false | suc n ↦ elim n [ zero ↦ λ h. refl | suc n ↦ elim n [ zero ↦ λ h. simp or-false | suc n ↦ elim n [ zero ↦ λ h. simp or-false | suc n ↦ elim n [ zero ↦ λ h. simp or-false | suc n ↦ elim n [ zero ↦ λ h. simp or-false | suc n ↦ elim n [ zero ↦ λ h. simp or-false | suc n ↦ λ h. let b : ⊥ = omega arith in absurd b ] ] ] ] ] ] ] ] ] ] ] ] ]))
+    (elim operation [
+      | zero ↦ λ h. refl
+      | suc n ↦ elim n [
+        | zero ↦ λ h. refl
+        | suc n ↦ elim n [
+          | zero ↦ λ h. refl
+          | suc n ↦ elim n [
+            | zero ↦ λ h. simp or-false
+            | suc n ↦ elim n [
+              | zero ↦ λ h. simp or-false
+              | suc n ↦ elim n [
+                | zero ↦ λ h. simp or-false
+                | suc n ↦ elim n [
+                  | zero ↦ λ h. simp or-false
+                  | suc n ↦ elim n [
+                    | zero ↦ λ h. refl
+                    | suc n ↦ elim n [
+                      | zero ↦ λ h. simp or-false
+                      | suc n ↦ elim n [
+                        | zero ↦ λ h. simp or-false
+                        | suc n ↦ elim n [
+                          | zero ↦ λ h. simp or-false
+                          | suc n ↦ elim n [
+                            | zero ↦ λ h. simp or-false
+                            | suc n ↦ elim n [
+                              | zero ↦ λ h. simp or-false
+                              | suc n ↦ λ h. let b : ⊥ = omega arith in absurd b
+                            ]
+                          ]
+                        ]
+                      ]
+                    ]
+                  ]
+                ]
+              ]
+            ]
+          ]
+        ]
+      ]
+    ]))
 
 pub answered-operated :
     (g : Gate) (m : Message)

@@ -36,8 +36,9 @@ pub struct Operation {
     pub size: u8,
 }
 
-// The operation's number times 16, 8 for an EX command, and the size; a row for each sixteen commands.
+// The operation's number times 16, 8 for an EX command, and the size; an entry for each of the 256 commands.
 const OPERATIONS: [u8; 256] = [
+    // 0x00
     0x04,
     0x30,
     0x40,
@@ -54,6 +55,7 @@ const OPERATIONS: [u8; 256] = [
     0x04,
     0x04,
     0x04,
+    // 0x10
     0x04,
     0x04,
     0x04,
@@ -70,6 +72,7 @@ const OPERATIONS: [u8; 256] = [
     0x04,
     0x04,
     0x04,
+    // 0x20
     0x04,
     0x04,
     0x04,
@@ -86,6 +89,7 @@ const OPERATIONS: [u8; 256] = [
     0x04,
     0x04,
     0x04,
+    // 0x30
     0x04,
     0x04,
     0x04,
@@ -102,6 +106,7 @@ const OPERATIONS: [u8; 256] = [
     0x04,
     0x04,
     0x04,
+    // 0x40
     0x04,
     0x04,
     0x04,
@@ -118,6 +123,7 @@ const OPERATIONS: [u8; 256] = [
     0x04,
     0x04,
     0x04,
+    // 0x50
     0x04,
     0x04,
     0x04,
@@ -134,6 +140,7 @@ const OPERATIONS: [u8; 256] = [
     0x04,
     0x04,
     0x04,
+    // 0x60
     0x04,
     0x04,
     0x04,
@@ -150,6 +157,7 @@ const OPERATIONS: [u8; 256] = [
     0x04,
     0x04,
     0x04,
+    // 0x70
     0x04,
     0x04,
     0x04,
@@ -166,6 +174,7 @@ const OPERATIONS: [u8; 256] = [
     0x04,
     0x04,
     0x04,
+    // 0x80
     0x04,
     0x04,
     0x04,
@@ -182,6 +191,7 @@ const OPERATIONS: [u8; 256] = [
     0x04,
     0x04,
     0x04,
+    // 0x90
     0x04,
     0x04,
     0x04,
@@ -198,6 +208,7 @@ const OPERATIONS: [u8; 256] = [
     0x04,
     0x04,
     0x04,
+    // 0xA0
     0x04,
     0x04,
     0x04,
@@ -214,6 +225,7 @@ const OPERATIONS: [u8; 256] = [
     0x04,
     0x04,
     0x04,
+    // 0xB0
     0x04,
     0x04,
     0x04,
@@ -230,6 +242,7 @@ const OPERATIONS: [u8; 256] = [
     0x04,
     0x04,
     0x04,
+    // 0xC0
     0x14,
     0x94,
     0xA4,
@@ -246,6 +259,7 @@ const OPERATIONS: [u8; 256] = [
     0x04,
     0x04,
     0x04,
+    // 0xD0
     0x31,
     0x32,
     0x34,
@@ -262,6 +276,7 @@ const OPERATIONS: [u8; 256] = [
     0x04,
     0x04,
     0x04,
+    // 0xE0
     0x39,
     0x3A,
     0x3C,
@@ -278,6 +293,7 @@ const OPERATIONS: [u8; 256] = [
     0x04,
     0x04,
     0x04,
+    // 0xF0
     0x44,
     0x52,
     0x04,
