@@ -19,3 +19,4 @@ pub mod CallLaws
 pub mod TurnLaws
 pub mod TickLaws
 pub mod Happened
+pub mod Resync

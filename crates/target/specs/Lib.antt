@@ -1,5 +1,6 @@
 pub mod Operations
 pub mod Bytes
+pub mod Resync
 pub mod Looked
 pub mod Asked
 pub mod AnsweredHeld
