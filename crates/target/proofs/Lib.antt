@@ -20,3 +20,4 @@ pub mod TurnLaws
 pub mod TickLaws
 pub mod Happened
 pub mod Resync
+pub mod Gates
