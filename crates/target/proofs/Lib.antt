@@ -21,3 +21,5 @@ pub mod TickLaws
 pub mod Happened
 pub mod Resync
 pub mod Gates
+pub mod House
+pub mod Demand3
