@@ -20,3 +20,6 @@ pub mod TurnLaws
 pub mod TickLaws
 pub mod Happened
 pub mod Resync
+pub mod Gates
+pub mod House
+pub mod Demand3

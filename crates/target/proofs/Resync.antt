@@ -34,11 +34,11 @@ pub resync-even : (m : Message) (s : Since) (hs : List Happening) (b : ℕ) → 
 resync-even m s hs b formed even e = settled-answered m s hs b formed (waits-odd (s .bytes) ∙ even) e
 
 -- the bytes since reset grow by those that came
-told-bytes : (ms : List Message) (s : Since) → told s ms .bytes ≡ s .bytes
+pub told-bytes : (ms : List Message) (s : Since) → told s ms .bytes ≡ s .bytes
 told-bytes [] s = refl
 told-bytes (m ∷ ms) s = refl
 
-bytes-after : (hs : List Happening) (s : Since) → afterAll s hs .bytes ≡ s .bytes ++ bytesOf hs
+pub bytes-after : (hs : List Happening) (s : Since) → afterAll s hs .bytes ≡ s .bytes ++ bytesOf hs
 bytes-after [] s = sym (append-nil (s .bytes))
 bytes-after (byte b ∷ hs) s =
     bytes-after hs (after s (byte b))

@@ -23,7 +23,7 @@ module _ (t : Target) (b : ℕ) (memory buffer : List ℕ) where
   abbrev pub nextOf : Target
   nextOf = withReceiver t (stepped (t .receiver) b .next)
 
-  by-event : (e : Event) → stepped (t .receiver) b .event ≡ e → turn t b memory buffer ≡ onEvent nextOf e memory buffer
+  pub by-event : (e : Event) → stepped (t .receiver) b .event ≡ e → turn t b memory buffer ≡ onEvent nextOf e memory buffer
   unfolding turn
   by-event e h = ap (λ (k : Event). onEvent nextOf k memory buffer) h
 

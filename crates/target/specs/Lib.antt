@@ -11,3 +11,5 @@ pub mod Answers
 pub mod Next
 pub mod Bounds
 pub mod Calls
+pub mod House
+pub mod Demand3
