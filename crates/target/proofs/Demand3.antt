@@ -1,11 +1,10 @@
 -- Demand 3: "After any bytes since reset, with an even (or no) run of 0x2B just before, a start byte and a well-formed stuffed
 -- message get exactly the answer, and leave the memory, scope and recorder, that a freshly reset link would give over these
 -- as they stand at the last byte. After an odd run, that holds for the next message sent directly behind."
-use mathlib.Core.Path.{_≡_, refl, sym, ap, subst, _∙_}
+use mathlib.Core.Path.{_≡_, sym, ap, subst, _∙_}
 use mathlib.Core.Bool.{true, false}
 use mathlib.Core.List.{List, [], _∷_, _++_, map, map-append, append-assoc}
-use Prim.Native.Nat.{ℕ, _<_}
-use lib.ListN.{getD}
+use Prim.Native.Nat.{ℕ}
 use Rattle.document.specs.Message.{Message, wellFormed, onWire}
 use Rattle.document.specs.Answer.{Answer}
 use Rattle.document.specs.Gate.{Gate, fresh as gate}
@@ -15,7 +14,6 @@ use Rattle.document.specs.Happenings.Happening.{byte}
 use Rattle.link.specs.Runs.{oddRun}
 use Rattle.link.specs.Demands.{EndIn}
 use Rattle.target.specs.Bytes.{bytesOf}
-use Rattle.target.specs.State.{gateOf}
 use Rattle.target.specs.Resync.{Resynchronised, ByHalf}
 use Rattle.target.specs.House.{House, served, servedAll, fromReset, replyOf}
 use Rattle.target.specs.Demand3.{AnsweredFresh, NothingByHalf}

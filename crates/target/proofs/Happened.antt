@@ -5,7 +5,6 @@ use mathlib.Core.Bool.{true, false}
 use mathlib.Core.List.{List, [], _∷_, _++_, append-assoc, append-nil}
 use Prim.Native.Nat.{ℕ}
 use Rattle.document.specs.Message.{Message, wellFormed, onWire, finishedBy}
-use Rattle.document.specs.Gate.{Gate}
 use Rattle.document.specs.Commands.{answered}
 use Rattle.document.specs.Happenings.{Happening, Since, told, after, afterAll}
 use Rattle.document.specs.Happenings.Happening.{byte, tick, writes}

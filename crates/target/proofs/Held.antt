@@ -1,15 +1,15 @@
 -- What is held of a message is enough for its answer.
 use mathlib.Core.Path.{_≡_, refl, sym, ap, _∙_}
-use mathlib.Core.Bool.{Bool, true, false, not, cond}
+use mathlib.Core.Bool.{true, false}
 use mathlib.Core.List.{List, []}
 use Prim.Native.Nat.{ℕ, _<_}
 use borrow.Author.Tests.{ltb-false}
-use lib.Dec.{eqb, ltb}
+use lib.Dec.{ltb}
 use lib.ListN.{length, take}
 use lib.Seq.{take-all}
 use Rattle.document.specs.Numbers.{sumWrong, messageTooLong}
 use Rattle.document.specs.Message.{Message, sumRight}
-use Rattle.document.specs.Gate.{Gate, Outcome, says}
+use Rattle.document.specs.Gate.{Gate, says}
 use Rattle.document.specs.Refusals.{refusal}
 use Rattle.document.specs.Commands.{answered}
 use Rattle.link.specs.Report.{held}

@@ -1,9 +1,8 @@
 -- Demand 2, over any happenings since reset: the target's answers, memory, scope and recorder are the definition's.
 use mathlib.Core.Path.{_≡_, refl, sym, ap, subst, _∙_}
-use mathlib.Core.Bool.{Bool, true, false, cond}
-use mathlib.Core.List.{List, [], _∷_, _++_, map, map-append, append-nil, append-assoc, foldl, foldl-append}
-use Prim.Native.Nat.{ℕ, suc, _+_, _<_}
-use native.Mathlib.Nat.{add-zero}
+use mathlib.Core.Bool.{true, false, cond}
+use mathlib.Core.List.{List, [], _∷_, _++_, map, map-append, append-nil, append-assoc, foldl-append}
+use Prim.Native.Nat.{ℕ, _+_, _<_}
 use native.Mathlib.Omega.{arith}
 use borrow.Author.Tests.{ne-eqb, ltb-true, ltb-false}
 use lib.Dec.{eqb, ltb}
@@ -13,7 +12,7 @@ use Rattle.document.specs.Message.{Message, onWire, finishedBy}
 use Rattle.document.specs.Answer.{Answer, answerOnWire}
 use Rattle.document.specs.Gate.{Gate, Outcome}
 use Rattle.document.specs.Stores.{stored}
-use Rattle.document.specs.Recorder.{Recorder, ticked, tickedMemory}
+use Rattle.document.specs.Recorder.{tickedMemory}
 use Rattle.document.specs.Commands.{answered, withMemory}
 use Rattle.document.specs.Gate.{fresh as gate}
 use Rattle.document.specs.Happenings.{Happening, Since, told, tickedGate, after, afterAll, fromReset as since}
@@ -24,7 +23,7 @@ use Rattle.link.specs.declared.Event.{Event}
 use Rattle.link.specs.declared.Event.the-variants.{Nothing, Keep, Whole, Refused}
 use Rattle.link.specs.Bounds as link
 use Rattle.link.specs.Step.{stepped, taken}
-use Rattle.link.specs.Report.{Held, held, Beside, bodyAfter, reportOf, onByte, sinceReset, reporting}
+use Rattle.link.specs.Report.{Held, held, Beside, bodyAfter, reportOf, onByte, sinceReset}
 use Rattle.link.specs.Demands.{EndIn}
 use Rattle.link.proofs.Sound.{taken-step}
 use Rattle.link.proofs.Reports.{reports, stays-sound}
@@ -33,13 +32,13 @@ use Rattle.recorder.specs.State.{recorderOf}
 use Rattle.recorder.proofs.Meanings.{ticked-means}
 use Rattle.target.specs.declared.state.Target.{Target}
 use Rattle.target.specs.State.{gateOf}
-use Rattle.target.specs.AnsweredHeld.{answeredHeld, instrumentsHeld}
-use Rattle.target.specs.Calls.{Turn, withReceiver, silent, keeping, heldBy, telling, onEvent, turn}
+use Rattle.target.specs.AnsweredHeld.{answeredHeld}
+use Rattle.target.specs.Calls.{Turn, silent, keeping, heldBy, telling, onEvent, turn}
 use Rattle.scope.specs.State.{scopeOf}
 use Rattle.line.proofs.Cases.{split}
 use Rattle.target.specs.Bytes.{bytesOf}
 use Rattle.target.proofs.Resync.{told-bytes}
-use Rattle.target.specs.House.{Reply, House, replied, turned, served, servedAll, fromReset, replyOf}
+use Rattle.target.specs.House.{Reply, House, turned, served, servedAll, fromReset, replyOf}
 use Rattle.target.proofs.Held.{answered-held}
 use Rattle.target.proofs.Gates.{held-kept}
 use Rattle.target.proofs.TurnLaws.{nextOf, by-event}

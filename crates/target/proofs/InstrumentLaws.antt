@@ -1,12 +1,12 @@
 -- What the scope and the recorder answer, case by case.
 use mathlib.Core.Path.{_≡_, refl, sym, ap, _∙_}
-use mathlib.Core.Bool.{Bool, true, false, cond}
+use mathlib.Core.Bool.{Bool, true, cond}
 use mathlib.Core.List.{List, [], _∷_, _++_}
 use Prim.Native.Nat.{ℕ}
 use native.Mathlib.Omega.{arith}
 use borrow.Author.Tests.{eqb-true, eq-eqb, ne-eqb}
 use lib.Dec.{eqb}
-use Rattle.document.specs.Numbers.{done, layoutWrong, sizeWrong, rangeWrong, notSetUp, isStatus}
+use Rattle.document.specs.Numbers.{done, layoutWrong, sizeWrong, rangeWrong, isStatus}
 use Rattle.document.specs.Areas.{calibrationEnd}
 use Rattle.document.specs.Values.{littleEndian}
 use Rattle.document.specs.Variables.{addressWidth}

@@ -1,17 +1,17 @@
 -- The operations that change scope or recorder, and all the others.
 use mathlib.Core.Path.{_≡_, refl, sym, ap, subst, _∙_}
-use mathlib.Core.Bool.{Bool, true, false, cond, _||_, or-false}
+use mathlib.Core.Bool.{Bool, true, false, _||_}
 use mathlib.Core.List.{List, [], _∷_}
 use Prim.Native.Nat.{ℕ, _<_}
-use borrow.Author.Tests.{eqb-true, ne-eqb}
+use borrow.Author.Tests.{ne-eqb}
 use lib.Dec.{eqb}
-use Rattle.document.specs.Numbers.{isIn, isStatus, done, layoutWrong, sizeWrong, rangeWrong, busy, recorderRuns, recorderStopped}
+use Rattle.document.specs.Numbers.{isIn, isStatus, done, layoutWrong, sizeWrong, rangeWrong, busy}
 use Rattle.document.specs.Fields.{isEx}
 use Rattle.document.specs.Gate.{Gate, Outcome, says}
 use Rattle.document.specs.Refusals.{Refusal, when, firstOf}
 use Rattle.document.specs.Scope.{scopeLayoutWrong, scopeSizeWrong, scopeRangeWrong, scopeSetUp}
 use Rattle.document.specs.Plan.{recorderLayoutWrong, recorderSizeWrong, recorderRangeWrong}
-use Rattle.document.specs.Recorder.{Recorder, isRunning, recorderSetUp, recorderStarted, recorderHalted}
+use Rattle.document.specs.Recorder.{Recorder, isRunning, recorderSetUp}
 use Rattle.document.specs.Commands.{withScope, withRecorder, start, stop}
 use Rattle.scope.specs.Setup as scope
 use Rattle.recorder.specs.Setup as recorder
@@ -22,7 +22,7 @@ use Rattle.target.specs.declared.answering.Instruments.{Instruments}
 use Rattle.target.specs.declared.operating.Responded.{Responded}
 use Rattle.target.specs.Operations.{unless, operated, settingUpRecorder, askRefusals}
 use Rattle.target.specs.Told.{Told}
-use Rattle.target.specs.Answers.{Leaves, Answers}
+use Rattle.target.specs.Answers.{Leaves}
 use Rattle.target.specs.Next.{instrumentsAfter, Responds}
 use Rattle.target.proofs.Table.{upto, same-rule}
 use Rattle.target.proofs.Telling.{told-as}

@@ -1,15 +1,12 @@
 -- A message whose sum and length are right is answered as its operation says.
-use mathlib.Core.Path.{_≡_, refl, ap, sym, _∙_}
-use mathlib.Core.Bool.{Bool, true, false, not, cond, _&&_, _||_, or-false, and-true}
-use mathlib.Core.List.{List, [], _∷_}
-use Prim.Native.Nat.{ℕ, zero, suc, _<_, _≤_}
+use mathlib.Core.Path.{_≡_, refl}
+use mathlib.Core.Bool.{true, false, or-false}
+use Prim.Native.Nat.{ℕ, zero, suc, _<_}
 use native.Mathlib.Omega.{arith}
-use lib.Dec.{eqb, ltb}
-use lib.ListN.{length, getD}
-use Rattle.document.specs.Kinds.{kindOf, isServed}
-use Rattle.document.specs.Fields.{reads, writesPlain, writesMasked, setsUpScope, setsUpRecorder, queriesBuffer, hasSize}
+use lib.Dec.{ltb}
+use lib.ListN.{length}
 use Rattle.document.specs.Message.{Message, sumRight}
-use Rattle.document.specs.Gate.{Gate, Outcome}
+use Rattle.document.specs.Gate.{Gate}
 use Rattle.document.specs.Refusals.{refusal}
 use Rattle.document.specs.Commands.{answered, carriedOut}
 use Rattle.target.specs.Operations.{operationOf, operated}

@@ -1,15 +1,14 @@
 -- What a read answers, case by case.
-use mathlib.Core.Path.{_≡_, refl, ap, _∙_}
-use mathlib.Core.Bool.{Bool, true, false, not, cond}
+use mathlib.Core.Path.{_≡_, refl, _∙_}
+use mathlib.Core.Bool.{true, false, not}
 use mathlib.Core.List.{List, [], _∷_}
 use Prim.Native.Nat.{ℕ, _≤_, _<_}
 use borrow.Author.Tests.{ne-eqb, eq-eqb, lt-ltb, le-ltb}
-use lib.Dec.{eqb, ltb}
+use lib.Dec.{ltb}
 use Rattle.document.specs.Numbers.{done, answerTooLong, rangeWrong}
-use Rattle.document.specs.Areas.{mayBeRead, bytesAt}
-use Rattle.document.specs.Answer.{Answer}
+use Rattle.document.specs.Areas.{mayBeRead}
 use Rattle.document.specs.Fields.{sizeField, addressField}
-use Rattle.document.specs.Gate.{Gate, Outcome, says}
+use Rattle.document.specs.Gate.{Gate, says}
 use Rattle.document.specs.Refusals.{Refusal, when}
 use Rattle.document.specs.Commands.{readAnswer}
 use Rattle.target.specs.Operations.{unless, reading, blockStatus}

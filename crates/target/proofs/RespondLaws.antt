@@ -1,12 +1,10 @@
 -- A whole message, from what is held of it.
-use mathlib.Core.Path.{_≡_, refl, sym, ap, subst, _∙_}
-use mathlib.Core.Bool.{Bool, true, false, cond, not}
-use mathlib.Core.List.{List, []}
+use mathlib.Core.Path.{_≡_, ap, subst, _∙_}
+use mathlib.Core.List.{List}
 use Prim.Native.Nat.{ℕ, _<_, _≤_}
 use borrow.Author.Tests.{eq-eqb, ne-eqb, lt-ltb, le-ltb}
-use lib.Dec.{eqb, ltb}
 use Rattle.document.specs.Numbers.{sumWrong, messageTooLong}
-use Rattle.document.specs.Gate.{Gate, Outcome}
+use Rattle.document.specs.Gate.{Gate}
 use Rattle.link.specs.Report.{Held}
 use Rattle.target.specs.declared.operation.Operation.{Operation}
 use Rattle.target.specs.declared.answering.Instruments.{Instruments}

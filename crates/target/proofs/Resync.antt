@@ -1,11 +1,10 @@
 -- Demand 3 of the definition: resynchronising after even and odd runs of 0x2B, and nothing by half.
-use mathlib.Core.Path.{_≡_, refl, sym, ap, subst, _∙_}
+use mathlib.Core.Path.{_≡_, refl, sym, ap, _∙_}
 use mathlib.Core.Bool.{true, false}
 use mathlib.Core.List.{List, [], _∷_, _++_, append-assoc, append-nil}
 use Prim.Native.Nat.{ℕ, _<_}
 use lib.ListN.{getD}
 use Rattle.document.specs.Message.{Message, wellFormed, onWire, finishedBy}
-use Rattle.document.specs.Commands.{answered}
 use Rattle.document.specs.Happenings.{Happening, Since, told, after, afterAll}
 use Rattle.document.specs.Happenings.Happening.{byte, tick, writes}
 use Rattle.link.specs.Runs.{oddRun}

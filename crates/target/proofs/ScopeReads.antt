@@ -1,20 +1,18 @@
 -- A reading of the scope, answered.
-use mathlib.Core.Path.{_≡_, refl, sym, ap, _∙_}
-use mathlib.Core.Bool.{Bool, true, false, cond, not}
-use mathlib.Core.List.{List, [], _∷_, _++_}
+use mathlib.Core.Path.{_≡_, refl, ap, _∙_}
+use mathlib.Core.Bool.{true, false, cond}
+use mathlib.Core.List.{List, [], _∷_}
 use Prim.Native.Nat.{ℕ, _+_, _≤_}
-use native.Mathlib.Nat.{zero-add}
 use native.Mathlib.Omega.{arith}
 use borrow.Author.Tests.{eq-eqb, ne-eqb, le-ltb, ltb-false}
-use lib.Dec.{eqb, ltb}
+use lib.Dec.{eqb}
 use lib.ListN.{length, take, drop, length-append, length-take}
 use lib.Seq.{sets, sets-eq, take-append-seam}
 use Rattle.document.specs.Numbers.{done, taken, notSetUp, answerTooLong, isStatus}
-use Rattle.document.specs.Areas.{memoryEnd, mayBeRead}
+use Rattle.document.specs.Areas.{memoryEnd}
 use Rattle.document.specs.declared.Variable.{Variable}
 use Rattle.document.specs.Variables.{setSize, valuesOf}
 use Rattle.document.specs.Scope.{scopeAbsent, scopeTooLong, scopeRead, scopeVariables}
-use Rattle.document.specs.Answer.{Answer}
 use Rattle.document.specs.Gate.{Gate}
 use Rattle.scope.specs.declared.Scope.{Scope}
 use Rattle.scope.specs.State.{scopeOf, sound}

@@ -1,6 +1,6 @@
 -- The bounds of the whole state, part by part.
-use mathlib.Core.Path.{_≡_, refl, sym, _∙_}
-use mathlib.Core.Bool.{Bool, true, false, _&&_}
+use mathlib.Core.Path.{_≡_, refl, sym}
+use mathlib.Core.Bool.{true, false, _&&_}
 use Rattle.link.specs.Bounds as link
 use Rattle.scope.specs.State as scope
 use Rattle.recorder.specs.Bounds as recorder

@@ -1,10 +1,9 @@
 -- An answer that can be formed, in a buffer of 132 bytes, is told.
 use mathlib.Core.Path.{_≡_, refl, ap, subst, _∙_}
-use mathlib.Core.Bool.{true, false, and-false}
+use mathlib.Core.Bool.{true, and-false}
 use mathlib.Core.List.{List, []}
 use Prim.Native.Nat.{ℕ, _≤_}
 use borrow.Author.Tests.{le-ltb}
-use lib.Dec.{eqb}
 use lib.ListN.{length}
 use Rattle.document.specs.Numbers.{isStatus, isError, taken}
 use Rattle.document.specs.Answer.{Answer}

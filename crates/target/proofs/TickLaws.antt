@@ -1,10 +1,8 @@
 -- The two calls, refused and taken.
-use mathlib.Core.Path.{_≡_, refl, sym, ap, _∙_}
-use mathlib.Core.Bool.{cond}
+use mathlib.Core.Path.{_≡_, refl, _∙_}
 use mathlib.Core.List.{List}
 use Prim.Native.Nat.{ℕ}
 use borrow.Author.Tests.{eq-eqb, ne-eqb}
-use lib.Dec.{eqb}
 use Rattle.document.specs.Numbers.{taken}
 use Rattle.document.specs.Calls.{byteRefusal, tickRefusal}
 use Rattle.recorder.specs.declared.state.Recorder.{Recorder}

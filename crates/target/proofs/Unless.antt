@@ -1,13 +1,12 @@
 -- Refusals, one after the other: what is said when the first part of a list applies, and what when it does not.
 use mathlib.Core.Path.{_≡_, refl}
-use mathlib.Core.Bool.{Bool, true, false, cond}
+use mathlib.Core.Bool.{true, cond}
 use mathlib.Core.List.{List, [], _∷_}
 use Prim.Native.Nat.{ℕ}
-use borrow.Author.Tests.{ne-eqb, eq-eqb}
 use lib.Dec.{eqb}
 use Rattle.document.specs.Numbers.{done, layoutWrong, sizeWrong, isStatus}
 use Rattle.document.specs.Gate.{Gate, Outcome, says}
-use Rattle.document.specs.Refusals.{Refusal, when, firstOf}
+use Rattle.document.specs.Refusals.{Refusal, when}
 use Rattle.line.proofs.Cases.{split}
 use Rattle.target.specs.Operations.{unless, blockWrong, blockEmpty, blockStatus}
 

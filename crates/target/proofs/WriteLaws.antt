@@ -1,10 +1,9 @@
 -- What a write answers and leaves, case by case.
 use mathlib.Core.Path.{_≡_, refl, sym, ap, _∙_}
-use mathlib.Core.Bool.{Bool, true, false, not, cond}
+use mathlib.Core.Bool.{true, false, not}
 use mathlib.Core.List.{List, [], _∷_}
 use Prim.Native.Nat.{ℕ}
 use borrow.Author.Tests.{ne-eqb, eq-eqb}
-use lib.Dec.{eqb}
 use Rattle.document.specs.Numbers.{done, rangeWrong}
 use lib.ListN.{length}
 use Rattle.document.specs.Areas.{mayBeWritten, memoryEnd}

@@ -1,7 +1,6 @@
 -- The answer to what a receiver holds of a message, by its sum, its length, and the first 64 data bytes.
 use mathlib.Core.Bool.{cond, not}
 use mathlib.Core.List.{[]}
-use Prim.Native.Nat.{ℕ}
 use lib.Dec.{eqb, ltb}
 use Rattle.document.specs.Numbers.{sumWrong, messageTooLong}
 use Rattle.document.specs.Gate.{Gate, Outcome, says}

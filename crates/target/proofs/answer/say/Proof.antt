@@ -1,5 +1,4 @@
 -- A status alone can be formed.
-use native.Mathlib.Omega.{arith}
 use Rattle.target.proofs.Telling.{status-formed}
 use borrow.Author.Needs.{needs}
 use Rattle.target.proofs.answer.say.Statement.{statement}

@@ -1,5 +1,4 @@
 -- The answer writer refuses nothing here.
-use native.Mathlib.Omega.{arith}
 use Rattle.target.proofs.Telling.{told-written}
 use borrow.Author.Needs.{needs}
 use Rattle.target.proofs.answer.tell.Statement.{statement}

@@ -9,7 +9,6 @@ use Rattle.target.proofs.InstrumentLaws.{alone, statuses}
 use Rattle.target.specs.State.{gateOf}
 use Rattle.document.specs.Numbers.{isStatus}
 use mathlib.Core.Path.{refl, ap, _∙_}
-use native.Mathlib.Omega.{arith}
 use borrow.Author.Needs.{needs}
 use Rattle.target.proofs.answering.answer.Statement.{statement}
 use Rattle.target.proofs.answering.answer.Tie as tie

@@ -2,7 +2,6 @@
 use mathlib.Core.Path.{_∙_}
 use Prim.Native.Nat.{_+_, _*_}
 use Rattle.target.proofs.BlockLaws.{length-read, length-write, length-mask}
-use native.Mathlib.Omega.{arith}
 use borrow.Author.Needs.{needs}
 use Rattle.target.proofs.fields.block_length.Statement.{statement}
 use Rattle.target.proofs.fields.block_length.Tie as tie

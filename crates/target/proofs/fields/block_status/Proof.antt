@@ -1,7 +1,6 @@
 -- Each return is a case of the definition.
 use mathlib.Core.Path.{sym, _∙_}
 use Rattle.target.proofs.BlockLaws.{status-own, status-layout, status-size, status-right}
-use native.Mathlib.Omega.{arith}
 use borrow.Author.Needs.{needs}
 use Rattle.target.proofs.fields.block_status.Statement.{statement}
 use Rattle.target.proofs.fields.block_status.Tie as tie

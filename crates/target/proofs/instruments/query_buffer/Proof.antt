@@ -4,7 +4,6 @@ use Rattle.target.proofs.Telling.{told-as}
 use Rattle.recorder.specs.Calls.{queryStatus, indexOf}
 use Rattle.recorder.specs.State.{recorderOf}
 use Rattle.document.specs.Recorder.{Recorder, bufferAnswer}
-use Rattle.document.specs.Answer.{Answer}
 use Rattle.document.specs.Variables.{addressWidth}
 use Rattle.document.specs.Values.{littleEndian}
 use Rattle.document.specs.Areas.{calibrationEnd}
@@ -13,7 +12,6 @@ use borrow.Author.Tests.{eq-eqb}
 use Prim.Native.Nat.{ℕ}
 use mathlib.Core.List.{List, _++_}
 use mathlib.Core.Path.{_≡_, refl, sym, ap, _∙_}
-use native.Mathlib.Omega.{arith}
 use borrow.Author.Needs.{needs}
 use Rattle.target.proofs.instruments.query_buffer.Statement.{statement}
 use Rattle.target.proofs.instruments.query_buffer.Tie as tie

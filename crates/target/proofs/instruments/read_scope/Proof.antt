@@ -3,14 +3,14 @@ use lib.Seq.{length-sets, length-take-le}
 use Rattle.target.proofs.ScopeReads.{scope-status, reading-refused, reading-told, status-is, bytes-are, bytes-few, put-front}
 use Rattle.target.proofs.InstrumentLaws.{alone}
 use Rattle.target.proofs.Telling.{data-formed, told-as}
-use Rattle.scope.specs.Read.{scopeStatus, readBytes}
+use Rattle.scope.specs.Read.{readBytes}
 use Rattle.scope.specs.State.{scopeOf}
 use Rattle.document.specs.Scope.{scopeRead}
 use Rattle.document.specs.Numbers.{done, isStatus}
 use lib.ListN.{length, take, replicate, length-take}
 use Prim.Native.Nat.{ℕ}
 use mathlib.Core.List.{List}
-use mathlib.Core.Path.{_≡_, refl, sym, ap, _∙_}
+use mathlib.Core.Path.{_≡_, sym, ap, _∙_}
 use native.Mathlib.Omega.{arith}
 use borrow.Author.Needs.{needs}
 use Rattle.target.proofs.instruments.read_scope.Statement.{statement}

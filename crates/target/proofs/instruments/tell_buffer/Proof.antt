@@ -5,7 +5,6 @@ use Rattle.document.specs.Values.{littleEndian}
 use Rattle.document.specs.Areas.{calibrationEnd}
 use mathlib.Core.List.{_++_}
 use mathlib.Core.Path.{sym}
-use native.Mathlib.Omega.{arith}
 use borrow.Author.Needs.{needs}
 use Rattle.target.proofs.instruments.tell_buffer.Statement.{statement}
 use Rattle.target.proofs.instruments.tell_buffer.Tie as tie

@@ -9,7 +9,7 @@ use Rattle.recorder.specs.Setup as recorder
 use Rattle.scope.specs.Setup as scope
 use Rattle.document.specs.Numbers.{isStatus}
 use mathlib.Core.Bool.{Bool}
-use mathlib.Core.Path.{_≡_, refl, sym, ap, _∙_}
+use mathlib.Core.Path.{refl, ap, _∙_}
 use native.Mathlib.Omega.{arith}
 use borrow.Author.Needs.{needs}
 use Rattle.target.proofs.operating.operate.Statement.{statement}

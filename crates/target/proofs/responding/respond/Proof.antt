@@ -5,8 +5,7 @@ use Rattle.document.specs.Message.{lengthFits}
 use lib.Seq.{length-take-le}
 use lib.ListN.{length, take}
 use Prim.Native.Nat.{ℕ}
-use mathlib.Core.Bool.{true}
-use mathlib.Core.Path.{_≡_, refl, sym, ap, _∙_}
+use mathlib.Core.Path.{refl, sym, ap, _∙_}
 use native.Mathlib.Omega.{arith}
 use borrow.Author.Needs.{needs}
 use Rattle.target.proofs.responding.respond.Statement.{statement}

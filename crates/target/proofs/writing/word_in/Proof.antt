@@ -3,7 +3,6 @@ use Rattle.target.proofs.Words.{bytes-of-number}
 use Rattle.document.specs.Values.{littleEndian}
 use Prim.Native.Nat.{ℕ, _*_, _^_, _<_}
 use mathlib.Core.Path.{sym, subst, _∙_}
-use native.Mathlib.Omega.{arith}
 use borrow.Author.Needs.{needs}
 use Rattle.target.proofs.writing.word_in.Statement.{statement}
 use Rattle.target.proofs.writing.word_in.Tie as tie

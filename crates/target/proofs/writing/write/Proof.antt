@@ -3,11 +3,10 @@ use Rattle.document.specs.Stores.{stored}
 use Rattle.target.proofs.WriteLaws.{write-block, wrote-stored}
 use Rattle.target.proofs.BlockLaws.{write-fits}
 use Rattle.document.specs.Commands.{written}
-use Rattle.document.specs.Fields.{sizeField, dataPlace}
+use Rattle.document.specs.Fields.{sizeField}
 use Rattle.document.specs.Gate.{Outcome}
-use lib.Seq.{sets}
 use lib.ListN.{length, take, drop, length-take, length-drop}
-use Prim.Native.Nat.{ℕ, _+_, _-_}
+use Prim.Native.Nat.{_+_, _-_}
 use mathlib.Core.List.{[]}
 use mathlib.Core.Path.{_≡_, refl, sym, ap, _∙_}
 use native.Mathlib.Omega.{arith}

@@ -3,12 +3,12 @@ use Rattle.target.proofs.WriteLaws.{write-block, wrote-stored}
 use Rattle.target.proofs.BlockLaws.{mask-fits}
 use Rattle.target.proofs.FieldLaws.{size-own}
 use Rattle.document.specs.Commands.{writtenMasked}
-use Rattle.document.specs.Fields.{sizeField, dataPlace, dataField, maskField}
+use Rattle.document.specs.Fields.{sizeField, dataField, maskField}
 use Rattle.document.specs.Gate.{Outcome}
 use Rattle.document.specs.Stores.{maskStored}
 use Rattle.document.specs.Values.{littleEndian}
 use lib.ListN.{length, take, drop, length-take, length-drop}
-use Prim.Native.Nat.{ℕ, _+_, _-_}
+use Prim.Native.Nat.{_+_, _-_}
 use mathlib.Core.List.{[]}
 use mathlib.Core.Path.{_≡_, refl, sym, ap, _∙_}
 use native.Mathlib.Omega.{arith}

@@ -1,5 +1,4 @@
 -- What the response promises, in the state.
-use native.Mathlib.Omega.{arith}
 use borrow.Author.Needs.{needs}
 use Rattle.target.proofs.state.Target.answer.Statement.{statement}
 use Rattle.target.proofs.state.Target.answer.Tie as tie

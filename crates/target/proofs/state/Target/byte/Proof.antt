@@ -3,7 +3,6 @@ use Rattle.target.proofs.TickLaws.{byte-refused, byte-taken}
 use Rattle.target.proofs.CallLaws.{byte-known}
 use Rattle.target.specs.Bounds.{sound}
 use mathlib.Core.Path.{sym, _∙_}
-use native.Mathlib.Omega.{arith}
 use borrow.Author.Needs.{needs}
 use Rattle.target.proofs.state.Target.byte.Statement.{statement}
 use Rattle.target.proofs.state.Target.byte.Tie as tie

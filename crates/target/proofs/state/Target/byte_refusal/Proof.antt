@@ -2,7 +2,6 @@
 use Rattle.target.proofs.CallLaws.{as-tick, short, byte-fine}
 use Rattle.target.specs.Bounds.{sound}
 use mathlib.Core.Path.{sym, _∙_}
-use native.Mathlib.Omega.{arith}
 use borrow.Author.Needs.{needs}
 use Rattle.target.proofs.state.Target.byte_refusal.Statement.{statement}
 use Rattle.target.proofs.state.Target.byte_refusal.Tie as tie

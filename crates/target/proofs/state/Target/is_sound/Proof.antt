@@ -2,7 +2,6 @@
 use Rattle.target.proofs.TargetBounds.{receiver-outside, scope-outside, recorder-decides}
 use borrow.Author.Tests.{not-true, not-false}
 use mathlib.Core.Path.{sym, _∙_}
-use native.Mathlib.Omega.{arith}
 use borrow.Author.Needs.{needs}
 use Rattle.target.proofs.state.Target.is_sound.Statement.{statement}
 use Rattle.target.proofs.state.Target.is_sound.Tie as tie

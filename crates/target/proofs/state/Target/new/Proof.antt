@@ -1,6 +1,5 @@
 -- Each part as its own reset gives it.
 use lib.ListN.{replicate}
-use native.Mathlib.Omega.{arith}
 use borrow.Author.Needs.{needs}
 use Rattle.target.proofs.state.Target.new.Statement.{statement}
 use Rattle.target.proofs.state.Target.new.Tie as tie

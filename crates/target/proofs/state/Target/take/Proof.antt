@@ -1,15 +1,14 @@
 -- By the event that the receiver makes of the byte.
-use mathlib.Core.Path.{_≡_, sym, ap, subst, _∙_}
+use mathlib.Core.Path.{sym, ap, subst, _∙_}
 use Rattle.target.specs.AnsweredHeld.{answeredHeld}
 use Rattle.target.specs.State.{gateOf}
-use Rattle.target.specs.Calls.{withReceiver, keeping, heldBy, telling, TurnTaken}
+use Rattle.target.specs.Calls.{withReceiver, heldBy, telling, TurnTaken}
 use Rattle.target.proofs.TurnLaws.{nothing-taken, refused-taken, keep-taken, whole-taken, fits}
 use Rattle.target.proofs.TargetBounds.{parts-of}
 use Rattle.link.proofs.Lengths.{whole-fits}
 use Rattle.link.proofs.Places.{kept-in-body}
 use Rattle.link.specs.declared.Taken.{Taken as StepTaken}
 use lib.ListN.{set}
-use Prim.Native.Nat.{ℕ}
 use native.Mathlib.Omega.{arith}
 use borrow.Author.Needs.{needs}
 use Rattle.target.proofs.state.Target.take.Statement.{statement}

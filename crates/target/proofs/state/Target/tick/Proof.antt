@@ -3,11 +3,7 @@ use Rattle.target.proofs.TickLaws.{tick-refused, tick-taken}
 use Rattle.target.proofs.TargetBounds.{parts-of}
 use Rattle.target.proofs.CallLaws.{tick-known}
 use Rattle.target.specs.Bounds.{sound}
-use Rattle.document.specs.Calls.{tickRefusal}
-use Rattle.document.specs.Numbers.{taken}
-use borrow.Author.Tests.{eq-eqb, ne-eqb}
-use mathlib.Core.Path.{_≡_, refl, sym, ap, _∙_}
-use native.Mathlib.Omega.{arith}
+use mathlib.Core.Path.{sym, _∙_}
 use borrow.Author.Needs.{needs}
 use Rattle.target.proofs.state.Target.tick.Statement.{statement}
 use Rattle.target.proofs.state.Target.tick.Tie as tie

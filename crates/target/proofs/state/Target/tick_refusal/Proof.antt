@@ -3,7 +3,6 @@ use Rattle.target.proofs.CallLaws.{outside, other-length, none-refused}
 use Rattle.target.specs.Bounds.{sound}
 use borrow.Author.Tests.{not-true, not-false}
 use mathlib.Core.Path.{sym, _∙_}
-use native.Mathlib.Omega.{arith}
 use borrow.Author.Needs.{needs}
 use Rattle.target.proofs.state.Target.tick_refusal.Statement.{statement}
 use Rattle.target.proofs.state.Target.tick_refusal.Tie as tie
