@@ -13,3 +13,4 @@ pub mod Half
 pub mod Stuffed
 pub mod Writing
 pub mod Statuses
+pub mod Left

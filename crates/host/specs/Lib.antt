@@ -1,0 +1,5 @@
+-- What the calls of the other end promise, with the definitions of the document.
+pub mod CommandWritten
+pub mod Reader
+pub mod Promises
+pub mod Calls

@@ -1,0 +1,76 @@
+// The writer of command messages, into just the room that a message takes.
+ghost use mathlib.Core.Path.{_≡_};
+ghost use Prim.Native.Nat.{_+_, _≤_};
+ghost use lib.ListN.{length};
+ghost use Rattle.document.specs.Doubling.{stuffed};
+ghost use Rattle.document.specs.Message.{lengthPart, summed, wellFormed};
+ghost use Rattle.line.specs.Put.{Put};
+ghost use Rattle.host.specs.CommandWritten.{CommandWritten};
+use crate::measure::FAST;
+use crate::measure::wire_length;
+use line::Written;
+use line::doubling::PLUS;
+use line::doubling::Progress;
+use line::doubling::put;
+use line::doubling::put_all;
+use line::doubling::put_sum;
+use line::numbers::FORM_REFUSED;
+use line::numbers::ROOM_REFUSED;
+use line::numbers::TAKEN;
+
+// Whether the message can be formed: a command that is no start byte, and as many data as it takes.
+fn is_formed(command: u8, body: &[u8]) -> bool
+    ensures { λ r. ⌜ r ≡ wellFormed (summed command (now (body .entry))) ⌝ }
+{
+    if command == PLUS {
+        return false;
+    }
+    if command < FAST {
+        return body.len() <= 255;
+    }
+    body.len() == (command / 16 % 4 * 2) as usize
+}
+
+// A standard command has a length byte.
+fn put_length(from: Progress, command: u8, body: &[u8], out: &mut [u8]) -> Progress
+    requires { ⌜ (length (now body) ≤ 255) × (from .at + length (stuffed (lengthPart command (now body))) ≤ length (now out)) ⌝ }
+    ensures { λ r. ⌜ Put from (lengthPart command (now (body .entry))) (now (out .entry)) r (now (out .exit)) ⌝ }
+{
+    if command < FAST {
+        return put(from, body.len() as u8, out);
+    }
+    from
+}
+
+pub fn write_command(command: u8, body: &[u8], out: &mut [u8]) -> Written
+    ensures { λ r. ⌜ CommandWritten command (now (body .entry)) (now (out .entry)) r (now (out .exit)) ⌝ }
+{
+    let formed = is_formed(command, body);
+    if !formed {
+        return Written {
+            refusal: FORM_REFUSED,
+            length: 0,
+        };
+    }
+    let needed = wire_length(command, body);
+    let short = out.len() < needed;
+    if short {
+        return Written {
+            refusal: ROOM_REFUSED,
+            length: 0,
+        };
+    }
+    out[0] = PLUS;
+    out[1] = command;
+    let front = Progress {
+        at: 2,
+        sum: command,
+    };
+    let before = put_length(front, command, body, out);
+    let behind = put_all(before, body, out);
+    let end = put_sum(behind, out);
+    Written {
+        refusal: TAKEN,
+        length: end,
+    }
+}
