@@ -1,5 +1,5 @@
 -- What a word says: a byte in hex, or a decimal number of up to 64 bits.
-use mathlib.Core.Bool.{Bool, true, false, cond}
+use mathlib.Core.Bool.{cond}
 use mathlib.Core.List.{List, [], _∷_}
 use Prim.Native.Nat.{ℕ, _+_, _-_, _*_, _^_}
 use lib.Dec.{ltb, eqb}

@@ -1,6 +1,6 @@
 -- The operands of a line: what the word at a place says, and where the next may begin.
 use mathlib.Core.List.{List}
-use Prim.Native.Nat.{ℕ, _≤_}
+use Prim.Native.Nat.{ℕ}
 use Rattle.script.specs.Words.{wordOf, wordEnd}
 use Rattle.script.specs.Numbers.{hexOf, decimalOf}
 use Rattle.script.specs.declared.numbers.Byte.{Byte}
@@ -9,8 +9,6 @@ use Rattle.script.specs.declared.numbers.Number.{Number}
 use Rattle.script.specs.declared.numbers.Number.the-variants as Number
 use Rattle.script.specs.declared.operands.ByteRead.{ByteRead}
 use Rattle.script.specs.declared.operands.ByteRead.the-variants as ByteRead
-use Rattle.script.specs.declared.operands.BytesRead.{BytesRead}
-use Rattle.script.specs.declared.operands.BytesRead.the-variants as BytesRead
 use Rattle.script.specs.declared.operands.NumberRead.{NumberRead}
 use Rattle.script.specs.declared.operands.NumberRead.the-variants as NumberRead
 
@@ -27,8 +25,3 @@ byteAt line from = byteThen (hexOf (wordOf line from)) (wordEnd line from)
 
 abbrev pub numberAt : List ℕ → ℕ → NumberRead
 numberAt line from = numberThen (decimalOf (wordOf line from)) (wordEnd line from)
-
--- so many bytes, no more than there was room for
-abbrev pub countWithin : BytesRead → ℕ → Type 0
-countWithin (BytesRead.Are count) room = count ≤ room
-countWithin BytesRead.No room = Unit {0}

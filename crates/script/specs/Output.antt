@@ -1,5 +1,5 @@
 -- Where a byte of the output goes, and which characters a byte in hex is.
-use mathlib.Core.Bool.{Bool, true, false, cond}
+use mathlib.Core.Bool.{cond}
 use Prim.Native.Nat.{ℕ, _+_}
 use lib.Dec.{ltb}
 

@@ -3,7 +3,7 @@ ghost use mathlib.Core.Path.{_≡_};
 ghost use mathlib.Core.Bool.{true};
 ghost use Prim.Native.Nat.{_≤_, _<_};
 ghost use lib.ListN.{length};
-ghost use Rattle.script.specs.Operands.{byteAt, numberAt, countWithin};
+ghost use Rattle.script.specs.Operands.{byteAt, numberAt};
 use crate::numbers::Byte;
 use crate::numbers::Number;
 use crate::numbers::decimal;
@@ -21,10 +21,10 @@ pub enum NumberRead {
     No,
 }
 
-// How many bytes the rest of a line holds, where every word of it is one.
-pub enum BytesRead {
-    Are(usize),
-    No,
+// Whether every word of the rest of a line is a byte, and how many bytes were kept.
+pub struct BytesRead {
+    pub all: bool,
+    pub count: usize,
 }
 
 pub fn read_byte(line: &[u8], from: usize) -> ByteRead
@@ -75,7 +75,7 @@ fn keep_byte(text: &[u8], out: &mut [u8], at: usize) -> bool
 
 // Every word from a place on, as bytes.
 pub fn read_bytes(line: &[u8], from: usize, out: &mut [u8]) -> BytesRead
-    ensures { λ r. ⌜ countWithin r (length (now (out .entry))) ⌝ }
+    ensures { λ r. ⌜ r .count ≤ length (now (out .exit)) ⌝ }
 {
     let first = word_at(line, from);
     let mut start = first.start;
@@ -83,12 +83,18 @@ pub fn read_bytes(line: &[u8], from: usize, out: &mut [u8]) -> BytesRead
     let mut count = 0;
     while start < end {
         if !keep_byte(&line[start..end], out, count) {
-            return BytesRead::No;
+            return BytesRead {
+                all: false,
+                count: 0,
+            };
         }
         count += 1;
         let next = word_at(line, end);
         start = next.start;
         end = next.end;
     }
-    BytesRead::Are(count)
+    BytesRead {
+        all: true,
+        count: count,
+    }
 }

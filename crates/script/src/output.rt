@@ -3,13 +3,14 @@ ghost use mathlib.Core.Path.{_≡_};
 ghost use Prim.Native.Nat.{_+_, _<_};
 ghost use lib.ListN.{set};
 ghost use Rattle.script.specs.Output.{placeOf, glyphOf};
+use libc::STDERR_FILENO;
 use libc::STDOUT_FILENO;
 
 pub const ROOM: usize = 65536;
 
-fn write_front(bytes: &[u8], count: usize) {
+fn write_front(descriptor: i32, bytes: &[u8], count: usize) {
     if count <= bytes.len() {
-        io::write_all(STDOUT_FILENO, &bytes[..count]);
+        io::write_all(descriptor, &bytes[0..count]);
     }
 }
 
@@ -17,8 +18,13 @@ fn write_front(bytes: &[u8], count: usize) {
 pub fn flush(out: &[u8; 65536], at: usize) -> usize
     ensures { λ r. ⌜ r ≡ 0 ⌝ }
 {
-    write_front(out, at);
+    write_front(STDOUT_FILENO, out, at);
     0
+}
+
+// The same for what is wrong.
+pub fn flush_error(out: &[u8; 65536], at: usize) {
+    write_front(STDERR_FILENO, out, at);
 }
 
 pub fn put(byte: u8, out: &mut [u8; 65536], at: usize) -> usize
@@ -72,4 +78,12 @@ pub fn put_bytes(bytes: &[u8], out: &mut [u8; 65536], from: usize) -> usize {
         i += 1;
     }
     at
+}
+
+// A number of four bytes in hex, the highest byte first.
+pub fn put_word(value: u32, out: &mut [u8; 65536], from: usize) -> usize {
+    let third = put_hex((value / 16777216) as u8, out, from);
+    let second = put_hex((value / 65536 % 256) as u8, out, third);
+    let first = put_hex((value / 256 % 256) as u8, out, second);
+    put_hex((value % 256) as u8, out, first)
 }

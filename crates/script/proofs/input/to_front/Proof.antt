@@ -1,9 +1,8 @@
 -- Each store keeps the length.
 use mathlib.Core.Path.{_≡_}
 use Prim.Native.Nat.{_-_, _≤_}
-use native.Mathlib.Omega.{arith}
 use borrow.Author.Needs.{needs}
-use lib.ListN.{length, length-set}
+use lib.ListN.{length}
 use Rattle.script.proofs.input.to_front.Statement.{statement}
 use Rattle.script.proofs.input.to_front.Tie as tie
 

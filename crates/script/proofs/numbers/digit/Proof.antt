@@ -1,5 +1,4 @@
 -- Each test that was passed by or taken is one of the definition.
-use native.Mathlib.Omega.{arith}
 use borrow.Author.Needs.{needs}
 use borrow.Author.Tests.{lt-ltb, le-ltb}
 use Rattle.script.proofs.numbers.digit.Statement.{statement}

@@ -1,6 +1,5 @@
 -- Nothing has to hold from turn to turn but the place within the text.
 use Prim.Native.Nat.{_-_, _≤_}
-use native.Mathlib.Omega.{arith}
 use borrow.Author.Needs.{needs}
 use lib.ListN.{length}
 use Rattle.script.proofs.output.put_text.Statement.{statement}
