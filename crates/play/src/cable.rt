@@ -1,7 +1,7 @@
 // The lines of the other end of the cable: the writers of commands and answers, and the reader of answers.
 ghost use mathlib.Core.Path.{_≡_};
 ghost use Prim.Native.Nat.{_≤_};
-ghost use lib.ListN.{length, replicate};
+ghost use lib.ListN.{length};
 use crate::complaint::BYTE;
 use crate::complaint::NONE;
 use crate::complaint::NUMBER;
@@ -12,6 +12,7 @@ use crate::play::Play;
 use crate::span::span_of;
 use host::Event;
 use line::Written;
+use script::buffer::fill;
 use script::operands::ByteRead;
 use script::operands::NumberRead;
 use script::operands::read_byte;
@@ -27,16 +28,6 @@ use script::words::is_over;
 // Every lent buffer is filled so before a call, so that what a call leaves can be seen.
 const FILLING: u8 = 0xEE;
 
-fn fill(lent: &mut [u8])
-    ensures { λ _. ⌜ now (lent .exit) ≡ replicate (length (now (lent .entry))) 0xEE ⌝ }
-{
-    let mut i = 0;
-    while i < lent.len() {
-        lent[i] = FILLING;
-        i += 1;
-    }
-}
-
 // What a writer did, and the whole lent buffer.
 fn put_writing(
     letter: u8,
@@ -46,7 +37,7 @@ fn put_writing(
     out: &mut [u8; 65536],
     at: usize,
 ) -> usize {
-    fill(lent);
+    fill(lent, FILLING);
     let written = written(letter, value, body, lent);
     let named = put(letter, out, at);
     let parted = put(b' ', out, named);
@@ -191,7 +182,7 @@ fn read_all(play: Play, bytes: &[u8], lent: &mut [u8], out: &mut [u8; 65536]) ->
     let mut at = play.at;
     let mut i = 0;
     while i < bytes.len() {
-        fill(lent);
+        fill(lent, FILLING);
         let read = reader.read(bytes[i], lent);
         reader = read.next;
         let event = read.event;
