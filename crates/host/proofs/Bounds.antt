@@ -1,6 +1,6 @@
 -- The bounds of a reader: what they say of a state, and that no byte leaves them.
-use mathlib.Core.Path.{_≡_, refl, sym, ap, _∙_}
-use mathlib.Core.Bool.{Bool, true, false, cond, _&&_}
+use mathlib.Core.Path.{_≡_, refl, sym, _∙_}
+use mathlib.Core.Bool.{true, false, _&&_}
 use mathlib.Core.List.{List}
 use Prim.Native.Nat.{ℕ, _+_, _%_, _≤_, _<_}
 use native.Mathlib.Omega.{arith}
@@ -12,7 +12,7 @@ use Rattle.document.specs.AnswerReader.{beginRefusal, readRoomRefusal}
 use Rattle.line.proofs.Cases.{split, and-left, and-right}
 use Rattle.host.specs.declared.reader.AnswerReader.{AnswerReader}
 use Rattle.host.specs.Reader.{sound, soundAt, dataLength, phaseAt, fresh, silent, opened, stored, finished, literal, stepped, turned}
-use Rattle.host.specs.Promises.{beginResult, readerRefusal, readResult}
+use Rattle.host.specs.Promises.{beginResult, readResult}
 
 -- ---- what the bounds say
 

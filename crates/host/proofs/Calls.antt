@@ -1,19 +1,19 @@
 -- The reader's calls, any number of them since a reading began: each gives what the document says of the bytes taken.
 use mathlib.Core.Path.{_≡_, refl, sym, ap, _∙_}
 use mathlib.Core.Bool.{true, false}
-use mathlib.Core.List.{List, [], _∷_, _++_, foldl, foldl-append, append-assoc, append-nil}
+use mathlib.Core.List.{List, [], _∷_, _++_, foldl-append, append-assoc, append-nil}
 use Prim.Native.Nat.{ℕ, _≤_}
 use borrow.Author.Tests.{le-ltb}
 use lib.Dec.{eqb}
 use lib.ListN.{length}
 use Rattle.document.specs.Numbers.{taken}
-use Rattle.document.specs.AnswerReader.{brought, readRoomRefusal, readRefusal, readBuffer}
+use Rattle.document.specs.AnswerReader.{brought, readRoomRefusal, readBuffer}
 use Rattle.line.proofs.Cases.{split}
 use Rattle.host.specs.declared.reader.AnswerReader.{AnswerReader}
 use Rattle.host.specs.declared.reader.Read.{Read}
 use Rattle.host.specs.Reader.{fresh, stepped, readerAfter}
-use Rattle.host.specs.Promises.{beginResult, eventOf, readResult, bufferLeft}
-use Rattle.host.specs.Calls.{Call, bytesTaken, calledWith}
+use Rattle.host.specs.Promises.{beginResult, readResult, bufferLeft}
+use Rattle.host.specs.Calls.{Call, bytesTaken, calledWith, given}
 use Rattle.host.proofs.Reading.{reader-brings, reader-within}
 
 pub begin-fresh : (r : AnswerReader) (n : ℕ) → n ≤ 64 → beginResult r n .next ≡ fresh n
@@ -25,15 +25,6 @@ unfolding readerAfter
 after-one n bs b = sym (foldl-append (λ (r : AnswerReader) (c : ℕ). stepped r c .next) (fresh n) bs (b ∷ []))
 
 -- ---- a call behind the bytes bs
-
--- what a call gives that is not refused
-abbrev pub given : ℕ → List ℕ → ℕ → Read
-given n bs b =
-    record {
-      refusal = readRefusal (brought n bs b);
-      next = readerAfter n (bs ++ (b ∷ []));
-      event = eventOf (brought n bs b);
-    }
 
 module _ (n : ℕ) (bs : List ℕ) (b : ℕ) (buffer : List ℕ) (few : n ≤ 64) where
   read-gives : eqb (readRoomRefusal buffer) taken ≡ true → readResult (readerAfter n bs) b buffer ≡ given n bs b

@@ -2,16 +2,16 @@
 use mathlib.Core.Path.{_≡_, refl, sym, ap, _∙_}
 use mathlib.Core.Bool.{Bool, true, false, cond}
 use mathlib.Core.List.{List, [], _∷_, _++_, map, foldl, append-assoc, append-nil}
-use Prim.Native.Nat.{ℕ, zero, suc, _+_, _-_, _%_, _≤_, _<_}
-use native.Mathlib.Nat.{zero-add, add-zero, sub-zero}
+use Prim.Native.Nat.{ℕ, suc, _+_, _-_, _%_, _≤_, _<_}
+use native.Mathlib.Nat.{zero-add, sub-zero}
 use native.Mathlib.Numerals.{add-one}
 use native.Mathlib.Omega.{arith}
-use borrow.Author.Tests.{ltb-true, ltb-false, eqb-true, le-ltb, lt-ltb, eq-eqb, ne-eqb}
+use borrow.Author.Tests.{eqb-true, le-ltb, lt-ltb, eq-eqb, ne-eqb}
 use lib.Dec.{eqb, ltb, leb·suc-suc}
-use lib.ListN.{length, take, set, getD, replicate, length-set, length-replicate}
+use lib.ListN.{length, take, getD, length-set}
 use lib.Seq.{take-suc-set}
 use Rattle.document.specs.Sum.{total}
-use Rattle.document.specs.Answer.{Answer, Reading, readingRight, answerOfLength, wholeAnswer, answerFinishedBy}
+use Rattle.document.specs.Answer.{Reading, readingRight, wholeAnswer, answerFinishedBy}
 use Rattle.document.specs.AnswerReader.{Brought, broughtBy, brought}
 use Rattle.document.specs.AnswerReader.Brought.{nothing, answer, wrong}
 use Rattle.line.proofs.Cases.{split}
@@ -20,7 +20,7 @@ use Rattle.line.proofs.Machine.{Reads, foundBy, reported-at, within-after, foun
 use Rattle.line.proofs.Frames.{counted}
 use Rattle.line.proofs.RightSum.{total-append}
 use Rattle.host.specs.declared.reader.AnswerReader.{AnswerReader}
-use Rattle.host.specs.Reader.{Step, sound, dataLength, phaseAt, fresh, silent, opened, stored, finished, literal, stepped, turned, readerAfter}
+use Rattle.host.specs.Reader.{Step, sound, dataLength, phaseAt, fresh, silent, opened, literal, stepped, turned, readerAfter}
 use Rattle.host.proofs.Bounds.{phases, data-left, data-all, data-room, fresh-sound, stepped-sound, literal-data, literal-sum, literal-idle, stepped-doubled, stepped-first, stepped-start, stepped-plain}
 
 -- ---- what a reading brings, and what a step reports

@@ -8,7 +8,7 @@ use lib.ListN.{length, take}
 use Rattle.document.specs.Numbers.{taken, isError}
 use Rattle.document.specs.Answer.{Answer, answerOnWire}
 use Rattle.document.specs.AnswerWriter.{answerFormed, answerRefusal, answerWritten, answerBuffer}
-use Rattle.document.specs.AnswerReader.{Brought, broughtBy, brought}
+use Rattle.document.specs.AnswerReader.{broughtBy, brought}
 use Rattle.document.specs.AnswerReader.Brought.{nothing, answer}
 use Rattle.line.proofs.Cases.{split}
 use Rattle.line.proofs.Left.{taken-formed, written-front}
@@ -37,13 +37,10 @@ module _ (a : Answer) (n : ℕ) (formed : answerFormed a ≡ true) (expects : is
 
 -- the bytes that the answer writer left in its buffer, read one after the other
 module _ (a : Answer) (n : ℕ) (buffer : List ℕ) (ok : answerRefusal a buffer ≡ taken) (expects : isError (a .status) ≡ false → n ≡ length (a .body)) where
-  abbrev pub wire : List ℕ
-  wire = take (answerWritten a buffer) (answerBuffer a buffer)
-
-  pub written-read : (front : List ℕ) (b : ℕ) → wire ≡ front ++ (b ∷ []) → brought n front b ≡ answer a
+  pub written-read : (front : List ℕ) (b : ℕ) → take (answerWritten a buffer) (answerBuffer a buffer) ≡ front ++ (b ∷ []) → brought n front b ≡ answer a
   written-read front b e =
       answer-read a n (taken-formed a buffer ok) expects front b (sym (written-front a buffer ok) ∙ e)
 
-  pub written-awaited : (front : List ℕ) (b d : ℕ) (rest : List ℕ) → wire ≡ front ++ (b ∷ d ∷ rest) → brought n front b ≡ nothing
+  pub written-awaited : (front : List ℕ) (b d : ℕ) (rest : List ℕ) → take (answerWritten a buffer) (answerBuffer a buffer) ≡ front ++ (b ∷ d ∷ rest) → brought n front b ≡ nothing
   written-awaited front b d rest e =
       answer-awaited a n (taken-formed a buffer ok) expects front b d rest (sym (written-front a buffer ok) ∙ e)

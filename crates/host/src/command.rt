@@ -8,15 +8,15 @@ ghost use Rattle.line.specs.Put.{Put};
 ghost use Rattle.host.specs.CommandWritten.{CommandWritten};
 use crate::measure::FAST;
 use crate::measure::wire_length;
+use codes::FORM_REFUSED;
+use codes::ROOM_REFUSED;
+use codes::TAKEN;
 use line::Written;
 use line::doubling::PLUS;
 use line::doubling::Progress;
 use line::doubling::put;
 use line::doubling::put_all;
 use line::doubling::put_sum;
-use line::numbers::FORM_REFUSED;
-use line::numbers::ROOM_REFUSED;
-use line::numbers::TAKEN;
 
 // Whether the message can be formed: a command that is no start byte, and as many data as it takes.
 fn is_formed(command: u8, body: &[u8]) -> bool

@@ -3,10 +3,10 @@ ghost use mathlib.Core.Path.{_≡_};
 ghost use Rattle.host.specs.Reader.{sound, fresh};
 ghost use Rattle.host.specs.Promises.{BeginDone, ReadDone};
 use crate::step;
-use line::numbers::EXPECTED_REFUSED;
-use line::numbers::ROOM_REFUSED;
-use line::numbers::STATE_REFUSED;
-use line::numbers::TAKEN;
+use codes::EXPECTED_REFUSED;
+use codes::ROOM_REFUSED;
+use codes::STATE_REFUSED;
+use codes::TAKEN;
 
 // The longest data of an answer, and the room that a buffer lent for them has.
 pub const DATA_ROOM: usize = 64;

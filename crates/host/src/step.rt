@@ -9,9 +9,9 @@ ghost use Rattle.host.specs.Promises.{Gave};
 use crate::reader::AnswerReader;
 use crate::reader::Event;
 use crate::reader::Read;
+use codes::SUM_REFUSED;
+use codes::TAKEN;
 use line::doubling::PLUS;
-use line::numbers::SUM_REFUSED;
-use line::numbers::TAKEN;
 use line::sum::added;
 
 // Outside an answer, in its data, at its sum byte.

@@ -1,16 +1,15 @@
 -- Nothing by half: a byte that finds something ends a start and stuffed literals, all of them its own; and a byte that
 -- finds a message ends exactly that message on the wire.
-use Prim.Native.Nat.{ℕ, zero, suc, _<_, _≤_, _+_}
+use Prim.Native.Nat.{ℕ, _+_}
 use mathlib.Core.Path.{_≡_, refl, sym, _∙_, ap}
-use mathlib.Core.List.{List, [], _∷_, _++_, append-assoc, append-nil, map, foldl, foldl-append, nil≢cons, head-eq-of-cons-eq, tail-eq-of-cons-eq}
-use mathlib.Core.Bool.{Bool, true, false, cond}
-use native.Mathlib.Omega.{arith}
-use borrow.Author.Tests.{eqb-true, ltb-true, ltb-false, lt-ltb, le-ltb, le-leb, eq-eqb}
-use lib.ListN.{length, take, drop, getD, length-append}
-use lib.Seq.{take-at, getD-at, drop-append-seam, drop-append-add, drop-length, drop-nil, getD-append-add}
-use lib.Dec.{ltb, eqb}
+use mathlib.Core.List.{List, [], _∷_, _++_, append-assoc, append-nil, foldl, foldl-append, nil≢cons, head-eq-of-cons-eq, tail-eq-of-cons-eq}
+use mathlib.Core.Bool.{Bool, true, false}
+use borrow.Author.Tests.{eqb-true}
+use lib.ListN.{length, drop, length-append}
+use lib.Seq.{drop-append-add, drop-length, drop-nil}
+use lib.Dec.{eqb}
 use Rattle.document.specs.Doubling.{stuffed}
-use Rattle.document.specs.Pairing.{paired, opened, literal}
+use Rattle.document.specs.Pairing.{paired, opened}
 use Rattle.line.proofs.Cases.{split}
 use Rattle.line.proofs.Pairing.{waitsBehind, waitsAfter, reset, framed, paired-stuffed, paired-settled, opened-literals, opened-framed}
 use Rattle.line.proofs.Stuffed.{stuffed-cons, stuffed-append}
@@ -93,7 +92,8 @@ last (l ∷ ls) = last-behind l ls (last ls)
 stuffed-one-byte : (l : ℕ) → stuffed (l ∷ []) ≡ heldBack (eqb l 0x2B) ++ (l ∷ [])
 stuffed-one-byte l = split (eqb l 0x2B) (λ plus. rw (plus, eqb-true l 0x2B plus) refl) (λ other. rw other refl)
 
-stuffed-last : (front : List ℕ) (l : ℕ) → stuffed (front ++ (l ∷ [])) ≡ stuffed front ++ heldBack (eqb l 0x2B) ++ (l ∷ [])
+stuffed-last : (front : List ℕ) (l : ℕ) →
+    stuffed (front ++ (l ∷ [])) ≡ stuffed front ++ heldBack (eqb l 0x2B) ++ (l ∷ [])
 stuffed-last front l =
     stuffed-append front (l ∷ [])
     ∙ rw (stuffed-one-byte l) (sym (append-assoc (stuffed front) (heldBack (eqb l 0x2B)) (l ∷ [])))
@@ -121,14 +121,27 @@ module _ {A : Type 0} (whole : List ℕ → List A) (alone : (c : ℕ) → whole
   ends-outside : (ls : List ℕ) (waiting : Bool) → bs ++ (b ∷ []) ≡ stuffed ls ++ heldBack waiting → Ends whole bs b
   ends-outside ls waiting e =
       found-nothing
-      (rw (e, paired-stuffed ls (heldBack waiting), held-quiet waiting, append-nil, opened-literals whole ls) (drop-nil (length (opened whole (paired bs)))))
+      (rw (
+        e,
+        paired-stuffed ls (heldBack waiting),
+        held-quiet waiting,
+        append-nil,
+        opened-literals whole ls,
+      ) (drop-nil (length (opened whole (paired bs)))))
 
   module _ (before : List ℕ) (c : ℕ) (settled : waitsAfter before ≡ false) (other : eqb c 0x2B ≡ false) where
     ends-waiting : (ls : List ℕ) → bs ++ (b ∷ []) ≡ before ++ (framed c ls ++ (0x2B ∷ [])) → Ends whole bs b
     ends-waiting ls e =
-        let same : bs ≡ before ++ (framed c ls ++ []) = last-off bs before (framed c ls) b 0x2B e ∙ rw append-nil refl in
+        let same : bs ≡ before ++ (framed c ls ++ []) = last-off bs before
+        (framed c ls) b 0x2B e ∙ rw append-nil refl in
         found-nothing
-        (rw (e, opened-framed whole before c ls (0x2B ∷ []) settled other refl, same, opened-framed whole before c ls [] settled other refl) (drop-length (opened whole (paired before) ++ whole (c ∷ ls))))
+        (rw (
+          e,
+          opened-framed whole before c ls (0x2B ∷ []) settled other refl,
+          same,
+          opened-framed whole before c ls [] settled other refl,
+        ) (drop-length (opened whole (paired before) ++ whole
+        (c ∷ ls))))
 
     ends-literal : (ls : List ℕ) → bs ++ (b ∷ []) ≡ before ++ framed c ls → Last ls → Ends whole bs b
     ends-literal ls e (none n) =
@@ -137,7 +150,13 @@ module _ {A : Type 0} (whole : List ℕ → List A) (alone : (c : ℕ) → whole
         let quiet : opened whole (paired bs) ≡ opened whole (paired before) =
         rw (short, paired-settled before (0x2B ∷ []) settled, append-nil) refl in
         found-nothing
-        (rw (all, opened-framed whole before c [] [] settled other refl, alone c, append-nil, quiet) (drop-length (opened whole (paired before))))
+        (rw (
+          all,
+          opened-framed whole before c [] [] settled other refl,
+          alone c,
+          append-nil,
+          quiet,
+        ) (drop-length (opened whole (paired before))))
     ends-literal ls e (some front l n) =
         let half : List ℕ = heldBack (eqb l 0x2B) in
         let all : bs ++ (b ∷ []) ≡ before ++ framed c (front ++ (l ∷ [])) = rw n at e in
@@ -152,14 +171,23 @@ module _ {A : Type 0} (whole : List ℕ → List A) (alone : (c : ℕ) → whole
           last = l;
           there = all;
           found =
-              rw (all, short, opened-framed whole before c front half settled other (held-quiet (eqb l 0x2B)), ← append-nil (framed c (front ++ (l ∷ []))), opened-framed whole before c (front ++ (l ∷ [])) [] settled other refl, length-append)
-              (drop-append-add (opened whole (paired before)) (whole (c ∷ front ++ (l ∷ []))) (length (whole (c ∷ front))));
+              rw (
+                all,
+                short,
+                opened-framed whole before c front half settled other (held-quiet (eqb l 0x2B)),
+                ← append-nil (framed c (front ++ (l ∷ []))),
+                opened-framed whole before c (front ++ (l ∷ [])) [] settled other refl,
+                length-append,
+              )
+              (drop-append-add (opened whole (paired before)) (whole (c ∷ front ++ (l ∷ []))) (length (whole
+              (c ∷ front))));
         }
 
   ends-place : Place (bs ++ (b ∷ [])) → Ends whole bs b
   ends-place (outside ls waiting e) = ends-outside ls waiting e
   ends-place (inside before c ls true settled other e) = ends-waiting before c settled other ls e
-  ends-place (inside before c ls false settled other e) = ends-literal before c settled other ls (rw append-nil at e) (last ls)
+  ends-place (inside before c ls false settled other e) =
+      ends-literal before c settled other ls (rw append-nil at e) (last ls)
 
   pub ends : Ends whole bs b
   ends = ends-place (place (bs ++ (b ∷ [])))

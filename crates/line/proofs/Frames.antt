@@ -2,16 +2,16 @@
 use Prim.Native.Nat.{ℕ, _≤_, _<_, _+_}
 use mathlib.Core.Path.{_≡_, refl, sym, _∙_, ap}
 use mathlib.Core.List.{List, [], _∷_, _++_, append-assoc, append-nil, nil≢cons, head-eq-of-cons-eq, tail-eq-of-cons-eq}
-use mathlib.Core.Bool.{Bool, true, false, cond, not}
+use mathlib.Core.Bool.{true, false, cond, not}
 use native.Mathlib.Omega.{arith}
 use borrow.Author.Tests.{eqb-true, not-true, lt-ltb, le-ltb}
-use lib.ListN.{length, take, drop, getD, length-append}
+use lib.ListN.{length, take, getD, length-append}
 use lib.Seq.{take-at, getD-at, drop-append-seam, drop-length}
 use lib.Dec.{ltb, eqb}
 use Rattle.document.specs.Doubling.{stuffed}
 use Rattle.document.specs.Pairing.{paired, opened}
 use Rattle.document.specs.Kinds.{hasLengthByte, fastLength}
-use Rattle.document.specs.Message.{Message, lengthPart, lengthFits, wellFormed, onWire, wholeMessage, ofLength, afterLengthByte}
+use Rattle.document.specs.Message.{Message, lengthPart, lengthFits, wellFormed, wholeMessage, afterLengthByte}
 use Rattle.line.proofs.Cases.{split, and-left, and-right}
 use Rattle.line.proofs.Pairing.{waitsAfter, framed, opened-framed, paired-settled}
 use Rattle.line.proofs.Machine.{foundBy}
@@ -37,9 +37,11 @@ nothing-left [] b rest e = absurd (nil≢cons e)
 nothing-left (x ∷ f) b rest e = absurd (nil≢cons e)
 
 cut-here : (l : ℕ) (ls : List ℕ) (half : List ℕ) → paired half ≡ [] → Cut (l ∷ ls) half
-cut-here l ls half quiet = record { front = []; next = l; rest = ls; half = half; parts = refl; there = refl; quiet = quiet }
+cut-here l ls half quiet =
+    record { front = []; next = l; rest = ls; half = half; parts = refl; there = refl; quiet = quiet }
 
-cut-later : (l : ℕ) (ls f first : List ℕ) → ((more : List ℕ) → stuffed (l ∷ more) ≡ first ++ stuffed more) → Cut ls f → Cut (l ∷ ls) (first ++ f)
+cut-later : (l : ℕ) (ls f first : List ℕ) → ((more : List ℕ) → stuffed (l ∷ more) ≡ first ++ stuffed more) →
+    Cut ls f → Cut (l ∷ ls) (first ++ f)
 cut-later l ls f first e c =
     record {
       front = l ∷ c .front;
@@ -52,7 +54,8 @@ cut-later l ls f first e c =
     }
 
 module _ (l : ℕ) (ls : List ℕ) (later : (f : List ℕ) (b : ℕ) (rest : List ℕ) → stuffed ls ≡ f ++ (b ∷ rest) → Cut ls f) where
-  cut-doubled : (f : List ℕ) (b : ℕ) (rest : List ℕ) → eqb l 0x2B ≡ true → 0x2B ∷ 0x2B ∷ stuffed ls ≡ f ++ (b ∷ rest) → Cut (l ∷ ls) f
+  cut-doubled : (f : List ℕ) (b : ℕ) (rest : List ℕ) → eqb l 0x2B ≡ true →
+      0x2B ∷ 0x2B ∷ stuffed ls ≡ f ++ (b ∷ rest) → Cut (l ∷ ls) f
   cut-doubled [] b rest plus e = cut-here l ls [] refl
   cut-doubled (x ∷ []) b rest plus e =
       let first : 0x2B ≡ x = head-eq-of-cons-eq e in
@@ -61,9 +64,11 @@ module _ (l : ℕ) (ls : List ℕ) (later : (f : List ℕ) (b : ℕ) (rest : Lis
       let first : 0x2B ≡ x = head-eq-of-cons-eq e in
       let second : 0x2B ≡ y = head-eq-of-cons-eq (tail-eq-of-cons-eq e) in
       rw (← first, ← second)
-      (cut-later l ls f (0x2B ∷ 0x2B ∷ []) (λ more. rw plus refl) (later f b rest (tail-eq-of-cons-eq (tail-eq-of-cons-eq e))))
+      (cut-later l ls f (0x2B ∷ 0x2B ∷ []) (λ more. rw plus refl) (later f b rest (tail-eq-of-cons-eq
+      (tail-eq-of-cons-eq e))))
 
-  cut-plain : (f : List ℕ) (b : ℕ) (rest : List ℕ) → eqb l 0x2B ≡ false → l ∷ stuffed ls ≡ f ++ (b ∷ rest) → Cut (l ∷ ls) f
+  cut-plain : (f : List ℕ) (b : ℕ) (rest : List ℕ) → eqb l 0x2B ≡ false → l ∷ stuffed ls ≡ f ++ (b ∷ rest) →
+      Cut (l ∷ ls) f
   cut-plain [] b rest other e = cut-here l ls [] refl
   cut-plain (x ∷ f) b rest other e =
       let first : l ≡ x = head-eq-of-cons-eq e in
@@ -79,9 +84,11 @@ cut (l ∷ ls) f b rest e =
 -- ---- a frame behind bytes that leave no 0x2B waiting
 module _ {A : Type 0} {whole : List ℕ → List A} {c : ℕ} {ls : List ℕ} {a : A} (frame : Frame whole c ls a) (bs : List ℕ) (settled : waitsAfter bs ≡ false) where
   opened-all : opened whole (paired (bs ++ framed c ls)) ≡ opened whole (paired bs) ++ (a ∷ [])
-  opened-all = rw (append-nil (framed c ls), frame .makes) at (opened-framed whole bs c ls [] settled (frame .other) refl)
+  opened-all =
+      rw (append-nil (framed c ls), frame .makes) at (opened-framed whole bs c ls [] settled (frame .other) refl)
 
-  opened-short : (front : List ℕ) (b : ℕ) (rest : List ℕ) → framed c ls ≡ front ++ (b ∷ rest) → opened whole (paired (bs ++ front)) ≡ opened whole (paired bs)
+  opened-short : (front : List ℕ) (b : ℕ) (rest : List ℕ) → framed c ls ≡ front ++ (b ∷ rest) →
+      opened whole (paired (bs ++ front)) ≡ opened whole (paired bs)
   opened-short [] b rest e = rw append-nil refl
   opened-short (x ∷ []) b rest e =
       let first : 0x2B ≡ x = head-eq-of-cons-eq e in
@@ -90,8 +97,14 @@ module _ {A : Type 0} {whole : List ℕ → List A} {c : ℕ} {ls : List ℕ} {a
       let first : 0x2B ≡ x = head-eq-of-cons-eq e in
       let second : c ≡ y = head-eq-of-cons-eq (tail-eq-of-cons-eq e) in
       let short : Cut ls front = cut ls front b rest (tail-eq-of-cons-eq (tail-eq-of-cons-eq e)) in
-      rw
-      (← first, ← second, short .there, opened-framed whole bs c (short .front) (short .half) settled (frame .other) (short .quiet), frame .short (short .front) (short .next) (short .rest) (short .parts), append-nil)
+      rw (
+        ← first,
+        ← second,
+        short .there,
+        opened-framed whole bs c (short .front) (short .half) settled (frame .other) (short .quiet),
+        frame .short (short .front) (short .next) (short .rest) (short .parts),
+        append-nil,
+      )
       refl
 
   -- its last byte finds it
@@ -100,10 +113,17 @@ module _ {A : Type 0} {whole : List ℕ → List A} {c : ℕ} {ls : List ℕ} {a
       rw (opened-short front b [] e, append-assoc, ← e, opened-all, drop-append-seam) refl
 
   -- no byte before it finds anything
-  pub found-before : (front : List ℕ) (b d : ℕ) (rest : List ℕ) → framed c ls ≡ front ++ (b ∷ d ∷ rest) → foundBy whole (bs ++ front) b ≡ []
+  pub found-before : (front : List ℕ) (b d : ℕ) (rest : List ℕ) → framed c ls ≡ front ++ (b ∷ d ∷ rest) →
+      foundBy whole (bs ++ front) b ≡ []
   found-before front b d rest e =
-      let longer : framed c ls ≡ (front ++ (b ∷ [])) ++ (d ∷ rest) = e ∙ sym (append-assoc front (b ∷ []) (d ∷ rest)) in
-      rw (opened-short front b (d ∷ rest) e, append-assoc, opened-short (front ++ (b ∷ [])) d rest longer, drop-length) refl
+      let longer : framed c ls ≡ (front ++ (b ∷ [])) ++ (d ∷ rest) = e ∙ sym (append-assoc front (b ∷ [])
+      (d ∷ rest)) in
+      rw (
+        opened-short front b (d ∷ rest) e,
+        append-assoc,
+        opened-short (front ++ (b ∷ [])) d rest longer,
+        drop-length,
+      ) refl
 
 -- ---- "Data and one sum byte follow.": n data bytes and a sum byte, where they are all there
 abbrev pub counted : {A : Type 0} → (List ℕ → ℕ → A) → ℕ → List ℕ → List A
@@ -113,9 +133,14 @@ module _ {A : Type 0} (make : List ℕ → ℕ → A) (n : ℕ) (body : List ℕ
   pub counted-whole : counted make n (body ++ (sum ∷ [])) ≡ make body sum ∷ []
   counted-whole =
       let more : n < length (body ++ (sum ∷ [])) = simp length-append (omega arith) in
-      rw (lt-ltb n (length (body ++ (sum ∷ []))) more, take-at body (sum ∷ []) n fits, getD-at body sum [] 0 n fits) refl
+      rw (
+        lt-ltb n (length (body ++ (sum ∷ []))) more,
+        take-at body (sum ∷ []) n fits,
+        getD-at body sum [] 0 n fits,
+      ) refl
 
-  pub counted-short : (front : List ℕ) (l : ℕ) (rest : List ℕ) → body ++ (sum ∷ []) ≡ front ++ (l ∷ rest) → counted make n front ≡ []
+  pub counted-short : (front : List ℕ) (l : ℕ) (rest : List ℕ) → body ++ (sum ∷ []) ≡ front ++ (l ∷ rest) →
+      counted make n front ≡ []
   counted-short front l rest e =
       let less : length front ≤ n = omega (arith, simp length-append at (ap length e)) in
       rw (le-ltb n (length front) less) refl
@@ -134,7 +159,8 @@ message c body sum = record { command = c; body = body; sumByte = sum }
 module _ (m : Message) (formed : wellFormed m ≡ true) where
   pub command-other : eqb (m .command) 0x2B ≡ false
   unfolding wellFormed
-  command-other = not-true _ (and-left (not (eqb (m .command) 0x2B)) (lengthFits (m .command) (length (m .body))) formed)
+  command-other =
+      not-true _ (and-left (not (eqb (m .command) 0x2B)) (lengthFits (m .command) (length (m .body))) formed)
 
   message-fits : lengthFits (m .command) (length (m .body)) ≡ true
   unfolding wellFormed
@@ -145,21 +171,25 @@ module _ (m : Message) (formed : wellFormed m ≡ true) where
       split (hasLengthByte (m .command))
       (λ standard. rw standard (counted-whole (message (m .command)) (length (m .body)) (m .body) (m .sumByte) refl))
       (λ fast. rw fast
-      (counted-whole (message (m .command)) (fastLength (m .command)) (m .body) (m .sumByte) (fast-length _ _ fast message-fits)))
+      (counted-whole (message (m .command)) (fastLength (m .command)) (m .body) (m .sumByte)
+      (fast-length _ _ fast message-fits)))
 
   standard-short : hasLengthByte (m .command) ≡ true → (front : List ℕ) (l : ℕ) (rest : List ℕ) →
       length (m .body) ∷ m .body ++ (m .sumByte ∷ []) ≡ front ++ (l ∷ rest) → afterLengthByte (m .command) front ≡ []
   standard-short standard [] l rest e = refl
   standard-short standard (n ∷ front) l rest e =
       rw (← head-eq-of-cons-eq e)
-      (counted-short (message (m .command)) (length (m .body)) (m .body) (m .sumByte) refl front l rest (tail-eq-of-cons-eq e))
+      (counted-short (message (m .command)) (length (m .body)) (m .body) (m .sumByte) refl front l rest
+      (tail-eq-of-cons-eq e))
 
-  message-short : (front : List ℕ) (l : ℕ) (rest : List ℕ) → literals m ≡ front ++ (l ∷ rest) → wholeMessage (m .command ∷ front) ≡ []
+  message-short : (front : List ℕ) (l : ℕ) (rest : List ℕ) → literals m ≡ front ++ (l ∷ rest) →
+      wholeMessage (m .command ∷ front) ≡ []
   message-short front l rest e =
       split (hasLengthByte (m .command))
       (λ standard. rw standard (standard-short standard front l rest (rw standard at e)))
       (λ fast. rw fast
-      (counted-short (message (m .command)) (fastLength (m .command)) (m .body) (m .sumByte) (fast-length _ _ fast message-fits) front l rest (rw fast at e)))
+      (counted-short (message (m .command)) (fastLength (m .command)) (m .body) (m .sumByte)
+      (fast-length _ _ fast message-fits) front l rest (rw fast at e)))
 
   pub message-frame : Frame wholeMessage (m .command) (literals m) m
   message-frame = record { other = command-other; makes = message-makes; short = message-short }

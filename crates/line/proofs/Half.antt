@@ -1,13 +1,13 @@
 -- Nothing by half: a byte that finishes a message ends exactly that message on the wire, well-formed and behind a start
 -- in the pairing of all bytes, and finishes no other.
-use Prim.Native.Nat.{ℕ, _<_, _≤_, _+_}
-use mathlib.Core.Path.{_≡_, refl, sym, _∙_, ap}
+use Prim.Native.Nat.{ℕ, _<_, _+_}
+use mathlib.Core.Path.{_≡_, refl, sym, _∙_}
 use mathlib.Core.List.{List, [], _∷_, _++_, nil≢cons, head-eq-of-cons-eq, tail-eq-of-cons-eq}
-use mathlib.Core.Bool.{Bool, true, false, cond, not}
+use mathlib.Core.Bool.{true, false}
 use native.Mathlib.Omega.{arith}
 use borrow.Author.Tests.{eqb-true, ltb-true, ltb-false, lt-ltb, le-ltb, le-leb, eq-eqb}
-use lib.ListN.{length, take, drop, getD, length-append}
-use lib.Seq.{take-at, getD-at, drop-nil, getD-append-add}
+use lib.ListN.{length, drop, getD, length-append}
+use lib.Seq.{take-at, getD-at, getD-append-add}
 use lib.Dec.{ltb, eqb}
 use Rattle.document.specs.Doubling.{stuffed}
 use Rattle.document.specs.Kinds.{hasLengthByte, fastLength}
@@ -15,7 +15,7 @@ use Rattle.document.specs.Message.{Message, wellFormed, onWire, wholeMessage, a
 use Rattle.line.proofs.Cases.{split}
 use Rattle.line.proofs.Pairing.{waitsAfter, framed}
 use Rattle.line.proofs.Machine.{foundBy, finished-found}
-use Rattle.line.proofs.Frames.{counted, message, literals}
+use Rattle.line.proofs.Frames.{counted, message}
 use Rattle.line.proofs.Ends.{Ends, ends}
 
 -- ---- a last literal that completes a count
@@ -25,14 +25,27 @@ record Counted {A : Type 0} (make : List ℕ → ℕ → A) (n : ℕ) (front : L
   only : more ≡ []
 
 counted-ends : {A : Type 0} (make : List ℕ → ℕ → A) (n : ℕ) (front : List ℕ) (l : ℕ) (a : A) (more : List A) →
-    drop (length (counted make n front)) (counted make n (front ++ (l ∷ []))) ≡ a ∷ more → Counted make n front l a more
+    drop (length (counted make n front)) (counted make n (front ++ (l ∷ []))) ≡ a ∷ more →
+    Counted make n front l a more
 counted-ends make n front l a more e =
     split (ltb n (length front))
-    (λ t. let later : n < length (front ++ (l ∷ [])) = simp length-append (omega (arith, ltb-true n (length front) t)) in
+    (λ t. let later : n < length (front ++ (l ∷ [])) = simp length-append (omega (
+      arith,
+      ltb-true n (length front) t,
+    )) in
     absurd (nil≢cons (rw (t, lt-ltb n (length (front ++ (l ∷ []))) later) at e)))
     (λ f. split (ltb n (length (front ++ (l ∷ []))))
-    (λ t. let all : n ≡ length front = omega (arith, ltb-false n (length front) f, simp length-append at (ltb-true n (length (front ++ (l ∷ []))) t)) in
-    let e′ : make front l ∷ [] ≡ a ∷ more = rw (f, t, take-at front (l ∷ []) n (sym all), getD-at front l [] 0 n (sym all)) at e in
+    (λ t. let all : n ≡ length front = omega (
+      arith,
+      ltb-false n (length front) f,
+      simp length-append at (ltb-true n (length (front ++ (l ∷ []))) t),
+    ) in
+    let e′ : make front l ∷ [] ≡ a ∷ more = rw (
+      f,
+      t,
+      take-at front (l ∷ []) n (sym all),
+      getD-at front l [] 0 n (sym all),
+    ) at e in
     record { all = all; made = head-eq-of-cons-eq e′; only = sym (tail-eq-of-cons-eq e′) })
     (λ t. absurd (nil≢cons (rw (f, t) at e))))
 
@@ -44,29 +57,36 @@ record Finishes (c : ℕ) (ls : List ℕ) (m : Message) (more : List Message) : 
 
 module _ (c : ℕ) (other : eqb c 0x2B ≡ false) (m : Message) (more : List Message) where
   finishes-standard : (front : List ℕ) (l : ℕ) → hasLengthByte c ≡ true →
-      drop (length (afterLengthByte c front)) (afterLengthByte c (front ++ (l ∷ []))) ≡ m ∷ more → Finishes c (front ++ (l ∷ [])) m more
+      drop (length (afterLengthByte c front)) (afterLengthByte c (front ++ (l ∷ []))) ≡ m ∷ more →
+      Finishes c (front ++ (l ∷ [])) m more
   unfolding onWire wellFormed
   finishes-standard [] l standard e = absurd (nil≢cons (rw (le-ltb l 0 (omega arith)) at e))
   finishes-standard (n ∷ front) l standard e =
       let counted : Counted (message c) n front l m more = counted-ends (message c) n front l m more e in
       record {
         sent = rw (← counted .made, standard, counted .all) refl;
-        formed = λ byte. rw (← counted .made, other, standard) (le-leb (length front) 255 (omega (arith, counted .all)));
+        formed =
+            λ byte. rw (← counted .made, other, standard) (le-leb (length front) 255 (omega (arith, counted .all)));
         only = counted .only;
       }
 
   finishes-fast : (front : List ℕ) (l : ℕ) → hasLengthByte c ≡ false →
-      drop (length (ofLength c (fastLength c) front)) (ofLength c (fastLength c) (front ++ (l ∷ []))) ≡ m ∷ more → Finishes c (front ++ (l ∷ [])) m more
+      drop (length (ofLength c (fastLength c) front)) (ofLength c (fastLength c) (front ++ (l ∷ []))) ≡ m ∷ more →
+      Finishes c (front ++ (l ∷ [])) m more
   unfolding onWire wellFormed
   finishes-fast front l fast e =
-      let counted : Counted (message c) (fastLength c) front l m more = counted-ends (message c) (fastLength c) front l m more e in
+      let counted : Counted (message c) (fastLength c) front l m more = counted-ends (message c)
+      (fastLength c) front l m more e in
       record {
         sent = rw (← counted .made, fast) refl;
-        formed = λ byte. rw (← counted .made, other, fast) (eq-eqb (length front) (fastLength c) (sym (counted .all)));
+        formed =
+            λ byte. rw (← counted .made, other, fast) (eq-eqb (length front) (fastLength c) (sym (counted .all)));
         only = counted .only;
       }
 
-  finishes : (front : List ℕ) (l : ℕ) → drop (length (wholeMessage (c ∷ front))) (wholeMessage (c ∷ front ++ (l ∷ []))) ≡ m ∷ more → Finishes c (front ++ (l ∷ [])) m more
+  finishes : (front : List ℕ) (l : ℕ) →
+      drop (length (wholeMessage (c ∷ front))) (wholeMessage (c ∷ front ++ (l ∷ []))) ≡ m ∷ more →
+      Finishes c (front ++ (l ∷ [])) m more
   finishes front l e =
       split (hasLengthByte c)
       (λ standard. finishes-standard front l standard (rw standard at e))
@@ -74,14 +94,19 @@ module _ (c : ℕ) (other : eqb c 0x2B ≡ false) (m : Message) (more : List Mes
 
 -- a start and its first literal make no message
 start-alone : (c : ℕ) → wholeMessage (c ∷ []) ≡ []
-start-alone c = split (hasLengthByte c) (λ standard. rw standard refl) (λ fast. rw (fast, le-ltb (fastLength c) 0 (omega arith)) refl)
+start-alone c =
+    split (hasLengthByte c) (λ standard. rw standard refl) (λ fast. rw (
+      fast,
+      le-ltb (fastLength c) 0 (omega arith),
+    ) refl)
 
 -- the first literal behind the command stands in the bytes as it is
 stuffed-first : (ls : List ℕ) → getD (stuffed ls) 0 0 ≡ getD ls 0 0
 stuffed-first [] = refl
 stuffed-first (l ∷ ls) = split (eqb l 0x2B) (λ plus. rw (plus, eqb-true l 0x2B plus) refl) (λ other. rw other refl)
 
-first-byte : (before : List ℕ) (c : ℕ) (ls : List ℕ) → getD (before ++ framed c ls) (length before + 2) 0 ≡ getD ls 0 0
+first-byte : (before : List ℕ) (c : ℕ) (ls : List ℕ) →
+    getD (before ++ framed c ls) (length before + 2) 0 ≡ getD ls 0 0
 first-byte before c ls = getD-append-add before (framed c ls) 2 0 ∙ stuffed-first ls
 
 -- ---- the law

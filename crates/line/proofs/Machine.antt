@@ -81,7 +81,8 @@ module _ {S R : Type 0} {whole : List ℕ → List R} {within : S → Type 0} {w
 
   -- one byte: what it reports, and the rest is owed by the next state
   owed-byte : (s : S) (b : ℕ) (bs : List ℕ) → within s →
-      owed whole owes s (pairedFrom (waits s) (b ∷ bs)) ≡ reports s b ++ owed whole owes (next s b) (pairedFrom (waits (next s b)) bs)
+      owed whole owes s (pairedFrom (waits s) (b ∷ bs)) ≡ reports s b ++ owed whole owes (next s b) (pairedFrom
+      (waits (next s b)) bs)
   owed-byte s b bs ok =
       rw (reads .pairs s b ok)
       (split (waits s)
@@ -92,7 +93,8 @@ module _ {S R : Type 0} {whole : List ℕ → List R} {within : S → Type 0} {w
       (λ plus. rw (w, plus, eqb-true b 0x2B plus) (first-owed s (paired (0x2B ∷ bs)) ok w))
       (λ other. rw (w, other, paired-literal b bs other) (literal-owed s b (paired bs) ok (w ∙ sym other)))))
 
-  reported-owed : (bs : List ℕ) (s : S) → within s → reported next reports s bs ≡ owed whole owes s (pairedFrom (waits s) bs)
+  reported-owed : (bs : List ℕ) (s : S) → within s →
+      reported next reports s bs ≡ owed whole owes s (pairedFrom (waits s) bs)
   reported-owed [] s ok = rw (paired-none, reads .none s ok) refl
   reported-owed (b ∷ bs) s ok = rw (reported-owed bs (next s b) (reads .keeps s b ok)) (sym (owed-byte s b bs ok))
 
@@ -111,8 +113,13 @@ module _ {S R : Type 0} {whole : List ℕ → List R} {within : S → Type 0} {w
     -- and each byte reports what it finishes
     pub reported-at : (bs : List ℕ) (b : ℕ) → reports (foldl next idle bs) b ≡ foundBy whole bs b
     reported-at bs b =
-        rw
-        (← reported-all bs, ← reported-all (bs ++ (b ∷ [])), reported-append next reports bs (b ∷ []) idle, drop-append-seam, append-nil)
+        rw (
+          ← reported-all bs,
+          ← reported-all (bs ++ (b ∷ [])),
+          reported-append next reports bs (b ∷ []) idle,
+          drop-append-seam,
+          append-nil,
+        )
         refl
 
 -- ---- what is found, shown by part

@@ -1,6 +1,6 @@
 -- Laws on the pairing, a byte at a time: the bytes before a place matter only by whether a 0x2B waits there.
 use Prim.Native.Nat.{ℕ}
-use mathlib.Core.Path.{_≡_, refl, sym, _∙_, ap}
+use mathlib.Core.Path.{_≡_, refl, sym, ap}
 use mathlib.Core.List.{List, [], _∷_, _++_, append-assoc, append-nil, map, foldl}
 use mathlib.Core.Bool.{Bool, true, false, cond, not}
 use borrow.Author.Tests.{eqb-true}
@@ -52,7 +52,8 @@ paired-append : (bs cs : List ℕ) (waiting : Bool) →
 paired-append [] cs waiting = rw (paired-none waiting) refl
 paired-append (b ∷ bs) cs waiting =
     rw (paired-byte waiting b (bs ++ cs), paired-byte waiting b bs, paired-append bs cs (waitsBehind waiting b))
-    (sym (append-assoc (tokensAt waiting b) (pairedFrom (waitsBehind waiting b) bs) (pairedFrom (foldl waitsBehind (waitsBehind waiting b) bs) cs)))
+    (sym (append-assoc (tokensAt waiting b) (pairedFrom (waitsBehind waiting b) bs) (pairedFrom (foldl waitsBehind
+    (waitsBehind waiting b) bs) cs)))
 
 -- where none waits, what follows is paired by itself
 pub paired-settled : (bs cs : List ℕ) → waitsAfter bs ≡ false → paired (bs ++ cs) ≡ paired bs ++ paired cs
@@ -88,14 +89,25 @@ module _ {A : Type 0} (whole : List ℕ → List A) where
   opened-start : (ts us : List Token) → opened whole (ts ++ start ∷ us) ≡ opened whole ts ++ opened whole (start ∷ us)
   opened-start [] us = refl
   opened-start (start ∷ ts) us =
-      rw (untilStart-start ts us, opened-start ts us) (sym (append-assoc (whole (untilStart ts)) (opened whole ts) (opened whole (start ∷ us))))
+      rw (
+        untilStart-start ts us,
+        opened-start ts us,
+      ) (sym (append-assoc (whole (untilStart ts)) (opened whole ts) (opened whole (start ∷ us))))
   opened-start (literal l ∷ ts) us = opened-start ts us
 
   -- behind bytes that leave none waiting, a start and its literals add what these make, and so they do where a 0x2B
   -- waits behind them
-  pub opened-framed : (bs : List ℕ) (c : ℕ) (ls tail : List ℕ) → waitsAfter bs ≡ false → eqb c 0x2B ≡ false → paired tail ≡ [] →
+  pub opened-framed : (bs : List ℕ) (c : ℕ) (ls tail : List ℕ) → waitsAfter bs ≡ false → eqb c 0x2B ≡ false →
+      paired tail ≡ [] →
       opened whole (paired (bs ++ (framed c ls ++ tail))) ≡ opened whole (paired bs) ++ whole (c ∷ ls)
   opened-framed bs c ls tail settled other quiet =
       let tokens : paired (framed c ls ++ tail) ≡ start ∷ literal c ∷ map literal ls =
       rw (other, paired-stuffed ls tail, quiet, append-nil) refl in
-      rw (paired-settled bs (framed c ls ++ tail) settled, tokens, opened-start (paired bs) (literal c ∷ map literal ls), untilStart-literals ls, opened-literals ls, append-nil) refl
+      rw (
+        paired-settled bs (framed c ls ++ tail) settled,
+        tokens,
+        opened-start (paired bs) (literal c ∷ map literal ls),
+        untilStart-literals ls,
+        opened-literals ls,
+        append-nil,
+      ) refl

@@ -4,7 +4,6 @@ use Prim.Native.Nat.{ℕ}
 use mathlib.Core.Path.{_≡_, refl, _∙_, ap}
 use mathlib.Core.List.{List, [], _∷_, _++_, foldl, foldl-append}
 use mathlib.Core.Bool.{Bool, true, false}
-use borrow.Author.Tests.{eqb-true}
 use lib.Dec.{eqb}
 use Rattle.document.specs.Doubling.{stuffed}
 use Rattle.document.specs.Message.{Message, wellFormed, onWire, finishedBy}
@@ -18,7 +17,8 @@ module _ (m : Message) (formed : wellFormed m ≡ true) (bs : List ℕ) (settled
   unfolding onWire
   message-last front b e = finished-found (bs ++ front) b ∙ found-last (message-frame m formed) bs settled front b e
 
-  pub message-before : (front : List ℕ) (b d : ℕ) (rest : List ℕ) → onWire m ≡ front ++ (b ∷ d ∷ rest) → finishedBy (bs ++ front) b ≡ []
+  pub message-before : (front : List ℕ) (b d : ℕ) (rest : List ℕ) → onWire m ≡ front ++ (b ∷ d ∷ rest) →
+      finishedBy (bs ++ front) b ≡ []
   unfolding onWire
   message-before front b d rest e =
       finished-found (bs ++ front) b ∙ found-before (message-frame m formed) bs settled front b d rest e
@@ -32,13 +32,15 @@ stuffed-settled [] = refl
 stuffed-settled (l ∷ ls) =
     split (eqb l 0x2B)
     (λ plus. rw plus (stuffed-settled ls))
-    (λ other. rw other (ap (λ (waiting : Bool). foldl waitsBehind waiting (stuffed ls)) (none-waits false l other) ∙ stuffed-settled ls))
+    (λ other. rw other (ap (λ (waiting : Bool). foldl waitsBehind waiting (stuffed ls))
+    (none-waits false l other) ∙ stuffed-settled ls))
 
 pub framed-settled : (bs : List ℕ) (c : ℕ) (ls : List ℕ) → eqb c 0x2B ≡ false → waitsAfter (bs ++ framed c ls) ≡ false
 unfolding waitsAfter
 framed-settled bs c ls other =
     foldl-append waitsBehind false bs (framed c ls)
-    ∙ ap (λ (waiting : Bool). foldl waitsBehind waiting (stuffed ls)) (none-waits (waitsBehind (foldl waitsBehind false bs) 0x2B) c other)
+    ∙ ap (λ (waiting : Bool). foldl waitsBehind waiting (stuffed ls)) (none-waits (waitsBehind
+    (foldl waitsBehind false bs) 0x2B) c other)
     ∙ stuffed-settled ls
 
 pub message-settled : (m : Message) → wellFormed m ≡ true → (bs : List ℕ) → waitsAfter (bs ++ onWire m) ≡ false

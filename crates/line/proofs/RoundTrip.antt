@@ -1,8 +1,8 @@
 -- Round trips: what goes over an idle line as a message or an answer is found as that, at its last byte and not before.
 use Prim.Native.Nat.{ℕ}
-use mathlib.Core.Path.{_≡_, refl, sym, _∙_}
+use mathlib.Core.Path.{_≡_, _∙_}
 use mathlib.Core.List.{List, [], _∷_, _++_}
-use mathlib.Core.Bool.{Bool, true, false, cond}
+use mathlib.Core.Bool.{true, false, cond}
 use lib.ListN.{length}
 use lib.Dec.{eqb}
 use Rattle.document.specs.Numbers.{isError}
@@ -20,7 +20,8 @@ module _ (m : Message) (formed : wellFormed m ≡ true) where
   pub message-back : (front : List ℕ) (b : ℕ) → onWire m ≡ front ++ (b ∷ []) → finishedBy front b ≡ m ∷ []
   message-back = message-last m formed [] reset
 
-  pub message-quiet : (front : List ℕ) (b d : ℕ) (rest : List ℕ) → onWire m ≡ front ++ (b ∷ d ∷ rest) → finishedBy front b ≡ []
+  pub message-quiet : (front : List ℕ) (b d : ℕ) (rest : List ℕ) → onWire m ≡ front ++ (b ∷ d ∷ rest) →
+      finishedBy front b ≡ []
   message-quiet = message-before m formed [] reset
 
 -- ---- answers
@@ -44,10 +45,13 @@ module _ (a : Answer) (expected : ℕ) (other : eqb (a .status) 0x2B ≡ false) 
         short = counted-short (reading (a .status)) _ (a .body) (sumByteOf (a .status ∷ a .body)) fits;
       }
 
-  pub answer-back : (front : List ℕ) (b : ℕ) → answerOnWire a ≡ front ++ (b ∷ []) → answerFinishedBy expected front b ≡ readBack a ∷ []
+  pub answer-back : (front : List ℕ) (b : ℕ) → answerOnWire a ≡ front ++ (b ∷ []) →
+      answerFinishedBy expected front b ≡ readBack a ∷ []
   unfolding answerOnWire
   answer-back front b e = answer-finished-found expected front b ∙ found-last answer-frame [] reset front b e
 
-  pub answer-quiet : (front : List ℕ) (b d : ℕ) (rest : List ℕ) → answerOnWire a ≡ front ++ (b ∷ d ∷ rest) → answerFinishedBy expected front b ≡ []
+  pub answer-quiet : (front : List ℕ) (b d : ℕ) (rest : List ℕ) → answerOnWire a ≡ front ++ (b ∷ d ∷ rest) →
+      answerFinishedBy expected front b ≡ []
   unfolding answerOnWire
-  answer-quiet front b d rest e = answer-finished-found expected front b ∙ found-before answer-frame [] reset front b d rest e
+  answer-quiet front b d rest e =
+      answer-finished-found expected front b ∙ found-before answer-frame [] reset front b d rest e

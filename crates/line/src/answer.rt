@@ -1,6 +1,5 @@
 // The answer writer: straight into the lent buffer, so that no second copy of an answer is held.
 ghost use mathlib.Core.Path.{_≡_};
-ghost use Rattle.document.specs.Answer.{Answer};
 ghost use Rattle.document.specs.AnswerWriter.{answerFormed};
 ghost use Rattle.line.specs.AnswerWritten.{AnswerWritten};
 use crate::Written;
@@ -8,9 +7,9 @@ use crate::doubling::PLUS;
 use crate::doubling::Progress;
 use crate::doubling::put_all;
 use crate::doubling::put_sum;
-use crate::numbers::FORM_REFUSED;
-use crate::numbers::ROOM_REFUSED;
-use crate::numbers::TAKEN;
+use codes::FORM_REFUSED;
+use codes::ROOM_REFUSED;
+use codes::TAKEN;
 
 // Start, status, and 65 bytes that may all be doubled.
 const ANSWER_ROOM: usize = 132;

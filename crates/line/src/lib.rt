@@ -1,7 +1,6 @@
 // The line: the sum, doubling, and the writer of answers, whatever any command means.
 mod answer;
 pub mod doubling;
-pub mod numbers;
 pub mod sum;
 
 pub use answer::write_answer;

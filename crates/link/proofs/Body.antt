@@ -34,7 +34,8 @@ sets-full (d ∷ ds) body at within full =
     split (ltb at (length body))
     (λ t. let lt : at < length body = ltb-true at (length body) t in
     let m : length body - at ≡ suc (length body - suc at) = omega arith in
-    let later : sets (set body at d) (suc at) ds ≡ take (suc at) (set body at d) ++ take (length (set body at d) - suc at) ds =
+    let later : sets (set body at d) (suc at) ds ≡ take (suc at) (set body at d) ++ take (length
+    (set body at d) - suc at) ds =
     sets-full ds (set body at d) (suc at) (simp length-set lt) (simp length-set (omega arith)) in
     rw m (later ∙ simp (take-suc-set body at d lt, length-set, append-assoc)))
     (λ f. let past : length body ≤ at = ltb-false at (length body) f in
@@ -49,6 +50,10 @@ kept-front data′ body =
     (λ t. let over : length body < length data′ = ltb-true _ _ t in
     let z : length body - 0 ≡ length body = omega arith in
     let short : length (take (length body) data′) ≤ length data′ = simp length-take (omega arith) in
-    rw (sets-full data′ body 0 (omega arith) (omega arith), z, take-all (length data′) (take (length body) data′) short))
+    rw (
+      sets-full data′ body 0 (omega arith) (omega arith),
+      z,
+      take-all (length data′) (take (length body) data′) short,
+    ))
     (λ f. let fits : length data′ ≤ length body = ltb-false _ _ f in
     rw (sets-eq data′ body 0 (omega arith), take-all (length body) data′ fits, take-append-seam))

@@ -6,3 +6,4 @@ pub mod Reports
 pub mod Runs
 pub mod Demands
 pub mod Places
+pub mod Lengths

@@ -1,16 +1,15 @@
 -- The place of a byte that is to be kept lies in the 64-byte body, and the byte is the one that was taken.
 use Prim.Native.Nat.{ℕ, _<_}
-use mathlib.Core.Path.{_≡_, refl, sym, _∙_, ap}
-use mathlib.Core.Bool.{Bool, true, false, cond}
+use mathlib.Core.Path.{_≡_}
+use mathlib.Core.Bool.{cond}
 use native.Mathlib.Omega.{arith}
 use borrow.Author.Tests.{ltb-true}
 use lib.Dec.{ltb, eqb}
 use Rattle.line.proofs.Cases.{split}
 use Rattle.link.specs.declared.Receiver.{Receiver}
-use Rattle.link.specs.declared.Event.{Event}
 use Rattle.link.specs.declared.Event.the-variants.{Nothing, Keep, Whole}
-use Rattle.link.specs.Step.{plus, literalTaken, withWaiting, stepped}
-use Rattle.link.proofs.Sound.{by-phase, literal-data, literal-sum, literal-length, literal-outside, plus-is}
+use Rattle.link.specs.Step.{plus, withWaiting, afterByte, byteEvent, stepped}
+use Rattle.link.proofs.Sound.{literalTaken, by-phase, literal-data, literal-sum, literal-length, literal-outside}
 
 module _ (b place byte : ℕ) where
   abbrev InBody : Type 0
@@ -40,8 +39,8 @@ module _ (b place byte : ℕ) where
       (λ d s l. from-nothing (rw (literal-outside r b d s l) at e))
 
   pub kept-in-body : (r : Receiver) → stepped r b .event ≡ Keep place byte → (place < 64) × (byte ≡ b)
-  unfolding stepped
+  unfolding stepped afterByte byteEvent literalTaken
   kept-in-body r e =
       split (eqb (plus b) (r .waiting))
       (λ t. from-literal (withWaiting 0 r) (rw t at e))
-      (λ f. split (eqb (plus b) 1) (λ t. from-nothing (rw (f, t) at e)) (λ t. from-nothing (rw (f, t) at e)))
+      (λ f. from-nothing (rw f at e))

@@ -1,9 +1,9 @@
 -- The receiver with the body beside it reports exactly the messages in the bytes since reset, each at its last byte:
 -- it is one of the readers of `Rattle.line.proofs.Machine`.
-use Prim.Native.Nat.{ℕ, _<_, _≤_}
+use Prim.Native.Nat.{ℕ}
 use mathlib.Core.Path.{_≡_, refl, sym, _∙_, ap}
-use mathlib.Core.List.{List, [], _∷_, _++_, map, foldl}
-use mathlib.Core.Bool.{Bool, true, false, cond, not}
+use mathlib.Core.List.{List, [], _∷_, _++_, map}
+use mathlib.Core.Bool.{Bool, true, false}
 use native.Mathlib.Omega.{arith}
 use borrow.Author.Tests.{leb-true, eqb-true, eqb-false, eq-eqb, ne-eqb}
 use lib.Dec.{leb, eqb}
@@ -13,11 +13,10 @@ use Rattle.line.proofs.Cases.{split}
 use Rattle.line.proofs.Pairing.{waitsBehind}
 use Rattle.line.proofs.Machine.{Reads, within-after, reported-at, found-map, finished-found}
 use Rattle.link.specs.declared.Receiver.{Receiver}
-use Rattle.link.specs.declared.Taken.{Taken}
 use Rattle.link.specs.Bounds.{fresh, sound}
-use Rattle.link.specs.Step.{plus, opened, nothing, literalTaken, withWaiting, stepped, taken}
+use Rattle.link.specs.Step.{plus, opened, withWaiting, afterByte, byteEvent, stepped, taken}
 use Rattle.link.specs.Report.{Held, held, Beside, onByte, reportedAt, sinceReset, reporting}
-use Rattle.link.proofs.Sound.{waiting-of, waiting-sound, plus-is, taken-step, sound-kept, reset-sound, by-phase, literal-data, literal-sum, literal-length, literal-outside}
+use Rattle.link.proofs.Sound.{nothing, literalTaken, waiting-of, waiting-sound, plus-is, taken-step, sound-kept, reset-sound, by-phase, literal-data, literal-sum, literal-length, literal-outside}
 use Rattle.link.proofs.Body.{body-length}
 use Rattle.link.proofs.Owed.{owes, owes-none, owes-literal, owes-opened}
 
@@ -37,16 +36,16 @@ first-flag waiting none = ne-eqb 1 waiting (λ e. eqb-false waiting 1 none (sym 
 
 module _ (r : Receiver) (bounds : sound r ≡ true) where
   literal-step : (b : ℕ) → eqb (r .waiting) 1 ≡ eqb b 0x2B → taken r b ≡ literalTaken (withWaiting 0 r) b
-  unfolding stepped
+  unfolding stepped afterByte byteEvent literalTaken
   literal-step b same = taken-step r b bounds ∙ rw (literal-flag b (r .waiting) (waiting-of r bounds) same) refl
 
   start-step : (b : ℕ) → eqb (r .waiting) 1 ≡ true → eqb b 0x2B ≡ false → taken r b ≡ nothing (opened b)
-  unfolding stepped
+  unfolding stepped afterByte byteEvent literalTaken
   start-step b waits other =
       taken-step r b bounds ∙ rw (start-flag b (r .waiting) waits other, plus-is b, other) refl
 
   first-step : eqb (r .waiting) 1 ≡ false → taken r 0x2B ≡ nothing (withWaiting 1 r)
-  unfolding stepped
+  unfolding stepped afterByte byteEvent literalTaken
   first-step none = taken-step r 0x2B bounds ∙ rw (first-flag (r .waiting) none) refl
 
 -- a literal leaves the flag as it is
@@ -79,20 +78,32 @@ pairs : (s : Beside) (b : ℕ) → within s → waits (onByte s b) ≡ waitsBehi
 pairs s b ok =
     split (waits s)
     (λ w. split (eqb b 0x2B)
-    (λ two. rw (literal-step (s .receiver) (ok .0) b (w ∙ sym two), literal-waiting (withWaiting 0 (s .receiver)) b, w, two) refl)
+    (λ two. rw (
+      literal-step (s .receiver) (ok .0) b (w ∙ sym two),
+      literal-waiting (withWaiting 0 (s .receiver)) b,
+      w,
+      two,
+    ) refl)
     (λ other. rw (start-step (s .receiver) (ok .0) b w other, other) refl))
     (λ w. split (eqb b 0x2B)
     (λ two. rw (eqb-true b 0x2B two, first-step (s .receiver) (ok .0) w, w) refl)
-    (λ other. rw (literal-step (s .receiver) (ok .0) b (w ∙ sym other), literal-waiting (withWaiting 0 (s .receiver)) b, other) refl))
+    (λ other. rw (
+      literal-step (s .receiver) (ok .0) b (w ∙ sym other),
+      literal-waiting (withWaiting 0 (s .receiver)) b,
+      other,
+    ) refl))
 
 first : (s : Beside) (ls : List ℕ) → within s → waits s ≡ false →
     (reportedAt s 0x2B ≡ []) × (owed (onByte s 0x2B) ls ≡ owed s ls)
-first s ls ok none = (rw (first-step (s .receiver) (ok .0) none) refl, rw (first-step (s .receiver) (ok .0) none) refl)
+first s ls ok none =
+    (rw (first-step (s .receiver) (ok .0) none) refl, rw (first-step (s .receiver) (ok .0) none) refl)
 
 opens : (s : Beside) (b : ℕ) (ls : List ℕ) → within s → waits s ≡ true → eqb b 0x2B ≡ false →
     (reportedAt s b ≡ []) × (owed (onByte s b) ls ≡ whole (b ∷ ls))
-opens s b ls ok w other =
-    (rw (start-step (s .receiver) (ok .0) b w other) refl, rw (start-step (s .receiver) (ok .0) b w other) (owes-opened b (s .body) ls (ok .1)))
+opens s b ls ok w other = (
+  rw (start-step (s .receiver) (ok .0) b w other) refl,
+  rw (start-step (s .receiver) (ok .0) b w other) (owes-opened b (s .body) ls (ok .1)),
+)
 
 takes : (s : Beside) (b : ℕ) (ls : List ℕ) → within s → waits s ≡ eqb b 0x2B →
     owed s (b ∷ ls) ≡ reportedAt s b ++ owed (onByte s b) ls

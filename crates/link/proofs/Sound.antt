@@ -1,25 +1,27 @@
 -- The bounds of the receiver's state: a step keeps them, and only a state outside is refused.
 use Prim.Native.Nat.{ℕ, _<_, _≤_, _+_}
-use mathlib.Core.Path.{_≡_, refl, sym, _∙_, ap}
+use mathlib.Core.Path.{_≡_, refl}
 use mathlib.Core.Bool.{Bool, true, false, cond, not, _&&_, _||_}
 use native.Mathlib.Omega.{arith}
-use borrow.Author.Tests.{ltb-true, ltb-false, eqb-true, not-true, eq-eqb, lt-ltb, le-ltb, le-leb}
+use borrow.Author.Tests.{ltb-true, ltb-false, eqb-true, not-true, eq-eqb, lt-ltb}
 use lib.Dec.{ltb, leb, eqb}
 use Rattle.document.specs.Numbers as numbers
 use Rattle.document.specs.Kinds.{hasLengthByte, fastLength}
 use Rattle.line.proofs.Cases.{split, and-left, and-right}
 use Rattle.link.specs.declared.Receiver.{Receiver}
 use Rattle.link.specs.declared.Taken.{Taken}
-use Rattle.link.specs.declared.Event.the-variants.{Refused}
+use Rattle.link.specs.declared.Event.the-variants.{Nothing, Keep, Whole, Refused}
 use Rattle.link.specs.Bounds.{idle, lengthNext, dataNext, sumNext, fresh, lengthRight, insideSound, sound}
-use Rattle.link.specs.Step.{plus, nextPhase, more, opened, measured, counted, closed, nothing, dataTaken, sumTaken, literalTaken, withWaiting, stepped, taken, numberOf}
+use Rattle.link.specs.Step.{plus, nextPhase, more, opened, measured, counted, closed, added, afterLiteral, literalEvent, withWaiting, afterByte, byteEvent, stepped, taken, numberOf}
 
 -- ---- the bounds over plain numbers
 abbrev pub inBounds : ℕ → ℕ → ℕ → ℕ → ℕ → Bool
-inBounds waiting phase c n have = leb waiting 1 && (eqb phase idle || (not (eqb c 0x2B) && insideSound phase c n have))
+inBounds waiting phase c n have =
+    leb waiting 1 && (eqb phase idle || (not (eqb c 0x2B) && insideSound phase c n have))
 
 module _ (waiting phase c n have : ℕ) where
-  in-bounds : leb waiting 1 ≡ true → eqb c 0x2B ≡ false → insideSound phase c n have ≡ true → inBounds waiting phase c n have ≡ true
+  in-bounds : leb waiting 1 ≡ true → eqb c 0x2B ≡ false → insideSound phase c n have ≡ true →
+      inBounds waiting phase c n have ≡ true
   in-bounds w other inside = split (eqb phase idle) (λ e. rw (w, e) refl) (λ e. rw (w, e, other, inside) refl)
 
   idle-in-bounds : leb waiting 1 ≡ true → eqb phase idle ≡ true → inBounds waiting phase c n have ≡ true
@@ -30,7 +32,9 @@ module _ (waiting phase c n have : ℕ) where
     waiting-in = and-left (leb waiting 1) _ bounds
 
     pub inside-in : eqb phase idle ≡ false → not (eqb c 0x2B) && insideSound phase c n have ≡ true
-    inside-in inside = rw inside at (and-right (leb waiting 1) (eqb phase idle || (not (eqb c 0x2B) && insideSound phase c n have)) bounds)
+    inside-in inside =
+        rw inside at (and-right (leb waiting 1) (eqb phase idle || (not
+        (eqb c 0x2B) && insideSound phase c n have)) bounds)
 
     pub command-in : eqb phase idle ≡ false → eqb c 0x2B ≡ false
     command-in inside = not-true _ (and-left (not (eqb c 0x2B)) _ (inside-in inside))
@@ -42,7 +46,9 @@ module _ (waiting phase c n have : ℕ) where
 pub other-phase : (phase p q : ℕ) → eqb phase p ≡ true → eqb p q ≡ false → eqb phase q ≡ false
 other-phase phase p q e apart = rw (eqb-true phase p e) apart
 
-pub by-phase : {P : Type 0} (phase : ℕ) → (eqb phase dataNext ≡ true → P) → (eqb phase sumNext ≡ true → P) → (eqb phase lengthNext ≡ true → P) → (eqb phase dataNext ≡ false → eqb phase sumNext ≡ false → eqb phase lengthNext ≡ false → P) → P
+pub by-phase : {P : Type 0} (phase : ℕ) → (eqb phase dataNext ≡ true → P) → (eqb phase sumNext ≡ true → P) →
+    (eqb phase lengthNext ≡ true → P) → (eqb phase dataNext ≡ false → eqb phase sumNext ≡ false →
+    eqb phase lengthNext ≡ false → P) → P
 by-phase phase onData onSum onLength onNone =
     split (eqb phase dataNext)
     onData
@@ -54,20 +60,33 @@ module _ (waiting phase c n have : ℕ) (bounds : inBounds waiting phase c n hav
   pub data-in : eqb phase dataNext ≡ true → (lengthRight c n ≡ true) × (have < n)
   data-in e =
       let inside : lengthRight c n && ltb have n ≡ true =
-      rw e at (phase-in waiting phase c n have bounds (other-phase phase dataNext idle e refl)) in
-      (and-left (lengthRight c n) (ltb have n) inside, ltb-true have n (and-right (lengthRight c n) (ltb have n) inside))
+      rw e at (phase-in waiting phase c n have bounds (other-phase phase dataNext idle e refl)) in (
+        and-left (lengthRight c n) (ltb have n) inside,
+        ltb-true have n (and-right (lengthRight c n) (ltb have n) inside),
+      )
 
   pub sum-in : eqb phase sumNext ≡ true → (lengthRight c n ≡ true) × (have ≡ n)
   sum-in e =
       let inside : lengthRight c n && eqb have n ≡ true =
-      rw (other-phase phase sumNext dataNext e refl, e) at (phase-in waiting phase c n have bounds (other-phase phase sumNext idle e refl)) in
-      (and-left (lengthRight c n) (eqb have n) inside, eqb-true have n (and-right (lengthRight c n) (eqb have n) inside))
+      rw (
+        other-phase phase sumNext dataNext e refl,
+        e,
+      ) at (phase-in waiting phase c n have bounds (other-phase phase sumNext idle e refl)) in (
+        and-left (lengthRight c n) (eqb have n) inside,
+        eqb-true have n (and-right (lengthRight c n) (eqb have n) inside),
+      )
 
   pub length-in : eqb phase lengthNext ≡ true → (hasLengthByte c ≡ true) × (have ≡ 0)
   length-in e =
       let inside : hasLengthByte c && eqb have 0 ≡ true =
-      rw (other-phase phase lengthNext dataNext e refl, other-phase phase lengthNext sumNext e refl, e) at (phase-in waiting phase c n have bounds (other-phase phase lengthNext idle e refl)) in
-      (and-left (hasLengthByte c) (eqb have 0) inside, eqb-true have 0 (and-right (hasLengthByte c) (eqb have 0) inside))
+      rw (
+        other-phase phase lengthNext dataNext e refl,
+        other-phase phase lengthNext sumNext e refl,
+        e,
+      ) at (phase-in waiting phase c n have bounds (other-phase phase lengthNext idle e refl)) in (
+        and-left (hasLengthByte c) (eqb have 0) inside,
+        eqb-true have 0 (and-right (hasLengthByte c) (eqb have 0) inside),
+      )
 
 -- a message's next phase is within bounds
 next-inside : (c n have : ℕ) → have ≤ n → lengthRight c n ≡ true → insideSound (nextPhase have n) c n have ≡ true
@@ -77,20 +96,36 @@ next-inside c n have fits right =
     (λ f. let e : have ≡ n = omega (arith, ltb-false have n f) in rw (f, right, eq-eqb have n e) refl)
 
 -- ---- the literal of each phase
+abbrev pub nothing : Receiver → Taken
+nothing r = record { next = r; event = Nothing }
+
+unfoldable pub literalTaken : Receiver → ℕ → Taken
+literalTaken r l = record { next = afterLiteral r l; event = literalEvent r l }
+
 module _ (r : Receiver) (l : ℕ) where
-  pub literal-data : eqb (r .phase) dataNext ≡ true → literalTaken r l ≡ dataTaken r l
+  pub literal-data : eqb (r .phase) dataNext ≡ true → literalTaken r l ≡ record {
+    next =
+        counted r l;
+    event = cond (ltb (r .have) 64) (Keep (r .have) l) Nothing;
+  }
   unfolding literalTaken
   literal-data e = rw e refl
 
-  pub literal-sum : eqb (r .phase) sumNext ≡ true → literalTaken r l ≡ sumTaken r l
+  pub literal-sum : eqb (r .phase) sumNext ≡ true → literalTaken r l ≡ record {
+    next =
+        closed r l;
+    event = Whole (r .command) (r .length) (added (r .sum) l);
+  }
   unfolding literalTaken
   literal-sum e = rw (other-phase (r .phase) sumNext dataNext e refl, e) refl
 
   pub literal-length : eqb (r .phase) lengthNext ≡ true → literalTaken r l ≡ nothing (measured r l)
   unfolding literalTaken
-  literal-length e = rw (other-phase (r .phase) lengthNext dataNext e refl, other-phase (r .phase) lengthNext sumNext e refl, e) refl
+  literal-length e =
+      rw (other-phase (r .phase) lengthNext dataNext e refl, other-phase (r .phase) lengthNext sumNext e refl, e) refl
 
-  pub literal-outside : eqb (r .phase) dataNext ≡ false → eqb (r .phase) sumNext ≡ false → eqb (r .phase) lengthNext ≡ false → literalTaken r l ≡ nothing r
+  pub literal-outside : eqb (r .phase) dataNext ≡ false → eqb (r .phase) sumNext ≡ false →
+      eqb (r .phase) lengthNext ≡ false → literalTaken r l ≡ nothing r
   unfolding literalTaken
   literal-outside d s e = rw (d, s, e) refl
 
@@ -105,7 +140,8 @@ module _ (r : Receiver) (bounds : sound r ≡ true) where
 
   command-of : (p : ℕ) → eqb (r .phase) p ≡ true → eqb p idle ≡ false → eqb (r .command) 0x2B ≡ false
   command-of p e inside =
-      command-in (r .waiting) (r .phase) (r .command) (r .length) (r .have) bounds-of (other-phase (r .phase) p idle e inside)
+      command-in (r .waiting) (r .phase) (r .command) (r .length) (r .have) bounds-of (other-phase
+      (r .phase) p idle e inside)
 
   pub data-of : eqb (r .phase) dataNext ≡ true → (lengthRight (r .command) (r .length) ≡ true) × (r .have < r .length)
   data-of = data-in (r .waiting) (r .phase) (r .command) (r .length) (r .have) bounds-of
@@ -121,7 +157,8 @@ module _ (r : Receiver) (bounds : sound r ≡ true) where
   counted-sound l e =
       let one : more (r .have) (r .length) ≡ r .have + 1 = rw (lt-ltb (r .have) (r .length) (data-of e .1)) refl in
       rw one
-      (in-bounds (r .waiting) (nextPhase (r .have + 1) (r .length)) (r .command) (r .length) (r .have + 1) waiting-of (command-of dataNext e refl)
+      (in-bounds (r .waiting) (nextPhase (r .have + 1) (r .length)) (r .command) (r .length)
+      (r .have + 1) waiting-of (command-of dataNext e refl)
       (next-inside (r .command) (r .length) (r .have + 1) (omega (arith, data-of e .1)) (data-of e .0)))
 
   closed-sound : (l : ℕ) → sound (closed r l) ≡ true
@@ -131,7 +168,8 @@ module _ (r : Receiver) (bounds : sound r ≡ true) where
   measured-sound : (l : ℕ) → eqb (r .phase) lengthNext ≡ true → sound (measured r l) ≡ true
   unfolding sound
   measured-sound l e =
-      in-bounds (r .waiting) (nextPhase (r .have) l) (r .command) l (r .have) waiting-of (command-of lengthNext e refl)
+      in-bounds (r .waiting) (nextPhase (r .have) l) (r .command) l (r .have) waiting-of
+      (command-of lengthNext e refl)
       (next-inside (r .command) l (r .have) (omega (arith, length-of e .1)) (rw (length-of e .0) refl))
 
   literal-sound : (l : ℕ) → sound (literalTaken r l .next) ≡ true
@@ -151,7 +189,10 @@ unfolding sound
 opened-sound c other =
     split (hasLengthByte c)
     (λ standard. rw (standard, other) refl)
-    (λ fast. let right : lengthRight c (fastLength c) ≡ true = rw (fast, eq-eqb (fastLength c) (fastLength c) refl) refl in
+    (λ fast. let right : lengthRight c (fastLength c) ≡ true = rw (
+      fast,
+      eq-eqb (fastLength c) (fastLength c) refl,
+    ) refl in
     let inside : insideSound (nextPhase 0 (fastLength c)) c (fastLength c) 0 ≡ true =
     next-inside c (fastLength c) 0 (omega arith) right in
     rw fast (rw fast at (in-bounds 0 (nextPhase 0 (fastLength c)) c (fastLength c) 0 refl other inside)))
@@ -160,7 +201,7 @@ pub plus-is : (b : ℕ) → eqb (plus b) 1 ≡ eqb b 0x2B
 plus-is b = split (eqb b 0x2B) (λ plus. rw plus refl) (λ other. rw other refl)
 
 pub step-sound : (r : Receiver) (b : ℕ) → sound r ≡ true → sound (stepped r b .next) ≡ true
-unfolding stepped
+unfolding stepped afterByte byteEvent literalTaken
 step-sound r b bounds =
     split (eqb (plus b) (r .waiting))
     (λ e. rw e (literal-sound (withWaiting 0 r) (waiting-sound r bounds 0 refl) b))
@@ -197,13 +238,14 @@ literal-number r l =
     (λ d s e. rw (literal-outside r l d s e) refl)
 
 step-number : (r : Receiver) (b : ℕ) → numberOf (stepped r b .event) ≡ numbers.taken
-unfolding stepped
+unfolding stepped afterByte byteEvent literalTaken
 step-number r b =
     split (eqb (plus b) (r .waiting))
     (λ e. rw e (literal-number (withWaiting 0 r) b))
-    (λ e. split (eqb (plus b) 1) (λ t. rw (e, t) refl) (λ f. rw (e, f) refl))
+    (λ e. rw e refl)
 
-pub taken-number : (r : Receiver) (b : ℕ) → numberOf (taken r b .event) ≡ cond (sound r) numbers.taken numbers.stateRefused
+pub taken-number : (r : Receiver) (b : ℕ) →
+    numberOf (taken r b .event) ≡ cond (sound r) numbers.taken numbers.stateRefused
 taken-number r b =
     split (sound r)
     (λ within. rw (taken-step r b within, within) (step-number r b))

@@ -12,7 +12,8 @@ use Rattle.link.specs.Report.{Held, held}
 -- and no byte before it brings anything.
 pub record OnlyAtLast {A : Type 0} (brings : List ℕ → ℕ → List A) (bs sent : List ℕ) (a : A) : Type 0 where
   pub last : (front : List ℕ) (b : ℕ) → sent ≡ front ++ (b ∷ []) → brings (bs ++ front) b ≡ a ∷ []
-  pub before : (front : List ℕ) (b next : ℕ) (rest : List ℕ) → sent ≡ front ++ (b ∷ next ∷ rest) → brings (bs ++ front) b ≡ []
+  pub before : (front : List ℕ) (b next : ℕ) (rest : List ℕ) → sent ≡ front ++ (b ∷ next ∷ rest) →
+      brings (bs ++ front) b ≡ []
 
 -- These bytes end in a start and exactly one stuffed, well-formed message. An even run before its start byte makes that
 -- a start in the pairing of them all.

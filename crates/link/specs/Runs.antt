@@ -1,7 +1,7 @@
 -- Runs of 0x2B, as demand 3 counts them: without the start byte, back to the last other byte or to reset.
 use Prim.Native.Nat.{ℕ, zero, suc}
 use mathlib.Core.List.{List, foldl}
-use mathlib.Core.Bool.{Bool, true, false, cond, not}
+use mathlib.Core.Bool.{Bool, false, cond, not}
 use lib.Dec.{eqb}
 
 -- a 0x2B makes the run longer, another byte ends it

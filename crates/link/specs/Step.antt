@@ -80,25 +80,20 @@ closed r l =
       sum = added (r .sum) l;
     }
 
-abbrev pub nothing : Receiver → Taken
-nothing r = record { next = r; event = Nothing }
-
--- "A data part holds at most 64 bytes": those behind are counted and summed, and not kept
-abbrev pub dataTaken : Receiver → ℕ → Taken
-dataTaken r l = record { next = counted r l; event = cond (ltb (r .have) 64) (Keep (r .have) l) Nothing }
-
--- "The answer comes with the sum byte's last wire byte, once."
-abbrev pub sumTaken : Receiver → ℕ → Taken
-sumTaken r l = record { next = closed r l; event = Whole (r .command) (r .length) (added (r .sum) l) }
-
 -- "Literals outside a message are dropped."
-unfoldable pub literalTaken : Receiver → ℕ → Taken
-literalTaken r l =
+abbrev pub afterLiteral : Receiver → ℕ → Receiver
+afterLiteral r l =
     cond (eqb (r .phase) dataNext)
-    (dataTaken r l)
-    (cond (eqb (r .phase) sumNext)
-    (sumTaken r l)
-    (cond (eqb (r .phase) lengthNext) (nothing (measured r l)) (nothing r)))
+    (counted r l)
+    (cond (eqb (r .phase) sumNext) (closed r l) (cond (eqb (r .phase) lengthNext) (measured r l) r))
+
+-- "A data part holds at most 64 bytes": a byte behind those is counted and summed, and not kept. "The answer comes with
+-- the sum byte's last wire byte, once."
+abbrev pub literalEvent : Receiver → ℕ → Event
+literalEvent r l =
+    cond (eqb (r .phase) dataNext)
+    (cond (ltb (r .have) 64) (Keep (r .have) l) Nothing)
+    (cond (eqb (r .phase) sumNext) (Whole (r .command) (r .length) (added (r .sum) l)) Nothing)
 
 abbrev pub withWaiting : ℕ → Receiver → Receiver
 withWaiting w r =
@@ -106,11 +101,17 @@ withWaiting w r =
 
 -- "0x2B followed by 0x2B is one literal 0x2B. 0x2B followed by another byte is a start, and that other byte is a
 -- literal. A last 0x2B without a follower waits. All other bytes are literals."
-unfoldable pub stepped : Receiver → ℕ → Taken
-stepped r b =
+unfoldable pub afterByte : Receiver → ℕ → Receiver
+afterByte r b =
     cond (eqb (plus b) (r .waiting))
-    (literalTaken (withWaiting 0 r) b)
-    (cond (eqb (plus b) 1) (nothing (withWaiting 1 r)) (nothing (opened b)))
+    (afterLiteral (withWaiting 0 r) b)
+    (cond (eqb (plus b) 1) (withWaiting 1 r) (opened b))
+
+unfoldable pub byteEvent : Receiver → ℕ → Event
+byteEvent r b = cond (eqb (plus b) (r .waiting)) (literalEvent r b) Nothing
+
+unfoldable pub stepped : Receiver → ℕ → Taken
+stepped r b = record { next = afterByte r b; event = byteEvent r b }
 
 -- "Calls refuse .., consume no byte, and hand the state back unchanged"
 unfoldable pub taken : Receiver → ℕ → Taken

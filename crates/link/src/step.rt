@@ -1,6 +1,6 @@
 // What the receiver does with a byte, whatever its state: it waits, opens a message, or takes a literal.
 ghost use mathlib.Core.Path.{_≡_};
-ghost use Rattle.link.specs.Step.{plus, nextPhase, more, opened, measured, dataTaken, sumTaken, literalTaken, stepped};
+ghost use Rattle.link.specs.Step.{plus, nextPhase, more, opened, measured, counted, closed, afterLiteral, literalEvent, afterByte, byteEvent, stepped};
 use crate::DATA_NEXT;
 use crate::Event;
 use crate::IDLE;
@@ -66,80 +66,90 @@ impl Receiver {
         self
     }
 
-    fn keep(mut self, byte: u8) -> Taken
-        ensures { λ r. ⌜ r ≡ dataTaken self byte ⌝ }
+    fn count(mut self, byte: u8) -> Receiver
+        ensures { λ r. ⌜ r ≡ counted self byte ⌝ }
     {
-        let at = self.have;
         self.sum = added(self.sum, byte);
-        self.have = more(at, self.length);
+        self.have = more(self.have, self.length);
         self.phase = next_phase(self.have, self.length);
-        if at < 64 {
-            return Taken {
-                next: self,
-                event: Event::Keep { at, byte },
-            };
-        }
-        Taken {
-            next: self,
-            event: Event::Nothing,
-        }
+        self
     }
 
-    fn finish(mut self, byte: u8) -> Taken
-        ensures { λ r. ⌜ r ≡ sumTaken self byte ⌝ }
+    fn close(mut self, byte: u8) -> Receiver
+        ensures { λ r. ⌜ r ≡ closed self byte ⌝ }
     {
         self.sum = added(self.sum, byte);
         self.phase = IDLE;
-        Taken {
-            next: self,
-            event: Event::Whole {
-                command: self.command,
-                length: self.length,
-                sum: self.sum,
-            },
-        }
+        self
     }
 
-    fn literal(self, byte: u8) -> Taken
-        ensures { λ r. ⌜ r ≡ literalTaken self byte ⌝ }
+    fn after_literal(self, byte: u8) -> Receiver
+        ensures { λ r. ⌜ r ≡ afterLiteral self byte ⌝ }
     {
         if self.phase == DATA_NEXT {
-            return self.keep(byte);
+            return self.count(byte);
         }
         if self.phase == SUM_NEXT {
-            return self.finish(byte);
+            return self.close(byte);
         }
         if self.phase == LENGTH_NEXT {
-            return Taken {
-                next: self.measure(byte),
-                event: Event::Nothing,
-            };
+            return self.measure(byte);
         }
-        Taken {
-            next: self,
-            event: Event::Nothing,
-        }
+        self
     }
 
-    // The same for a caller that has checked the bounds; any state is safe.
-    pub fn step(mut self, byte: u8) -> Taken
-        ensures { λ r. ⌜ r ≡ stepped self byte ⌝ }
+    fn literal_event(self, byte: u8) -> Event
+        ensures { λ r. ⌜ r ≡ literalEvent self byte ⌝ }
+    {
+        if self.phase == DATA_NEXT {
+            let at = self.have;
+            if at < 64 {
+                return Event::Keep { at, byte };
+            }
+            return Event::Nothing;
+        }
+        if self.phase == SUM_NEXT {
+            return Event::Whole {
+                command: self.command,
+                length: self.length,
+                sum: added(self.sum, byte),
+            };
+        }
+        Event::Nothing
+    }
+
+    fn after_byte(mut self, byte: u8) -> Receiver
+        ensures { λ r. ⌜ r ≡ afterByte self byte ⌝ }
     {
         let plus = plus_of(byte);
         if plus == self.waiting {
             self.waiting = 0;
-            return self.literal(byte);
+            return self.after_literal(byte);
         }
         if plus == 1 {
             self.waiting = 1;
-            return Taken {
-                next: self,
-                event: Event::Nothing,
-            };
+            return self;
         }
+        self.open(byte)
+    }
+
+    fn byte_event(self, byte: u8) -> Event
+        ensures { λ r. ⌜ r ≡ byteEvent self byte ⌝ }
+    {
+        if plus_of(byte) == self.waiting {
+            return self.literal_event(byte);
+        }
+        Event::Nothing
+    }
+
+    // What `take` does within the bounds, for a caller that has checked them; any state is safe. State and event are
+    // made apart and put together once: that compiles to half the instructions of an answer made in each branch.
+    pub fn step(self, byte: u8) -> Taken
+        ensures { λ r. ⌜ r ≡ stepped self byte ⌝ }
+    {
         Taken {
-            next: self.open(byte),
-            event: Event::Nothing,
+            next: self.after_byte(byte),
+            event: self.byte_event(byte),
         }
     }
 }

@@ -1,7 +1,6 @@
 -- Masked stores at every width: bit by bit, by and, or and complement, and byte by byte.
 use mathlib.Core.Path.{_≡_, refl, sym, ap, _∙_}
 use mathlib.Core.Bool.{Bool, true, false, cond}
-use mathlib.Core.List.{List, [], _∷_}
 use Prim.Native.Nat.{ℕ, zero, suc, _+_, _-_, _*_, _^_, _/_, _%_, _<_}
 use native.Mathlib.Nat.{pow-suc, zero-add, suc-add, div-one, mul-comm, mul-assoc}
 use native.Mathlib.Numerals.{add-one}

@@ -1,14 +1,14 @@
 -- Numbers of n bytes, at every n from 1 to 4: how large they are, and what they are as signed numbers.
 use mathlib.Core.Path.{_≡_, refl, sym, ap, _∙_}
-use mathlib.Core.List.{List, [], _∷_}
+use mathlib.Core.List.{List}
 use Prim.Native.Nat.{ℕ, zero, suc, _+_, _-_, _*_, _^_, _%_, _<_, _≤_}
 use native.Mathlib.Nat.{pow-suc, one-mul, pow-le-pow-right, zero-lt-suc}
 use native.Mathlib.Omega.{arith}
 use lib.Dec.{lit<}
 use lib.Pow.{pow-mono, pow-add, shl-exact}
-use lib.IntN.{ℤ, pos, negsuc, _-ℤ_, +ℤ-idl}
-use lib.ListN.{length, getD, take, drop}
-use lib.Seq.{drop-cons, length-take-le}
+use lib.IntN.{pos, negsuc, _-ℤ_, +ℤ-idl}
+use lib.ListN.{length, getD, drop}
+use lib.Seq.{drop-cons}
 use mir.Val.{SFits, toZ, ofZ}
 use mir.Syntax.{w64}
 use mir.Facts.{toZ-pos, toZ-ofZ}

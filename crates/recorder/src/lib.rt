@@ -1,1 +1,17 @@
 // The recorder: its setup, start, stop, tick, trigger and start index.
+mod bounds;
+mod calls;
+mod run;
+mod setup;
+mod state;
+mod tick;
+mod trigger;
+mod wide;
+
+pub use calls::Answered;
+pub use calls::Queried;
+pub use setup::SetUp;
+pub use state::Plan;
+pub use state::Recorder;
+pub use state::Run;
+pub use tick::Ticked;

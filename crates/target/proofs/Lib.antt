@@ -9,4 +9,11 @@ pub mod Unless
 pub mod ReadLaws
 pub mod WriteLaws
 pub mod Words
+pub mod InstrumentLaws
+pub mod ScopeReads
+pub mod AnswerLaws
+pub mod OperateLaws
+pub mod RespondLaws
+pub mod TargetBounds
+pub mod CallLaws
 pub mod Happened

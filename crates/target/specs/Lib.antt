@@ -5,3 +5,8 @@ pub mod Asked
 pub mod AnsweredHeld
 pub mod Told
 pub mod Wrote
+pub mod State
+pub mod Answers
+pub mod Next
+pub mod Bounds
+pub mod Calls

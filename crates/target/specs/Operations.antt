@@ -31,15 +31,16 @@ blockEmpty c body = hasSize c && eqb (sizeField c body) 0
 abbrev pub blockStatus : ℕ → List ℕ → ℕ
 blockStatus c body = firstOf (when layoutWrong (blockWrong c body) ∷ when sizeWrong (blockEmpty c body) ∷ [])
 
-abbrev pub reading : Gate → ℕ → List ℕ → Outcome
-reading g c body =
-    unless g
-    (when layoutWrong (blockWrong c body)
+abbrev pub readRefusals : ℕ → List ℕ → List Refusal
+readRefusals c body =
+    when layoutWrong (blockWrong c body)
     ∷ when sizeWrong (blockEmpty c body)
     ∷ when answerTooLong (ltb 64 (sizeField c body))
     ∷ when rangeWrong (not (mayBeRead (addressField c body) (sizeField c body)))
-    ∷ [])
-    (readAnswer g c body)
+    ∷ []
+
+abbrev pub reading : Gate → ℕ → List ℕ → Outcome
+reading g c body = unless g (readRefusals c body) (readAnswer g c body)
 
 abbrev pub writing : Gate → ℕ → List ℕ → Outcome → Outcome
 writing g c body outcome =
@@ -59,11 +60,12 @@ settingUpScope g ex body =
     ∷ [])
     (says (withScope g (scopeSetUp ex body)) done [])
 
+abbrev pub scopeReadRefusals : Gate → List Refusal
+scopeReadRefusals g =
+    when notSetUp (scopeAbsent (g .scope)) ∷ when answerTooLong (scopeTooLong (g .scope)) ∷ []
+
 abbrev pub readingScope : Gate → Outcome
-readingScope g =
-    unless g
-    (when notSetUp (scopeAbsent (g .scope)) ∷ when answerTooLong (scopeTooLong (g .scope)) ∷ [])
-    (says g done (scopeRead (g .scope) (g .memory)))
+readingScope g = unless g (scopeReadRefusals g) (says g done (scopeRead (g .scope) (g .memory)))
 
 abbrev pub settingUpRecorder : Gate → Bool → List ℕ → Outcome
 settingUpRecorder g ex body =
@@ -76,14 +78,17 @@ settingUpRecorder g ex body =
     (says (withRecorder g (recorderSetUp ex body)) done [])
 
 -- start, stop and status
+abbrev pub askRefusals : Gate → List Refusal
+askRefusals g = when notSetUp (recorderAbsent (g .recorder)) ∷ []
+
 abbrev pub askingRecorder : Gate → Outcome → Outcome
-askingRecorder g outcome = unless g (when notSetUp (recorderAbsent (g .recorder)) ∷ []) outcome
+askingRecorder g outcome = unless g (askRefusals g) outcome
+
+abbrev pub queryRefusals : Gate → List Refusal
+queryRefusals g = when notSetUp (recorderAbsent (g .recorder)) ∷ when busy (isRunning (g .recorder)) ∷ []
 
 abbrev pub queryingBuffer : Gate → Bool → Outcome
-queryingBuffer g ex =
-    unless g
-    (when notSetUp (recorderAbsent (g .recorder)) ∷ when busy (isRunning (g .recorder)) ∷ [])
-    (says g done (bufferAnswer (addressWidth ex) (g .recorder)))
+queryingBuffer g ex = unless g (queryRefusals g) (says g done (bufferAnswer (addressWidth ex) (g .recorder)))
 
 -- the operation's number in the table of commands; 0 is not served
 unfoldable pub operationOf : ℕ → ℕ

@@ -6,7 +6,7 @@ ghost use Rattle.document.specs.Numbers.{done};
 ghost use Rattle.document.specs.Commands.{description};
 ghost use Rattle.target.specs.Told.{Told};
 use crate::answer::tell;
-use crate::numbers::DONE;
+use codes::DONE;
 
 const DESCRIPTION: [u8; 35] = [
     0x03,

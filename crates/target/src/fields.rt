@@ -7,12 +7,12 @@ ghost use Rattle.document.specs.Fields.{sizeField, addressField, addressPlace, 
 ghost use Rattle.document.specs.Variables.{addressWidth};
 ghost use Rattle.target.specs.Operations.{blockStatus};
 ghost use Rattle.target.specs.Looked.{Looked};
-use crate::numbers::DONE;
-use crate::numbers::LAYOUT_WRONG;
-use crate::numbers::SIZE_WRONG;
 use crate::operation::Operation;
 use crate::operation::READ;
 use crate::operation::WRITE;
+use codes::DONE;
+use codes::LAYOUT_WRONG;
+use codes::SIZE_WRONG;
 
 fn wide(byte: u8) -> usize
     ensures { λ r. ⌜ (r ≡ byte) × (r ≤ 255) ⌝ }

@@ -1,8 +1,19 @@
 // The target: what comes over the port, refused or carried out.
 mod answer;
+mod answering;
+mod byte;
 mod describing;
 mod fields;
-mod numbers;
+mod instruments;
+mod operating;
 mod operation;
 mod reading;
+mod responding;
+mod state;
+mod tick;
 mod writing;
+
+pub use answering::Instruments;
+pub use byte::Taken;
+pub use state::Target;
+pub use tick::Ticked;

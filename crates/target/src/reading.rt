@@ -11,10 +11,10 @@ use crate::answer::tell;
 use crate::fields::address_in;
 use crate::fields::block_status;
 use crate::fields::size_in;
-use crate::numbers::ANSWER_TOO_LONG;
-use crate::numbers::DONE;
-use crate::numbers::RANGE_WRONG;
 use crate::operation::Operation;
+use codes::ANSWER_TOO_LONG;
+use codes::DONE;
+use codes::RANGE_WRONG;
 
 fn place(address: u32) -> usize
     ensures { λ r. ⌜ r ≡ address ⌝ }

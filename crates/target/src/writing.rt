@@ -13,9 +13,9 @@ use crate::fields::address_in;
 use crate::fields::block_status;
 use crate::fields::data_place;
 use crate::fields::size_in;
-use crate::numbers::DONE;
-use crate::numbers::RANGE_WRONG;
 use crate::operation::Operation;
+use codes::DONE;
+use codes::RANGE_WRONG;
 use memory::Stored;
 
 // The memory is of the right length here; its number stands for a case that does not come.

@@ -26,6 +26,17 @@ use Rattle.host.proofs.measure.wire_length.Reads as wire-length-reads
 use Rattle.line.proofs.doubling.put_all.Reads as put-all-reads
 use Rattle.line.proofs.doubling.put_sum.Reads as put-sum-reads
 
+is-formed-requires : tie.Need-is-formed-requires
+is-formed-requires c κs = search needs
+
+returns : tie.Need-returns
+unfolding commandRefusal commandWritten commandBuffer
+returns c =
+    record {
+      result = simp (← c .before .is-formed .ensures, c .if1 .taken);
+      buffer = simp (← c .before .is-formed .ensures, c .if1 .taken);
+    }
+
 -- what is known once nothing refuses the message
 formed : (c : tie.Else1) → wellFormed (summed (c .before .before .before .before .args .command) (c .before .before .before .before .args .body .now)) ≡ true
 formed c = sym (c .before .is-formed .ensures) ∙ not-false _ (c .if1 .left)
@@ -34,6 +45,17 @@ few : (c : tie.Else1) → length (c .before .before .before .before .args .body 
 few c =
     let a = c .before .before .before .before .args in
     formed-short (a .command) (a .body .now) (formed c)
+
+wire-length-requires : tie.Need-wire-length-requires
+wire-length-requires c κs = few c
+
+returns-2 : tie.Need-returns-2
+unfolding commandRefusal commandWritten commandBuffer
+returns-2 c =
+    record {
+      result = simp (← c .before .before .before .is-formed .ensures, c .before .before .if1 .left, ← c .before .wire-length .ensures, c .if2 .taken);
+      buffer = simp (← c .before .before .before .is-formed .ensures, c .before .before .if1 .left, ← c .before .wire-length .ensures, c .if2 .taken);
+    }
 
 abbrev asked : tie.Else2 → tie.Start
 asked c = c .before .before .before .before .before .before
@@ -49,28 +71,6 @@ parts : (c : tie.Else2) →
     + length (stuffed (sumByteOf (asked c .args .command ∷ between (asked c .args .command) (asked c .args .body .now)) ∷ []))
     ≤ length (asked c .args .out .now)
 parts c = omega (arith, room c, command-length (asked c .args .command) (asked c .args .body .now))
-
-is-formed-requires : tie.Need-is-formed-requires
-is-formed-requires c κs = search needs
-
-returns : tie.Need-returns
-unfolding commandRefusal commandWritten commandBuffer
-returns c =
-    record {
-      result = simp (← c .before .is-formed .ensures, c .if1 .taken);
-      buffer = simp (← c .before .is-formed .ensures, c .if1 .taken);
-    }
-
-wire-length-requires : tie.Need-wire-length-requires
-wire-length-requires c κs = few c
-
-returns-2 : tie.Need-returns-2
-unfolding commandRefusal commandWritten commandBuffer
-returns-2 c =
-    record {
-      result = simp (← c .before .before .before .is-formed .ensures, c .before .before .if1 .left, ← c .before .wire-length .ensures, c .if2 .taken);
-      buffer = simp (← c .before .before .before .is-formed .ensures, c .before .before .if1 .left, ← c .before .wire-length .ensures, c .if2 .taken);
-    }
 
 slice-write-out : tie.Need-slice-write-out
 slice-write-out c = omega (arith, parts c)

@@ -1,5 +1,5 @@
 -- The length byte, where the command has one.
-use mathlib.Core.Path.{_≡_, sym}
+use mathlib.Core.Path.{sym}
 use native.Mathlib.Omega.{arith}
 use borrow.Author.Tests.{lt-ltb, le-ltb}
 use Rattle.line.proofs.Writing.{progressed-none}

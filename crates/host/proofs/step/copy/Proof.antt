@@ -1,7 +1,6 @@
 -- What is left to copy gives the whole.
 use mathlib.Core.Path.{_≡_}
 use Prim.Native.Nat.{_-_, _<_, _≤_}
-use native.Mathlib.Omega.{arith}
 use native.Mathlib.Numerals.{add-one}
 use borrow.Author.Needs.{needs}
 use lib.ListN.{length, drop, drop-of-length-le}

@@ -1,5 +1,5 @@
 -- The four cases of a pairing.
-use mathlib.Core.Path.{_≡_, refl, ap, _∙_}
+use mathlib.Core.Path.{refl, ap, _∙_}
 use borrow.Author.Tests.{eq-eqb, ne-eqb}
 use Rattle.host.specs.declared.reader.AnswerReader.{AnswerReader}
 use Rattle.host.specs.Reader.{silent}

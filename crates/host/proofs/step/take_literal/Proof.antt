@@ -1,5 +1,5 @@
 -- The phase decides; its bounds give the room.
-use mathlib.Core.Path.{_≡_, refl, sym, ap, _∙_}
+use mathlib.Core.Path.{refl, ap, _∙_}
 use Rattle.host.specs.declared.reader.AnswerReader.{AnswerReader}
 use Rattle.host.specs.Reader.{silent}
 use Rattle.host.specs.Promises.{gives}

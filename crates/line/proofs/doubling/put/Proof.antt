@@ -1,11 +1,10 @@
 -- A byte stands at its place once, or twice where it is 0x2B.
-use Prim.Native.Nat.{_<_}
 use native.Mathlib.Nat.{add-zero}
 use native.Mathlib.Omega.{arith}
 use native.Mathlib.Numerals.{add-one}
 use borrow.Author.Needs.{needs}
 use borrow.Author.Tests.{ne-eqb}
-use lib.ListN.{length, length-set}
+use lib.ListN.{length-set}
 use Rattle.line.proofs.Stuffed.{stuffed-some}
 use Rattle.line.proofs.doubling.put.Statement.{statement}
 use Rattle.line.proofs.doubling.put.Tie as tie

@@ -1,10 +1,7 @@
+-- The length byte is added and says how many data bytes come.
 use borrow.Author.Needs.{needs}
 use Rattle.link.proofs.Receiver.measure.Statement.{statement}
 use Rattle.link.proofs.Receiver.measure.Tie as tie
-use Rattle.link.proofs.Receiver.measure.Reads as reads
-use Rattle.link.proofs.Receiver.measure.Lts as lts
-use Rattle.line.proofs.sum.added.Reads as added-reads
-use Rattle.link.proofs.step.next_phase.Reads as next-phase-reads
 
 added-requires : tie.Need-added-requires
 added-requires c κs = search needs

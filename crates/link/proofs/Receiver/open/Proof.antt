@@ -1,10 +1,8 @@
+-- The two kinds of command, told by 0xC0.
 use borrow.Author.Tests.{lt-ltb, le-ltb}
 use borrow.Author.Needs.{needs}
 use Rattle.link.proofs.Receiver.open.Statement.{statement}
 use Rattle.link.proofs.Receiver.open.Tie as tie
-use Rattle.link.proofs.Receiver.open.Reads as reads
-use Rattle.link.proofs.Receiver.open.Lts as lts
-use Rattle.link.proofs.step.next_phase.Reads as next-phase-reads
 
 returns : tie.Need-returns
 returns c = simp (lt-ltb _ _ (c .if1 .taken))

@@ -1,37 +1,18 @@
-use mathlib.Core.Path.{sym, _∙_}
-use borrow.Author.Tests.{eq-eqb, ne-eqb}
+-- The next state and the event, each by its own contract.
 use Rattle.link.specs.Step.{stepped}
 use borrow.Author.Needs.{needs}
 use Rattle.link.proofs.Receiver.step.Statement.{statement}
 use Rattle.link.proofs.Receiver.step.Tie as tie
-use Rattle.link.proofs.Receiver.step.Reads as reads
-use Rattle.link.proofs.Receiver.step.Lts as lts
-use Rattle.link.proofs.Receiver.literal.Reads as literal-reads
-use Rattle.link.proofs.Receiver.open.Reads as open-reads
-use Rattle.link.proofs.step.plus_of.Reads as plus-of-reads
 
-plus-of-requires : tie.Need-plus-of-requires
-plus-of-requires c κs = search needs
+after-byte-requires : tie.Need-after-byte-requires
+after-byte-requires c κs = search needs
 
-literal-requires : tie.Need-literal-requires
-literal-requires c κs = search needs
+byte-event-requires : tie.Need-byte-event-requires
+byte-event-requires c κs = search needs
 
 returns : tie.Need-returns
 unfolding stepped
-returns c = simp (c .literal .ensures, eq-eqb _ _ (sym (c .before .before .before .plus-of .ensures) ∙ c .before .if1 .taken))
-
-returns-2 : tie.Need-returns-2
-unfolding stepped
-returns-2 c = simp (ne-eqb _ _ (λ e. c .before .if1 .left (c .before .before .before .plus-of .ensures ∙ e)), eq-eqb _ _ (sym (c .before .before .before .plus-of .ensures) ∙ c .if2 .taken))
-
-open-requires : tie.Need-open-requires
-open-requires c κs = search needs
-
-returns-3 : tie.Need-returns-3
-unfolding stepped
-returns-3 c = simp (c .«open» .ensures, ne-eqb _ _ (λ e. c .before .before .if1 .left (c .before .before .before .before .plus-of .ensures ∙ e)), ne-eqb _ _ (λ e. c .before .if2 .left (c .before .before .before .before .plus-of .ensures ∙ e)))
+returns c = simp (c .before .after-byte .ensures, c .byte-event .ensures)
 
 pub step-spec : {M : Type 1} → statement M
-step-spec =
-    tie.close
-    (tie.spec plus-of-requires literal-requires returns returns-2 open-requires returns-3)
+step-spec = tie.close (tie.spec after-byte-requires byte-event-requires returns)

@@ -1,12 +1,9 @@
+-- The check tells the step from the refusal.
 use mathlib.Core.Path.{sym, _∙_}
 use Rattle.link.specs.Step.{taken}
 use borrow.Author.Needs.{needs}
 use Rattle.link.proofs.Receiver.take.Statement.{statement}
 use Rattle.link.proofs.Receiver.take.Tie as tie
-use Rattle.link.proofs.Receiver.take.Reads as reads
-use Rattle.link.proofs.Receiver.take.Lts as lts
-use Rattle.link.proofs.Receiver.is_sound.Reads as is-sound-reads
-use Rattle.link.proofs.Receiver.step.Reads as step-reads
 
 is-sound-requires : tie.Need-is-sound-requires
 is-sound-requires c κs = search needs

@@ -1,9 +1,8 @@
+-- The two kinds of command, told by 0xC0.
 use borrow.Author.Tests.{lt-ltb, le-ltb}
 use borrow.Author.Needs.{needs}
 use Rattle.link.proofs.bounds.length_right.Statement.{statement}
 use Rattle.link.proofs.bounds.length_right.Tie as tie
-use Rattle.link.proofs.bounds.length_right.Reads as reads
-use Rattle.link.proofs.bounds.length_right.Lts as lts
 
 returns : tie.Need-returns
 returns c = simp (lt-ltb _ _ (c .if1 .taken))

@@ -1,9 +1,8 @@
+-- One more where one is to come.
 use borrow.Author.Tests.{lt-ltb, le-ltb}
 use borrow.Author.Needs.{needs}
 use Rattle.link.proofs.step.more.Statement.{statement}
 use Rattle.link.proofs.step.more.Tie as tie
-use Rattle.link.proofs.step.more.Reads as reads
-use Rattle.link.proofs.step.more.Lts as lts
 
 add-result : tie.Need-add-result
 add-result c = search needs

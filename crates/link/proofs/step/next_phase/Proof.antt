@@ -1,8 +1,7 @@
+-- Data until all are there, then the sum byte.
 use borrow.Author.Tests.{lt-ltb, le-ltb}
 use Rattle.link.proofs.step.next_phase.Statement.{statement}
 use Rattle.link.proofs.step.next_phase.Tie as tie
-use Rattle.link.proofs.step.next_phase.Reads as reads
-use Rattle.link.proofs.step.next_phase.Lts as lts
 
 returns : tie.Need-returns
 returns c = simp (lt-ltb _ _ (c .if1 .taken))

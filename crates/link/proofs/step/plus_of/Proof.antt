@@ -1,8 +1,7 @@
+-- A 0x2B or another byte.
 use borrow.Author.Tests.{eq-eqb, ne-eqb}
 use Rattle.link.proofs.step.plus_of.Statement.{statement}
 use Rattle.link.proofs.step.plus_of.Tie as tie
-use Rattle.link.proofs.step.plus_of.Reads as reads
-use Rattle.link.proofs.step.plus_of.Lts as lts
 
 returns : tie.Need-returns
 returns c = simp (eq-eqb _ _ (c .if1 .taken))

@@ -1,10 +1,9 @@
 -- A size above the end leaves no address; else the sum is at most the end just where the address is at most what is left.
-use Rattle.memory.proofs.Reach.{size-off-end}
-use mathlib.Core.Path.{_≡_}
-use Prim.Native.Nat.{ℕ, suc, _+_, _-_, _*_, _^_, _<_, _≤_}
-use borrow.Author.Tests.{le-leb, lt-leb}
+use Prim.Native.Nat.{_+_}
 use native.Mathlib.Omega.{arith}
+use borrow.Author.Tests.{lt-leb}
 use borrow.Author.Needs.{needs}
+use Rattle.memory.proofs.Reach.{size-off-end}
 use Rattle.memory.proofs.ranges.within.Statement.{statement}
 use Rattle.memory.proofs.ranges.within.Tie as tie
 

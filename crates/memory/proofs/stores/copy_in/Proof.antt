@@ -1,11 +1,11 @@
 -- What is left to store gives the whole: one byte a turn.
-use Rattle.memory.proofs.Copies.{stored-next}
-use Rattle.document.specs.Stores.{stored}
-use lib.ListN.{length, drop, length-set, drop-of-length-le}
+use mathlib.Core.Path.{_≡_, refl, _∙_}
+use Prim.Native.Nat.{_+_, _-_, _≤_}
 use native.Mathlib.Nat.{add-zero}
-use Prim.Native.Nat.{ℕ, suc, _+_, _-_, _*_, _^_, _<_, _≤_}
-use mathlib.Core.Path.{_≡_, refl, sym, ap, _∙_}
+use lib.ListN.{length, drop, drop-of-length-le}
 use borrow.Author.Needs.{needs}
+use Rattle.document.specs.Stores.{stored}
+use Rattle.memory.proofs.Copies.{stored-next}
 use Rattle.memory.proofs.stores.copy_in.Statement.{statement}
 use Rattle.memory.proofs.stores.copy_in.Tie as tie
 

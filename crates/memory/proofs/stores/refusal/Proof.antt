@@ -1,6 +1,4 @@
 -- Each answer follows from the tests that led to it.
-use borrow.Author.Tests.{not-false}
-use mathlib.Core.Path.{sym}
 use borrow.Author.Tests.{ne-eqb, eq-eqb}
 use borrow.Author.Needs.{needs}
 use Rattle.memory.proofs.stores.refusal.Statement.{statement}

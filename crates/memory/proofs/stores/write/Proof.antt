@@ -1,9 +1,8 @@
 -- Checked first, then stored; refused, nothing was touched.
-use Rattle.memory.proofs.Answers.{let-through, written-done, written-refused}
-use lib.ListN.{length}
-use mathlib.Core.Path.{_≡_, refl, sym, ap, _∙_}
 use native.Mathlib.Omega.{arith}
+use lib.ListN.{length}
 use borrow.Author.Needs.{needs}
+use Rattle.memory.proofs.Answers.{let-through, written-done, written-refused}
 use Rattle.memory.proofs.stores.write.Statement.{statement}
 use Rattle.memory.proofs.stores.write.Tie as tie
 

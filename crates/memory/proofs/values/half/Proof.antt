@@ -1,6 +1,6 @@
 -- A shift that stays within 64 bits is a power of two.
-use Rattle.memory.proofs.Widths.{shifted}
 use borrow.Author.Needs.{needs}
+use Rattle.memory.proofs.Widths.{shifted}
 use Rattle.memory.proofs.values.half.Statement.{statement}
 use Rattle.memory.proofs.values.half.Tie as tie
 

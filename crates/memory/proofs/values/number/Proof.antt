@@ -1,13 +1,13 @@
 -- From the highest byte down: the number so far is that of the bytes passed, and below the power of their count.
-use Rattle.memory.proofs.Widths.{bytes-bits, fewer-bytes, byte-more, byte-more-below}
-use Rattle.document.specs.Values.{number}
+use mathlib.Core.Path.{_≡_, sym, ap}
+use Prim.Native.Nat.{_-_, _^_, _<_, _≤_}
 use native.Mathlib.Nat.{sub-self, sub-zero, pow-zero}
+use native.Mathlib.Omega.{arith}
 use lib.Seq.{drop-length}
 use lib.ListN.{length, drop}
-use Prim.Native.Nat.{ℕ, suc, _+_, _-_, _*_, _^_, _<_, _≤_}
-use mathlib.Core.Path.{_≡_, refl, sym, ap, _∙_}
 use borrow.Author.Needs.{needs}
-use native.Mathlib.Omega.{arith}
+use Rattle.document.specs.Values.{number}
+use Rattle.memory.proofs.Widths.{bytes-bits, fewer-bytes, byte-more, byte-more-below}
 use Rattle.memory.proofs.values.number.Statement.{statement}
 use Rattle.memory.proofs.values.number.Tie as tie
 

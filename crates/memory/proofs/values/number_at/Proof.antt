@@ -1,9 +1,9 @@
 -- The part that is lent on is the range.
-use lib.Seq.{length-take-le}
-use lib.ListN.{length, drop, length-drop}
-use Prim.Native.Nat.{_+_, _-_, _<_, _*_, _^_}
-use mathlib.Core.Path.{_≡_, ap}
+use mathlib.Core.Path.{_≡_}
+use Prim.Native.Nat.{_+_, _-_}
 use native.Mathlib.Omega.{arith}
+use lib.Seq.{length-take-le}
+use lib.ListN.{drop, length-drop}
 use borrow.Author.Needs.{needs}
 use Rattle.memory.proofs.values.number_at.Statement.{statement}
 use Rattle.memory.proofs.values.number_at.Tie as tie

@@ -1,13 +1,11 @@
 -- The sign field picks the reading.
+use mathlib.Core.Path.{ap, _∙_}
 use native.Mathlib.Omega.{arith}
-use Rattle.document.specs.Values.{twosComplement}
 use mir.Syntax.{w64}
 use mir.Facts.{toZ-pos, toZ-ofZ}
-use Prim.Native.Nat.{_*_, _^_}
-use Rattle.memory.proofs.Widths.{four-bytes}
 use borrow.Author.Tests.{eq-eqb, ne-eqb}
-use mathlib.Core.Path.{_≡_, refl, sym, ap, _∙_}
 use borrow.Author.Needs.{needs}
+use Rattle.document.specs.Values.{twosComplement}
 use Rattle.memory.proofs.values.signed_value.Statement.{statement}
 use Rattle.memory.proofs.values.signed_value.Tie as tie
 

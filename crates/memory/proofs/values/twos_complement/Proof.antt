@@ -1,7 +1,7 @@
 -- Below the half the number stands for itself, from it on for what is missing to the whole; the laws hold at every width.
-use Rattle.memory.proofs.Widths.{halves, top-clear, top-set-fits, top-set}
 use native.Mathlib.Omega.{arith}
 use borrow.Author.Needs.{needs}
+use Rattle.memory.proofs.Widths.{halves, top-clear, top-set-fits, top-set}
 use Rattle.memory.proofs.values.twos_complement.Statement.{statement}
 use Rattle.memory.proofs.values.twos_complement.Tie as tie
 

@@ -1,5 +1,5 @@
 -- Refused with 1 or 3, or the step.
-use mathlib.Core.Path.{_≡_, sym, _∙_}
+use mathlib.Core.Path.{sym, _∙_}
 use borrow.Author.Tests.{ltb-false, not-false}
 use Rattle.document.specs.AnswerReader.{readRoomRefusal}
 use Rattle.host.specs.Promises.{readResult, bufferLeft}

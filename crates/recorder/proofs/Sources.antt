@@ -1,0 +1,60 @@
+-- A set is as long as the variables' sizes add up to, and it and the trigger's value come from below the buffer alone.
+use mathlib.Core.Path.{_≡_, refl, ap}
+use mathlib.Core.Bool.{true}
+use mathlib.Core.List.{List, [], _∷_}
+use Prim.Native.Nat.{ℕ, _+_, _≤_}
+use native.Mathlib.Omega.{arith}
+use lib.ListN.{length, take, drop, length-append, length-drop}
+use lib.Seq.{length-take-le}
+use borrow.Author.Tests.{leb-true}
+use Rattle.document.specs.Areas.{bytesAt, calibrationEnd, mayBeRecorded}
+use Rattle.document.specs.Values.{number}
+use Rattle.document.specs.declared.Variable.{Variable}
+use Rattle.document.specs.Variables.{allMay, setSize, valuesOf}
+use Rattle.document.specs.Plan.{Plan}
+use Rattle.document.specs.Trigger.{triggerValue}
+use Rattle.document.specs.Run.{setOf}
+use Rattle.recorder.specs.History.{PlanFits}
+use Rattle.recorder.proofs.Cases.{both}
+use Rattle.recorder.proofs.Bytes.{bytes-agree}
+
+bytes-length : (m : List ℕ) (a n : ℕ) → a + n ≤ length m → length (bytesAt m a n) ≡ n
+bytes-length m a n h = length-take-le n (drop a m) (rw length-drop (omega arith))
+
+-- where a variable that may be recorded ends
+below : (a n : ℕ) → mayBeRecorded a n ≡ true → a + n ≤ 12288
+below a n e = leb-true (a + n) 12288 e
+
+pub values-length : (m : List ℕ) (vs : List Variable) → allMay mayBeRecorded vs ≡ true → 12288 ≤ length m
+    → length (valuesOf m vs) ≡ setSize vs
+values-length m [] e h = refl
+values-length m (v ∷ vs) e h =
+    let b = both (mayBeRecorded (v .address) (v .size)) (allMay mayBeRecorded vs) e in
+    rw (
+      length-append (bytesAt m (v .address) (v .size)),
+      bytes-length m (v .address) (v .size) (omega (arith, below (v .address) (v .size) (b .0))),
+      values-length m vs (b .1) h,
+    )
+
+pub values-agree : (m n : List ℕ) (vs : List Variable) → allMay mayBeRecorded vs ≡ true → take calibrationEnd m ≡ take calibrationEnd n
+    → valuesOf m vs ≡ valuesOf n vs
+values-agree m n [] e a = refl
+values-agree m n (v ∷ vs) e a =
+    let b = both (mayBeRecorded (v .address) (v .size)) (allMay mayBeRecorded vs) e in
+    rw
+    (bytes-agree m n 12288 (v .address) (v .size) a (below (v .address) (v .size) (b .0)), values-agree m n vs (b .1) a)
+
+module _ (p : Plan) (f : PlanFits p) where
+  pub set-length : (m : List ℕ) → length m ≡ 16384 → length (setOf p m) ≡ setSize (p .variables)
+  set-length m e = values-length m (p .variables) (f .variables) (omega arith)
+
+  -- memories that agree below the buffer have the same set and the same value
+  pub set-agrees : (m n : List ℕ) → take calibrationEnd m ≡ take calibrationEnd n → setOf p m ≡ setOf p n
+  set-agrees m n a = values-agree m n (p .variables) (f .variables) a
+
+  pub value-agrees : (m n : List ℕ) → take calibrationEnd m ≡ take calibrationEnd n
+      → triggerValue (p .trigger) m ≡ triggerValue (p .trigger) n
+  value-agrees m n a =
+      ap number
+      (bytes-agree m n 12288 (p .trigger .address) (p .trigger .size) a
+      (below (p .trigger .address) (p .trigger .size) (f .trigger)))

@@ -1,0 +1,102 @@
+-- The three watches: the first set primes, a set after the previous is looked at, one after the trigger is counted.
+use mathlib.Core.Path.{sym, ap, _∙_}
+use mathlib.Core.Bool.{true, false}
+use Prim.Native.Nat.{ℕ}
+use Rattle.document.specs.Run.Watch.{triggered}
+use Rattle.recorder.specs.State.{planOf, watching}
+use Rattle.recorder.proofs.Granted.{plan-bounds, previous-fits, watch-two, left-some}
+use Rattle.recorder.proofs.Watches.{still-running, first-set, looked-set, counted-set}
+use borrow.Author.Needs.{needs}
+use Rattle.recorder.proofs.state.Run.watch_on.Statement.{statement}
+use Rattle.recorder.proofs.state.Run.watch_on.Tie as tie
+
+primed-requires : tie.Need-primed-requires
+primed-requires c κs = search needs
+
+returns : tie.Need-returns
+returns c =
+    let s = c .before .before .before in
+    let r = s .args .self in
+    c .primed .ensures
+    ∙ still-running (r .running) (r .full) 1 (r .wait) (r .place) (s .args .value) (s .pre .2)
+    ∙ first-set (planOf (s .args .plan)) (r .full) (r .wait) (r .place) (r .watch) (r .value) (s .args .value) (c .before .if1 .taken)
+
+triggers-requires : tie.Need-triggers-requires
+triggers-requires c κs =
+    let s = c .before .before .before .before in
+    let p = s .args .plan in
+    let r = s .args .self in
+    let t = plan-bounds p (s .pre .0) .trigger in (
+      λ n. (t .sized n, t .small),
+      t .fitting,
+      previous-fits (p .size) (p .«post_trigger») (r .running) (r .watch) (r .value) (s .pre .1) (c .if2 .taken),
+      s .pre .3,
+    )
+
+wide-left-requires : tie.Need-wide-left-requires
+wide-left-requires c κs = search needs
+
+counting-requires : tie.Need-counting-requires
+counting-requires c κs = search needs
+
+returns-2 : tie.Need-returns-2
+returns-2 c =
+    let s = c .before .before .before .before .before .before .before .before in
+    let p = s .args .plan in
+    let r = s .args .self in
+    c .counting .ensures
+    ∙ ap (λ (n : ℕ). watching (r .full) (r .wait) (r .place) (triggered n)) (c .before .wide-left .ensures)
+    ∙ looked-set (planOf p) (r .full) (r .wait) (r .place) (r .watch) (r .value) (s .args .value) true
+    (c .before .before .before .before .if2 .taken)
+    (sym (c .before .before .if3 .taken) ∙ c .before .before .before .triggers .ensures)
+
+primed-requires-2 : tie.Need-primed-requires-2
+primed-requires-2 c κs = search needs
+
+returns-3 : tie.Need-returns-3
+returns-3 c =
+    let s = c .before .before .before .before .before .before .before in
+    let p = s .args .plan in
+    let r = s .args .self in
+    c .primed2 .ensures
+    ∙ still-running (r .running) (r .full) 1 (r .wait) (r .place) (s .args .value) (s .pre .2)
+    ∙ looked-set (planOf p) (r .full) (r .wait) (r .place) (r .watch) (r .value) (s .args .value) false
+    (c .before .before .before .if2 .taken)
+    (sym (c .before .if3 .left) ∙ c .before .before .triggers .ensures)
+
+sub-counting : tie.Need-sub-counting
+sub-counting c =
+    let s = c .before .before .before .before .before in
+    let p = s .args .plan in
+    let r = s .args .self in
+    left-some (p .size) (p .«post_trigger») (r .running) (r .watch) (r .value) (s .pre .1)
+    (c .before .before .before .if1 .left) (c .before .if2 .left) (s .pre .2)
+
+counting-requires-2 : tie.Need-counting-requires-2
+counting-requires-2 c κs = search needs
+
+returns-4 : tie.Need-returns-4
+returns-4 c =
+    let s = c .before .before .before .before .before .before in
+    let p = s .args .plan in
+    let r = s .args .self in
+    c .counting2 .ensures
+    ∙ counted-set (planOf p) (r .full) (r .wait) (r .place) (r .watch) (r .value) (s .args .value)
+    (watch-two (p .size) (p .«post_trigger») (r .running) (r .watch) (r .value) (s .pre .1)
+    (c .before .before .before .before .if1 .left) (c .before .before .if2 .left))
+
+pub watch-on-spec : {M : Type 1} → statement M
+watch-on-spec =
+    tie.close
+    (tie.spec
+    primed-requires
+    returns
+    triggers-requires
+    wide-left-requires
+    counting-requires
+    returns-2
+    primed-requires-2
+    returns-3
+    sub-counting
+    counting-requires-2
+    returns-4)

@@ -1,0 +1,11 @@
+-- What the recorder's contracts and theorems are said with.
+
+-- the state: what it means, and its bounds
+pub mod State
+pub mod Bounds
+-- the setup
+pub mod Setup
+-- the calls
+pub mod Calls
+-- since a start
+pub mod History
