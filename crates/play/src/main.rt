@@ -46,9 +46,9 @@ fn play_line(
     run: Run,
     found: Line,
     line: &[u8],
-    bytes: &mut [u8],
-    memory: &mut [u8],
-    lent: &mut [u8],
+    bytes: &mut [u8; 524288],
+    memory: &mut [u8; 16384],
+    lent: &mut [u8; 600],
     out: &mut [u8; 65536],
 ) -> Run {
     let line_number = std::num::wrapping_add_u64(run.line_number, 1);
@@ -73,9 +73,9 @@ fn play_line(
 fn turn(
     run: Run,
     text: &mut [u8],
-    bytes: &mut [u8],
-    memory: &mut [u8],
-    lent: &mut [u8],
+    bytes: &mut [u8; 524288],
+    memory: &mut [u8; 16384],
+    lent: &mut [u8; 600],
     out: &mut [u8; 65536],
 ) -> Run {
     let found = next_line(run.input, text);

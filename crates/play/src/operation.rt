@@ -37,9 +37,9 @@ fn by_letter(
     play: Play,
     line: &[u8],
     from: usize,
-    bytes: &mut [u8],
-    memory: &mut [u8],
-    lent: &mut [u8],
+    bytes: &mut [u8; 524288],
+    memory: &mut [u8; 16384],
+    lent: &mut [u8; 600],
     out: &mut [u8; 65536],
 ) -> Done {
     match letter {
@@ -57,9 +57,9 @@ fn by_letter(
 pub fn carry_out(
     play: Play,
     line: &[u8],
-    bytes: &mut [u8],
-    memory: &mut [u8],
-    lent: &mut [u8],
+    bytes: &mut [u8; 524288],
+    memory: &mut [u8; 16384],
+    lent: &mut [u8; 600],
     out: &mut [u8; 65536],
 ) -> Done {
     match operation_of(line) {
