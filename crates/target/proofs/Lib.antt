@@ -16,4 +16,6 @@ pub mod OperateLaws
 pub mod RespondLaws
 pub mod TargetBounds
 pub mod CallLaws
+pub mod TurnLaws
+pub mod TickLaws
 pub mod Happened

@@ -10,7 +10,7 @@ ghost use Rattle.document.specs.Numbers.{isStatus};
 ghost use Rattle.target.specs.Told.{Told};
 
 // A status and data: how many bytes go over the wire.
-pub fn tell(status: u8, body: &[u8], out: &mut [u8]) -> usize
+pub(crate) fn tell(status: u8, body: &[u8], out: &mut [u8]) -> usize
     requires { ⌜ (answerFormed (record { status = status; body = now body }) ≡ true) × (132 ≤ length (now out)) ⌝ }
     ensures { λ r. ⌜ Told (record { status = status; body = now (body .entry) }) (now (out .entry)) r (now (out .exit)) ⌝ }
 {
@@ -19,7 +19,7 @@ pub fn tell(status: u8, body: &[u8], out: &mut [u8]) -> usize
 }
 
 // A status alone.
-pub fn say(status: u8, out: &mut [u8]) -> usize
+pub(crate) fn say(status: u8, out: &mut [u8]) -> usize
     requires { ⌜ (isStatus status ≡ true) × (132 ≤ length (now out)) ⌝ }
     ensures { λ r. ⌜ Told (record { status = status; body = [] }) (now (out .entry)) r (now (out .exit)) ⌝ }
 {

@@ -31,7 +31,7 @@ pub struct Instruments {
     pub recorder: recorder::Recorder,
 }
 
-pub fn answer(
+pub(crate) fn answer(
     operation: Operation,
     instruments: Instruments,
     body: &[u8],

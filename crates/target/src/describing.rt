@@ -46,7 +46,7 @@ const DESCRIPTION: [u8; 35] = [
     0,
 ];
 
-pub fn describe(out: &mut [u8]) -> usize
+pub(crate) fn describe(out: &mut [u8]) -> usize
     requires { ⌜ 132 ≤ length (now out) ⌝ }
     ensures { λ r. ⌜ Told (record { status = done; body = description }) (now (out .entry)) r (now (out .exit)) ⌝ }
 {
@@ -54,7 +54,7 @@ pub fn describe(out: &mut [u8]) -> usize
     tell(DONE, &description, out)
 }
 
-pub fn describe_briefly(out: &mut [u8]) -> usize
+pub(crate) fn describe_briefly(out: &mut [u8]) -> usize
     requires { ⌜ 132 ≤ length (now out) ⌝ }
     ensures { λ r. ⌜ Told (record { status = done; body = take 6 description }) (now (out .entry)) r (now (out .exit)) ⌝ }
 {

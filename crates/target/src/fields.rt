@@ -21,7 +21,7 @@ fn wide(byte: u8) -> usize
 }
 
 // The command's own size, or the one that the data begin with.
-pub fn size_in(operation: Operation, body: &[u8]) -> usize
+pub(crate) fn size_in(operation: Operation, body: &[u8]) -> usize
     requires { ⌜ Looked operation ⌝ }
     ensures { λ r. ⌜ (r ≡ sizeField (operation .command) (now (body .entry))) × (r ≤ 255) ⌝ }
 {
@@ -48,7 +48,7 @@ fn address_width(ex: bool) -> usize
 }
 
 // Where the address ends and the data to write begin.
-pub fn data_place(operation: Operation) -> usize
+pub(crate) fn data_place(operation: Operation) -> usize
     requires { ⌜ Looked operation ⌝ }
     ensures { λ r. ⌜ (r ≡ dataPlace (operation .command)) × (r ≤ 5) ⌝ }
 {
@@ -56,7 +56,7 @@ pub fn data_place(operation: Operation) -> usize
 }
 
 // Who asks has checked that the data reach behind the address.
-pub fn address_in(operation: Operation, body: &[u8]) -> u32
+pub(crate) fn address_in(operation: Operation, body: &[u8]) -> u32
     requires { ⌜ Looked operation × (dataPlace (operation .command) ≤ length (now body)) ⌝ }
     ensures { λ r. ⌜ r ≡ addressField (operation .command) (now (body .entry)) ⌝ }
 {
@@ -82,7 +82,7 @@ fn block_length(operation: Operation, body: &[u8]) -> usize
 }
 
 // The status that a block command's own fields give.
-pub fn block_status(operation: Operation, body: &[u8]) -> u8
+pub(crate) fn block_status(operation: Operation, body: &[u8]) -> u8
     requires { ⌜ Looked operation ⌝ }
     ensures { λ r. ⌜ r ≡ blockStatus (operation .command) (now (body .entry)) ⌝ }
 {

@@ -19,7 +19,7 @@ use codes::DONE;
 use recorder::Recorder;
 use scope::Scope;
 
-pub fn read_scope(scope: Scope, memory: &[u8], out: &mut [u8]) -> usize
+pub(crate) fn read_scope(scope: Scope, memory: &[u8], out: &mut [u8]) -> usize
     requires { ⌜ (sound scope ≡ true) × (length (now memory) ≡ memoryEnd) × (132 ≤ length (now out)) ⌝ }
     ensures { λ r. ⌜ ((g : Gate) → g .memory ≡ now (memory .entry) → g .scope ≡ scopeOf scope → Told (readingScope g .answer) (now (out .entry)) r (now (out .exit))) ⌝ }
 {
@@ -45,7 +45,7 @@ fn tell_buffer(ex: bool, index: u16, out: &mut [u8]) -> usize
     tell(DONE, &[0x00, 0x30, low, high], out)
 }
 
-pub fn query_buffer(recorder: Recorder, ex: bool, out: &mut [u8]) -> usize
+pub(crate) fn query_buffer(recorder: Recorder, ex: bool, out: &mut [u8]) -> usize
     requires { ⌜ 132 ≤ length (now out) ⌝ }
     ensures { λ r. ⌜ ((g : Gate) → g .recorder ≡ recorderOf recorder → Told (queryingBuffer g ex .answer) (now (out .entry)) r (now (out .exit))) ⌝ }
 {

@@ -18,12 +18,12 @@ use crate::operation::START;
 use crate::operation::STOP;
 
 // How many bytes go over the wire, and what is set up then.
-pub struct Responded {
+pub(crate) struct Responded {
     pub length: usize,
     pub next: Instruments,
 }
 
-pub fn operate(
+pub(crate) fn operate(
     operation: Operation,
     mut instruments: Instruments,
     body: &[u8],

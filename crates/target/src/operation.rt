@@ -302,7 +302,7 @@ fn wide(command: u8) -> usize
     command as usize
 }
 
-pub fn look_up(command: u8) -> Operation
+pub(crate) fn look_up(command: u8) -> Operation
     ensures { λ r. ⌜ (r .command ≡ command) × Looked r ⌝ }
 {
     let entry = OPERATIONS[wide(command)];

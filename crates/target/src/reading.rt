@@ -22,7 +22,7 @@ fn place(address: u32) -> usize
     address as usize
 }
 
-pub fn read(operation: Operation, body: &[u8], memory: &[u8], out: &mut [u8]) -> usize
+pub(crate) fn read(operation: Operation, body: &[u8], memory: &[u8], out: &mut [u8]) -> usize
     requires { ⌜ Asked operation (now body) (now memory) × (operation .number ≡ 3) × (132 ≤ length (now out)) ⌝ }
     ensures { λ r. ⌜ ((g : Gate) → g .memory ≡ now (memory .entry) → Told (reading g (operation .command) (now (body .entry)) .answer) (now (out .entry)) r (now (out .exit))) ⌝ }
 {

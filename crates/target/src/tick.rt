@@ -15,7 +15,7 @@ pub struct Ticked {
 
 impl Target {
     // The number that both calls ask for first.
-    pub fn tick_refusal(self, memory: &[u8]) -> u8
+    pub(crate) fn tick_refusal(self, memory: &[u8]) -> u8
         ensures { λ r. ⌜ r ≡ tickRefusal (sound self) (now (memory .entry)) ⌝ }
     {
         if !self.is_sound() {

@@ -29,7 +29,7 @@ fn status_of(stored: Stored) -> u8
     }
 }
 
-pub fn write(operation: Operation, body: &[u8], memory: &mut [u8]) -> u8
+pub(crate) fn write(operation: Operation, body: &[u8], memory: &mut [u8]) -> u8
     requires { ⌜ Asked operation (now body) (now memory) × (operation .number ≡ 4) ⌝ }
     ensures { λ r. ⌜ ((g : Gate) → g .memory ≡ now (memory .entry) → Wrote (writing g (operation .command) (now (body .entry)) (written g (operation .command) (now (body .entry)))) r (now (memory .exit))) ⌝ }
 {
@@ -52,7 +52,7 @@ fn word_in(part: &[u8]) -> u16
 }
 
 // A word has its own form; everything else goes byte by byte.
-pub fn write_masked(operation: Operation, body: &[u8], memory: &mut [u8]) -> u8
+pub(crate) fn write_masked(operation: Operation, body: &[u8], memory: &mut [u8]) -> u8
     requires { ⌜ Asked operation (now body) (now memory) × (operation .number ≡ 5) ⌝ }
     ensures { λ r. ⌜ ((g : Gate) → g .memory ≡ now (memory .entry) → Wrote (writing g (operation .command) (now (body .entry)) (writtenMasked g (operation .command) (now (body .entry)))) r (now (memory .exit))) ⌝ }
 {

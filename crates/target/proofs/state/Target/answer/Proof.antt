@@ -1,3 +1,4 @@
+-- What the response promises, in the state.
 use native.Mathlib.Omega.{arith}
 use borrow.Author.Needs.{needs}
 use Rattle.target.proofs.state.Target.answer.Statement.{statement}
@@ -19,7 +20,18 @@ same-length-2 : tie.Need-same-length-2
 same-length-2 c = search needs
 
 returns : tie.Need-returns
-returns c = search needs
+returns c =
+    record {
+      result =
+          λ i.
+          record {
+            refusal = 0;
+            length = c .before .before .before .before .before .respond .ensures .told .length i;
+            next = record { receiver = c .before .before .before .before .before .before .before .before .before .before .before .before .before .args .self .receiver; body = c .before .before .before .before .before .before .before .before .before .before .before .before .before .args .self .body; instruments = c .before .before .before .before .before .respond .ensures .kept i };
+          };
+      left = c .before .before .before .before .before .respond .ensures .left;
+      told = c .before .before .before .before .before .respond .ensures .told .buffer;
+    }
 
 pub answer-spec : {M : Type 1} → statement M
 answer-spec =
