@@ -7,9 +7,9 @@ use crate::complaint::NONE;
 use crate::complaint::NUMBER;
 use crate::complaint::ROOM;
 use crate::complaint::SURPLUS;
-use crate::play::Done;
-use crate::play::Play;
+use crate::play::Printed;
 use crate::span::span_of;
+use host::AnswerReader;
 use host::Event;
 use line::Written;
 use script::buffer::fill;
@@ -24,6 +24,34 @@ use script::output::put_decimal;
 use script::output::put_hex;
 use script::output::put_text;
 use script::words::is_over;
+
+pub struct Cable {
+    pub reader: AnswerReader,
+    // how many bytes the reader was given
+    pub bytes: u64,
+}
+
+// A line of the cable carried out, or what is wrong with it.
+pub struct CableDone {
+    pub cable: Cable,
+    pub printed: Printed,
+}
+
+impl Cable {
+    pub fn new() -> Self {
+        Cable {
+            reader: AnswerReader::new(),
+            bytes: 0,
+        }
+    }
+
+    fn done(self, printed: Printed) -> CableDone {
+        CableDone {
+            cable: self,
+            printed: printed,
+        }
+    }
+}
 
 // Every lent buffer is filled so before a call, so that what a call leaves can be seen.
 const FILLING: u8 = 0xEE;
@@ -94,52 +122,44 @@ fn read_lent(text: &[u8], from: usize, bytes: &mut [u8], lent: &[u8]) -> Lent
 }
 
 // `W cc room hh ..` and `V ss room hh ..`
-pub fn write(
+fn write(
     letter: u8,
-    play: Play,
     text: &[u8],
     from: usize,
     bytes: &mut [u8],
     lent: &mut [u8],
     out: &mut [u8; 65536],
-) -> Done {
+    at: usize,
+) -> Printed {
     let ByteRead::Is { value, next } = read_byte(text, from) else {
-        return play.refused(BYTE);
+        return Printed::refused(BYTE);
     };
     let operands = read_lent(text, next, bytes, lent);
     if operands.wrong != NONE {
-        return play.refused(operands.wrong);
+        return Printed::refused(operands.wrong);
     }
     let count = operands.count;
     let room = operands.room;
-    let at = put_writing(
-        letter,
-        value,
-        &bytes[0..count],
-        &mut lent[0..room],
-        out,
-        play.at,
-    );
-    play.carried_out(at)
+    Printed::to(put_writing(letter, value, &bytes[0..count], &mut lent[0..room], out, at))
 }
 
 // `E n`
-pub fn begin(play: Play, text: &[u8], from: usize, out: &mut [u8; 65536]) -> Done {
+fn begin(cable: Cable, text: &[u8], from: usize, out: &mut [u8; 65536], at: usize) -> CableDone {
     let NumberRead::Is { value, next } = read_number(text, from) else {
-        return play.refused(NUMBER);
+        return cable.done(Printed::refused(NUMBER));
     };
     if !is_over(text, next) {
-        return play.refused(SURPLUS);
+        return cable.done(Printed::refused(SURPLUS));
     }
-    let reader = play.reader;
+    let reader = cable.reader;
     let begun = reader.begin(value as usize);
-    let named = put_text(b"E ", out, play.at);
+    let named = put_text(b"E ", out, at);
     let refused = put_decimal(begun.refusal as u64, out, named);
-    let at = put(b'\n', out, refused);
+    let end = put(b'\n', out, refused);
     let next_reader = begun.next;
-    let mut after = play;
+    let mut after = cable;
     after.reader = next_reader;
-    after.carried_out(at)
+    after.done(Printed::to(end))
 }
 
 fn put_index(index: u64, refusal: u8, out: &mut [u8; 65536], at: usize) -> usize {
@@ -176,10 +196,17 @@ fn put_read(
     }
 }
 
-fn read_all(play: Play, bytes: &[u8], lent: &mut [u8], out: &mut [u8; 65536]) -> Play {
-    let mut reader = play.reader;
-    let mut index = play.reader_bytes;
-    let mut at = play.at;
+// The bytes one by one, with every refusal and answer printed as it comes.
+fn read_all(
+    cable: Cable,
+    bytes: &[u8],
+    lent: &mut [u8],
+    out: &mut [u8; 65536],
+    from: usize,
+) -> CableDone {
+    let mut reader = cable.reader;
+    let mut index = cable.bytes;
+    let mut at = from;
     let mut i = 0;
     while i < bytes.len() {
         fill(lent, FILLING);
@@ -190,28 +217,45 @@ fn read_all(play: Play, bytes: &[u8], lent: &mut [u8], out: &mut [u8; 65536]) ->
         index = std::num::wrapping_add_u64(index, 1);
         i += 1;
     }
-    let mut after = play;
+    let mut after = cable;
     after.reader = reader;
-    after.reader_bytes = index;
-    after.at = at;
-    after
+    after.bytes = index;
+    after.done(Printed::to(at))
 }
 
 // `R room hh ..`
-pub fn read(
-    play: Play,
+fn read(
+    cable: Cable,
     text: &[u8],
     from: usize,
     bytes: &mut [u8],
     lent: &mut [u8],
     out: &mut [u8; 65536],
-) -> Done {
+    at: usize,
+) -> CableDone {
     let operands = read_lent(text, from, bytes, lent);
     if operands.wrong != NONE {
-        return play.refused(operands.wrong);
+        return cable.done(Printed::refused(operands.wrong));
     }
     let count = operands.count;
     let room = operands.room;
-    let after = read_all(play, &bytes[0..count], &mut lent[0..room], out);
-    after.carried_out(after.at)
+    read_all(cable, &bytes[0..count], &mut lent[0..room], out, at)
+}
+
+// A line that begins with W, V, E or R.
+pub fn carry_out(
+    letter: u8,
+    cable: Cable,
+    text: &[u8],
+    from: usize,
+    bytes: &mut [u8; 524288],
+    lent: &mut [u8; 600],
+    out: &mut [u8; 65536],
+    at: usize,
+) -> CableDone {
+    match letter {
+        b'E' => begin(cable, text, from, out, at),
+        b'R' => read(cable, text, from, bytes, lent, out, at),
+        _ => cable.done(write(letter, text, from, bytes, lent, out, at)),
+    }
 }

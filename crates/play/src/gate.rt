@@ -3,8 +3,7 @@ use crate::complaint::BYTE;
 use crate::complaint::NUMBER;
 use crate::complaint::RANGE;
 use crate::complaint::SURPLUS;
-use crate::play::Done;
-use crate::play::Play;
+use crate::play::Printed;
 use crate::span::span_of;
 use script::adler::adler32;
 use script::operands::NumberRead;
@@ -17,6 +16,38 @@ use script::output::put_text;
 use script::output::put_word;
 use script::words::is_over;
 use target::Target;
+
+pub struct Gate {
+    pub target: Target,
+    // how many bytes the target was given
+    pub bytes: u64,
+    // 1 once a line concerned the gate, so that the memory's digest is to be printed
+    pub concerned: u8,
+}
+
+// A line of the gate carried out, or what is wrong with it.
+pub struct GateDone {
+    pub gate: Gate,
+    pub printed: Printed,
+}
+
+impl Gate {
+    pub fn new() -> Self {
+        Gate {
+            target: Target::new(),
+            bytes: 0,
+            concerned: 0,
+        }
+    }
+
+    fn done(mut self, printed: Printed) -> GateDone {
+        self.concerned = 1;
+        GateDone {
+            gate: self,
+            printed: printed,
+        }
+    }
+}
 
 fn put_answer(index: u64, answer: &[u8], length: usize, out: &mut [u8; 65536], at: usize) -> usize {
     if length == 0 {
@@ -31,49 +62,50 @@ fn put_answer(index: u64, answer: &[u8], length: usize, out: &mut [u8; 65536], a
     put(b'\n', out, shown)
 }
 
+// The bytes one by one, with every answer printed as it comes.
 fn give(
-    play: Play,
+    gate: Gate,
     bytes: &[u8],
     memory: &mut [u8],
     answer: &mut [u8],
     out: &mut [u8; 65536],
-) -> Play {
-    let mut target = play.target;
-    let mut index = play.target_bytes;
-    let mut at = play.at;
+    from: usize,
+) -> GateDone {
+    let mut target = gate.target;
+    let mut index = gate.bytes;
+    let mut at = from;
     let mut i = 0;
     while i < bytes.len() {
-        let taken = target.byte(bytes[i], memory, answer);
+        let byte = bytes[i];
+        i += 1;
+        let taken = target.byte(byte, memory, answer);
         target = taken.next;
         at = put_answer(index, answer, taken.length, out, at);
         index = std::num::wrapping_add_u64(index, 1);
-        i += 1;
     }
-    let mut after = play;
+    let mut after = gate;
     after.target = target;
-    after.target_bytes = index;
-    after.has_gate = 1;
-    after.at = at;
-    after
+    after.bytes = index;
+    after.done(Printed::to(at))
 }
 
 // `B hh ..`
-pub fn wire(
-    play: Play,
+fn wire(
+    gate: Gate,
     line: &[u8],
     from: usize,
     bytes: &mut [u8],
     memory: &mut [u8],
     answer: &mut [u8],
     out: &mut [u8; 65536],
-) -> Done {
+    at: usize,
+) -> GateDone {
     let read = read_bytes(line, from, bytes);
     if !read.all {
-        return play.refused(BYTE);
+        return gate.done(Printed::refused(BYTE));
     }
     let count = read.count;
-    let after = give(play, &bytes[0..count], memory, answer, out);
-    after.carried_out(after.at)
+    give(gate, &bytes[0..count], memory, answer, out, at)
 }
 
 fn ticked(target: Target, times: u64, memory: &mut [u8]) -> Target {
@@ -88,18 +120,17 @@ fn ticked(target: Target, times: u64, memory: &mut [u8]) -> Target {
 }
 
 // `T n`
-pub fn ticks(play: Play, line: &[u8], from: usize, memory: &mut [u8]) -> Done {
+fn ticks(gate: Gate, line: &[u8], from: usize, memory: &mut [u8], at: usize) -> GateDone {
     let NumberRead::Is { value, next } = read_number(line, from) else {
-        return play.refused(NUMBER);
+        return gate.done(Printed::refused(NUMBER));
     };
     if !is_over(line, next) {
-        return play.refused(SURPLUS);
+        return gate.done(Printed::refused(SURPLUS));
     }
-    let target = ticked(play.target, value, memory);
-    let mut after = play;
+    let target = ticked(gate.target, value, memory);
+    let mut after = gate;
     after.target = target;
-    after.has_gate = 1;
-    after.carried_out(after.at)
+    after.done(Printed::to(at))
 }
 
 fn copy(bytes: &[u8], part: &mut [u8]) {
@@ -111,63 +142,78 @@ fn copy(bytes: &[u8], part: &mut [u8]) {
 }
 
 // `P addr hh ..`
-pub fn poke(play: Play, line: &[u8], from: usize, bytes: &mut [u8], memory: &mut [u8]) -> Done {
+fn poke(line: &[u8], from: usize, bytes: &mut [u8], memory: &mut [u8], at: usize) -> Printed {
     let NumberRead::Is { value, next } = read_number(line, from) else {
-        return play.refused(NUMBER);
+        return Printed::refused(NUMBER);
     };
     let read = read_bytes(line, next, bytes);
     if !read.all {
-        return play.refused(BYTE);
+        return Printed::refused(BYTE);
     }
     let count = read.count;
     let span = span_of(value, count as u64, memory);
     if !span.inside {
-        return play.refused(RANGE);
+        return Printed::refused(RANGE);
     }
     let start = span.start;
     let end = span.end;
     copy(&bytes[0..count], &mut memory[start..end]);
-    let mut after = play;
-    after.has_gate = 1;
-    after.carried_out(after.at)
+    Printed::to(at)
 }
 
 // `M addr len`
-pub fn look(play: Play, line: &[u8], from: usize, memory: &[u8], out: &mut [u8; 65536]) -> Done {
+fn look(line: &[u8], from: usize, memory: &[u8], out: &mut [u8; 65536], at: usize) -> Printed {
     let NumberRead::Is { value, next } = read_number(line, from) else {
-        return play.refused(NUMBER);
+        return Printed::refused(NUMBER);
     };
     let NumberRead::Is {
         value: count,
         next: behind,
     } = read_number(line, next)
     else {
-        return play.refused(NUMBER);
+        return Printed::refused(NUMBER);
     };
     if !is_over(line, behind) {
-        return play.refused(SURPLUS);
+        return Printed::refused(SURPLUS);
     }
     let span = span_of(value, count, memory);
     if !span.inside {
-        return play.refused(RANGE);
+        return Printed::refused(RANGE);
     }
     let start = span.start;
     let end = span.end;
-    let named = put_text(b"M ", out, play.at);
+    let named = put_text(b"M ", out, at);
     let addressed = put_decimal(value, out, named);
     let shown = put_bytes(&memory[start..end], out, addressed);
-    let at = put(b'\n', out, shown);
-    let mut after = play;
-    after.has_gate = 1;
-    after.carried_out(at)
+    Printed::to(put(b'\n', out, shown))
+}
+
+// A line that begins with B, T, P or M.
+pub fn carry_out(
+    letter: u8,
+    gate: Gate,
+    line: &[u8],
+    from: usize,
+    bytes: &mut [u8; 524288],
+    memory: &mut [u8; 16384],
+    answer: &mut [u8; 600],
+    out: &mut [u8; 65536],
+    at: usize,
+) -> GateDone {
+    match letter {
+        b'B' => wire(gate, line, from, bytes, memory, answer, out, at),
+        b'T' => ticks(gate, line, from, memory, at),
+        b'P' => gate.done(poke(line, from, bytes, memory, at)),
+        _ => gate.done(look(line, from, memory, out, at)),
+    }
 }
 
 // The digest of the whole memory ends the output of a script that has a gate.
-pub fn put_digest(play: Play, memory: &[u8], out: &mut [u8; 65536]) -> usize {
-    if play.has_gate == 0 {
-        return play.at;
+pub fn put_digest(concerned: u8, memory: &[u8], out: &mut [u8; 65536], at: usize) -> usize {
+    if concerned == 0 {
+        return at;
     }
-    let named = put_text(b"D adler32 ", out, play.at);
+    let named = put_text(b"D adler32 ", out, at);
     let shown = put_word(adler32(memory), out, named);
     put(b'\n', out, shown)
 }

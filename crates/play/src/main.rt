@@ -28,20 +28,7 @@ fn finished(run: Run) -> Run {
     end
 }
 
-fn over(run: Run, memory: &[u8], out: &mut [u8; 65536]) -> Run {
-    let play = run.play;
-    let at = gate::put_digest(play, memory, out);
-    flush(out, at);
-    finished(run)
-}
-
-// Nothing of a line that cannot be read is carried out, and nothing behind it.
-fn stopped(run: Run, line_number: u64, wrong: u8, out: &mut [u8; 65536]) -> Run {
-    let play = run.play;
-    complaint::complain(line_number, wrong, out, play.at);
-    finished(run)
-}
-
+// One line. Nothing of a line that cannot be read is carried out, and nothing behind it.
 fn play_line(
     run: Run,
     found: Line,
@@ -52,13 +39,15 @@ fn play_line(
     out: &mut [u8; 65536],
 ) -> Run {
     let line_number = std::num::wrapping_add_u64(run.line_number, 1);
-    if found.kind == LONG {
-        return stopped(run, line_number, complaint::LENGTH, out);
-    }
     let play = run.play;
+    if found.kind == LONG {
+        complaint::complain(line_number, complaint::LENGTH, out, play.at);
+        return finished(run);
+    }
     let done = operation::carry_out(play, line, bytes, memory, lent, out);
     if done.wrong != complaint::NONE {
-        return stopped(run, line_number, done.wrong, out);
+        complaint::complain(line_number, done.wrong, out, play.at);
+        return finished(run);
     }
     let after = done.play;
     let rest = found.rest;
@@ -80,7 +69,9 @@ fn turn(
 ) -> Run {
     let found = next_line(run.input, text);
     if found.kind == OVER {
-        return over(run, memory, out);
+        let end = gate::put_digest(run.play.gate.concerned, memory, out, run.play.at);
+        flush(out, end);
+        return finished(run);
     }
     let start = found.start;
     let end = found.end;

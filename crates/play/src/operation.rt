@@ -1,5 +1,6 @@
 // A line's operation is its first word, one letter; the rest are operands.
 use crate::cable;
+use crate::complaint::NONE;
 use crate::complaint::OPERATION;
 use crate::gate;
 use crate::play::Done;
@@ -43,14 +44,17 @@ fn by_letter(
     out: &mut [u8; 65536],
 ) -> Done {
     match letter {
-        b'B' => gate::wire(play, line, from, bytes, memory, lent, out),
-        b'T' => gate::ticks(play, line, from, memory),
-        b'P' => gate::poke(play, line, from, bytes, memory),
-        b'M' => gate::look(play, line, from, memory, out),
-        b'W' | b'V' => cable::write(letter, play, line, from, bytes, lent, out),
-        b'E' => cable::begin(play, line, from, out),
-        b'R' => cable::read(play, line, from, bytes, lent, out),
-        _ => play.refused(OPERATION),
+        b'B' | b'T' | b'P' | b'M' => {
+            let gate = play.gate;
+            let done = gate::carry_out(letter, gate, line, from, bytes, memory, lent, out, play.at);
+            play.after_gate(done)
+        }
+        b'W' | b'V' | b'E' | b'R' => {
+            let cable = play.cable;
+            let done = cable::carry_out(letter, cable, line, from, bytes, lent, out, play.at);
+            play.after_cable(done)
+        }
+        _ => play.done(OPERATION),
     }
 }
 
@@ -63,7 +67,7 @@ pub fn carry_out(
     out: &mut [u8; 65536],
 ) -> Done {
     match operation_of(line) {
-        Operation::Skipped => play.carried_out(play.at),
+        Operation::Skipped => play.done(NONE),
         Operation::Letter { letter, operands } => by_letter(
             letter,
             play,
@@ -74,6 +78,6 @@ pub fn carry_out(
             lent,
             out,
         ),
-        Operation::Unknown => play.refused(OPERATION),
+        Operation::Unknown => play.done(OPERATION),
     }
 }

@@ -1,15 +1,13 @@
-// What goes on from line to line of a script.
-use host::AnswerReader;
-use target::Target;
+// What goes on from line to line of a script, and what a line leaves of it.
+use crate::cable::Cable;
+use crate::cable::CableDone;
+use crate::complaint::NONE;
+use crate::gate::Gate;
+use crate::gate::GateDone;
 
 pub struct Play {
-    pub target: Target,
-    pub reader: AnswerReader,
-    // how many bytes the target and the reader were given
-    pub target_bytes: u64,
-    pub reader_bytes: u64,
-    // 1 once a line concerned the gate, so that the memory's digest is to be printed
-    pub has_gate: u8,
+    pub gate: Gate,
+    pub cable: Cable,
     // the place in the output buffer
     pub at: usize,
 }
@@ -20,31 +18,57 @@ pub struct Done {
     pub wrong: u8,
 }
 
+// The same of a line that only prints.
+pub struct Printed {
+    pub at: usize,
+    pub wrong: u8,
+}
+
+impl Printed {
+    pub fn refused(wrong: u8) -> Self {
+        Printed {
+            at: 0,
+            wrong: wrong,
+        }
+    }
+
+    pub fn to(at: usize) -> Self {
+        Printed {
+            at: at,
+            wrong: NONE,
+        }
+    }
+}
+
 impl Play {
     pub fn new() -> Self {
         Play {
-            target: Target::new(),
-            reader: AnswerReader::new(),
-            target_bytes: 0,
-            reader_bytes: 0,
-            has_gate: 0,
+            gate: Gate::new(),
+            cable: Cable::new(),
             at: 0,
         }
     }
 
-    pub fn refused(self, wrong: u8) -> Done {
+    pub fn done(self, wrong: u8) -> Done {
         Done {
             play: self,
             wrong: wrong,
         }
     }
 
-    pub fn carried_out(self, at: usize) -> Done {
-        let mut play = self;
-        play.at = at;
-        Done {
-            play: play,
-            wrong: 0,
-        }
+    pub fn after_gate(mut self, done: GateDone) -> Done {
+        let gate = done.gate;
+        let printed = done.printed;
+        self.gate = gate;
+        self.at = printed.at;
+        self.done(printed.wrong)
+    }
+
+    pub fn after_cable(mut self, done: CableDone) -> Done {
+        let cable = done.cable;
+        let printed = done.printed;
+        self.cable = cable;
+        self.at = printed.at;
+        self.done(printed.wrong)
     }
 }

@@ -7,10 +7,10 @@ use Rattle.play.proofs.cable.read_all.Statement.{statement}
 use Rattle.play.proofs.cable.read_all.Tie as tie
 
 abbrev Inv-loop : tie.InvT-loop
-Inv-loop play bytes lent₀ out₀ reader₀ index₀ at₀ i₀ lent out reader index at i = (i ≤ length bytes) × (length lent ≡ length lent₀)
+Inv-loop cable bytes lent₀ out₀ from reader₀ index₀ at₀ i₀ lent out reader index at i = (i ≤ length bytes) × (length lent ≡ length lent₀)
 
 abbrev μ-loop : tie.MeasureT-loop
-μ-loop play bytes lent₀ out₀ reader₀ index₀ at₀ i₀ lent out reader index at i = length bytes - i
+μ-loop cable bytes lent₀ out₀ from reader₀ index₀ at₀ i₀ lent out reader index at i = length bytes - i
 
 loop-holds : tie.Need-loop-holds Inv-loop μ-loop
 loop-holds c = search needs
@@ -39,6 +39,12 @@ loop-less c = search needs
 loop-again : tie.Need-loop-again Inv-loop μ-loop
 loop-again c = search needs
 
+to-requires : tie.Need-to-requires Inv-loop μ-loop
+to-requires c κs = search needs
+
+done-requires : tie.Need-done-requires Inv-loop μ-loop
+done-requires c κs = search needs
+
 same-length : tie.Need-same-length Inv-loop μ-loop
 same-length c = search needs
 
@@ -60,5 +66,7 @@ read-all-spec =
     add-i
     loop-less
     loop-again
+    to-requires
+    done-requires
     same-length
     returns)

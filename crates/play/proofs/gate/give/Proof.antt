@@ -7,18 +7,19 @@ use Rattle.play.proofs.gate.give.Statement.{statement}
 use Rattle.play.proofs.gate.give.Tie as tie
 
 abbrev Inv-loop : tie.InvT-loop
-Inv-loop play bytes memory₀ answer₀ out₀ target₀ index₀ at₀ i₀ memory answer out target index at i =
-    (i ≤ length bytes) × (length memory ≡ length memory₀) × (length answer ≡ length answer₀)
+Inv-loop gate bytes memory₀ answer₀ out₀ from target₀ index₀ at₀ i₀ memory answer out target index at i = (i ≤ length bytes) × (length memory ≡ length memory₀) × (length answer ≡ length answer₀)
 
 abbrev μ-loop : tie.MeasureT-loop
-μ-loop play bytes memory₀ answer₀ out₀ target₀ index₀ at₀ i₀ memory answer out target index at i =
-    length bytes - i
+μ-loop gate bytes memory₀ answer₀ out₀ from target₀ index₀ at₀ i₀ memory answer out target index at i = length bytes - i
 
 loop-holds : tie.Need-loop-holds Inv-loop μ-loop
 loop-holds c = search needs
 
 shared-slice-read-byte : tie.Need-shared-slice-read-byte Inv-loop μ-loop
 shared-slice-read-byte c = search needs
+
+add-i : tie.Need-add-i Inv-loop μ-loop
+add-i c = search needs
 
 byte-requires : tie.Need-byte-requires Inv-loop μ-loop
 byte-requires c κs = search needs
@@ -29,14 +30,17 @@ put-answer-requires c κs = search needs
 wrapping-add-u64-requires : tie.Need-wrapping-add-u64-requires Inv-loop μ-loop
 wrapping-add-u64-requires c κs = search needs
 
-add-i : tie.Need-add-i Inv-loop μ-loop
-add-i c = search needs
-
 loop-less : tie.Need-loop-less Inv-loop μ-loop
 loop-less c = search needs
 
 loop-again : tie.Need-loop-again Inv-loop μ-loop
 loop-again c = search needs
+
+to-requires : tie.Need-to-requires Inv-loop μ-loop
+to-requires c κs = search needs
+
+done-requires : tie.Need-done-requires Inv-loop μ-loop
+done-requires c κs = search needs
 
 same-length : tie.Need-same-length Inv-loop μ-loop
 same-length c = search needs
@@ -55,12 +59,14 @@ give-spec =
     μ-loop
     loop-holds
     shared-slice-read-byte
+    add-i
     byte-requires
     put-answer-requires
     wrapping-add-u64-requires
-    add-i
     loop-less
     loop-again
+    to-requires
+    done-requires
     same-length
     same-length-2
     returns)
