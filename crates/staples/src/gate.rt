@@ -64,10 +64,11 @@ pub fn give(target: Target, wire: &[u8], memory: &mut [u8], came: &mut [u8], fro
     };
     let mut i = 0;
     while i < wire.len() {
+        let byte = wire[i];
+        i += 1;
         let target = given.target;
         let at = given.at;
-        given = give_byte(target, wire[i], memory, came, at);
-        i += 1;
+        given = give_byte(target, byte, memory, came, at);
     }
     given
 }

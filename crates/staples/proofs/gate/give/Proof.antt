@@ -19,14 +19,14 @@ further-requires c κs = search needs
 loop-holds : tie.Need-loop-holds Inv-loop μ-loop
 loop-holds c = search needs
 
-shared-slice-read-give-byte : tie.Need-shared-slice-read-give-byte Inv-loop μ-loop
-shared-slice-read-give-byte c = search needs
-
-give-byte-requires : tie.Need-give-byte-requires Inv-loop μ-loop
-give-byte-requires c κs = search needs
+shared-slice-read-byte : tie.Need-shared-slice-read-byte Inv-loop μ-loop
+shared-slice-read-byte c = search needs
 
 add-i : tie.Need-add-i Inv-loop μ-loop
 add-i c = search needs
+
+give-byte-requires : tie.Need-give-byte-requires Inv-loop μ-loop
+give-byte-requires c κs = search needs
 
 loop-less : tie.Need-loop-less Inv-loop μ-loop
 loop-less c = search needs
@@ -51,9 +51,9 @@ give-spec =
     μ-loop
     further-requires
     loop-holds
-    shared-slice-read-give-byte
-    give-byte-requires
+    shared-slice-read-byte
     add-i
+    give-byte-requires
     loop-less
     loop-again
     same-length
