@@ -1,0 +1,47 @@
+-- The number of ticks that are left falls; the length of the memory stays.
+use mathlib.Core.Path.{_≡_}
+use borrow.Author.Needs.{needs}
+use lib.ListN.{length}
+use Rattle.play.proofs.gate.ticked.Statement.{statement}
+use Rattle.play.proofs.gate.ticked.Tie as tie
+
+abbrev Inv-loop : tie.InvT-loop
+Inv-loop times memory₀ next₀ left₀ memory next left = length memory ≡ length memory₀
+
+abbrev μ-loop : tie.MeasureT-loop
+μ-loop times memory₀ next₀ left₀ memory next left = left
+
+loop-holds : tie.Need-loop-holds Inv-loop μ-loop
+loop-holds c = search needs
+
+tick-requires : tie.Need-tick-requires Inv-loop μ-loop
+tick-requires c κs = search needs
+
+sub-left : tie.Need-sub-left Inv-loop μ-loop
+sub-left c = search needs
+
+loop-less : tie.Need-loop-less Inv-loop μ-loop
+loop-less c = search needs
+
+loop-again : tie.Need-loop-again Inv-loop μ-loop
+loop-again c = search needs
+
+same-length : tie.Need-same-length Inv-loop μ-loop
+same-length c = search needs
+
+returns : tie.Need-returns Inv-loop μ-loop
+returns c = search needs
+
+pub ticked-spec : {M : Type 1} → statement M
+ticked-spec =
+    tie.close
+    (tie.spec
+    Inv-loop
+    μ-loop
+    loop-holds
+    tick-requires
+    sub-left
+    loop-less
+    loop-again
+    same-length
+    returns)

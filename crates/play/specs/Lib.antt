@@ -1,0 +1,2 @@
+-- What a part of a lent buffer keeps to.
+pub mod Span

@@ -1,0 +1,44 @@
+// What can be wrong with a line, and saying so.
+use script::output::flush;
+use script::output::flush_error;
+use script::output::put_decimal;
+use script::output::put_text;
+
+pub const NONE: u8 = 0;
+
+pub const OPERATION: u8 = 1;
+
+pub const NUMBER: u8 = 2;
+
+pub const BYTE: u8 = 3;
+
+pub const SURPLUS: u8 = 4;
+
+pub const RANGE: u8 = 5;
+
+pub const ROOM: u8 = 6;
+
+pub const LENGTH: u8 = 7;
+
+fn put_reason(wrong: u8, out: &mut [u8; 65536], at: usize) -> usize {
+    match wrong {
+        OPERATION => put_text(b"no operation begins so", out, at),
+        NUMBER => put_text(b"a decimal number is missing or wrong", out, at),
+        BYTE => put_text(b"a byte in hex is missing or wrong", out, at),
+        SURPLUS => put_text(b"there is a word too many", out, at),
+        RANGE => put_text(b"the memory has no such bytes", out, at),
+        ROOM => put_text(b"the room is above 600", out, at),
+        _ => put_text(b"the line is too long", out, at),
+    }
+}
+
+// What the lines before gave goes out first.
+pub fn complain(line_number: u64, wrong: u8, out: &mut [u8; 65536], before: usize) {
+    let front = flush(out, before);
+    let named = put_text(b"line ", out, front);
+    let numbered = put_decimal(line_number, out, named);
+    let parted = put_text(b": ", out, numbered);
+    let reasoned = put_reason(wrong, out, parted);
+    let end = put_text(b"\n", out, reasoned);
+    flush_error(out, end);
+}
