@@ -9,7 +9,7 @@ use lib.Dec.{eqb, ltb, leb}
 use lib.ListN.{replicate, set}
 use Rattle.document.specs.Numbers.{isError, taken, stateRefused}
 use Rattle.document.specs.AnswerReader.{beginRefusal, readRoomRefusal}
-use Rattle.line.proofs.Cases.{split, and-left, and-right}
+use Rattle.document.proofs.Cases.{split, and-left, and-right}
 use Rattle.host.specs.declared.reader.AnswerReader.{AnswerReader}
 use Rattle.host.specs.Reader.{sound, soundAt, dataLength, phaseAt, fresh, silent, opened, stored, finished, literal, stepped, turned}
 use Rattle.host.specs.Promises.{beginResult, readResult}

@@ -8,7 +8,7 @@ use lib.Dec.{eqb}
 use lib.ListN.{length}
 use Rattle.document.specs.Numbers.{taken}
 use Rattle.document.specs.AnswerReader.{brought, readRoomRefusal, readBuffer}
-use Rattle.line.proofs.Cases.{split}
+use Rattle.document.proofs.Cases.{split}
 use Rattle.host.specs.declared.reader.AnswerReader.{AnswerReader}
 use Rattle.host.specs.declared.reader.Read.{Read}
 use Rattle.host.specs.Reader.{fresh, stepped, readerAfter}

@@ -16,7 +16,7 @@ use Rattle.document.specs.Message.{lengthPart, lengthFits, wellFormed, onWire, 
 use Rattle.document.specs.CommandWriter.{commandOnWire, commandRefusal, commandWritten, commandBuffer}
 use Rattle.line.specs.declared.doubling.Progress.{Progress}
 use Rattle.line.specs.Put.{progressed}
-use Rattle.line.proofs.Cases.{split, and-right}
+use Rattle.document.proofs.Cases.{split, and-right}
 use Rattle.line.proofs.Pairing.{framed}
 use Rattle.line.proofs.Stuffed.{stuffed-append, stuffed-one}
 use Rattle.line.proofs.Writing.{front, progressed-append, sum-front}

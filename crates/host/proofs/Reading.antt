@@ -14,7 +14,7 @@ use Rattle.document.specs.Sum.{total}
 use Rattle.document.specs.Answer.{Reading, readingRight, wholeAnswer, answerFinishedBy}
 use Rattle.document.specs.AnswerReader.{Brought, broughtBy, brought}
 use Rattle.document.specs.AnswerReader.Brought.{nothing, answer, wrong}
-use Rattle.line.proofs.Cases.{split}
+use Rattle.document.proofs.Cases.{split}
 use Rattle.line.proofs.Pairing.{waitsBehind}
 use Rattle.line.proofs.Machine.{Reads, foundBy, reported-at, within-after, found-map, answer-finished-found}
 use Rattle.line.proofs.Frames.{counted}

@@ -10,7 +10,7 @@ use Rattle.document.specs.Answer.{Answer, answerOnWire}
 use Rattle.document.specs.AnswerWriter.{answerFormed, answerRefusal, answerWritten, answerBuffer}
 use Rattle.document.specs.AnswerReader.{broughtBy, brought}
 use Rattle.document.specs.AnswerReader.Brought.{nothing, answer}
-use Rattle.line.proofs.Cases.{split}
+use Rattle.document.proofs.Cases.{split}
 use Rattle.line.proofs.Left.{taken-formed, written-front}
 use Rattle.line.proofs.Statuses.{formed-other, formed-bare}
 use Rattle.line.proofs.RoundTrip.{back-right, answer-back, answer-quiet}

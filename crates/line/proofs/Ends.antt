@@ -10,7 +10,7 @@ use lib.Seq.{drop-append-add, drop-length, drop-nil}
 use lib.Dec.{eqb}
 use Rattle.document.specs.Doubling.{stuffed}
 use Rattle.document.specs.Pairing.{paired, opened}
-use Rattle.line.proofs.Cases.{split}
+use Rattle.document.proofs.Cases.{split}
 use Rattle.line.proofs.Pairing.{waitsBehind, waitsAfter, reset, framed, paired-stuffed, paired-settled, opened-literals, opened-framed}
 use Rattle.line.proofs.Stuffed.{stuffed-cons, stuffed-append}
 use Rattle.line.proofs.Machine.{foundBy}

@@ -12,7 +12,7 @@ use Rattle.document.specs.Doubling.{stuffed}
 use Rattle.document.specs.Pairing.{paired, opened}
 use Rattle.document.specs.Kinds.{hasLengthByte, fastLength}
 use Rattle.document.specs.Message.{Message, lengthPart, lengthFits, wellFormed, wholeMessage, afterLengthByte}
-use Rattle.line.proofs.Cases.{split, and-left, and-right}
+use Rattle.document.proofs.Cases.{split, and-left, and-right}
 use Rattle.line.proofs.Pairing.{waitsAfter, framed, opened-framed, paired-settled}
 use Rattle.line.proofs.Machine.{foundBy}
 

@@ -12,7 +12,7 @@ use lib.Dec.{ltb, eqb}
 use Rattle.document.specs.Doubling.{stuffed}
 use Rattle.document.specs.Kinds.{hasLengthByte, fastLength}
 use Rattle.document.specs.Message.{Message, wellFormed, onWire, wholeMessage, afterLengthByte, ofLength, finishedBy}
-use Rattle.line.proofs.Cases.{split}
+use Rattle.document.proofs.Cases.{split}
 use Rattle.line.proofs.Pairing.{waitsAfter, framed}
 use Rattle.line.proofs.Machine.{foundBy, finished-found}
 use Rattle.line.proofs.Frames.{counted, message}

@@ -13,7 +13,7 @@ use Rattle.document.specs.Numbers.{taken}
 use Rattle.document.specs.Sum.{sumByteOf}
 use Rattle.document.specs.Answer.{Answer, answerOnWire}
 use Rattle.document.specs.AnswerWriter.{answerFormed, answerRefusal, answerWritten, answerBuffer}
-use Rattle.line.proofs.Cases.{split}
+use Rattle.document.proofs.Cases.{split}
 use Rattle.line.proofs.Stuffed.{stuffed-length}
 use Rattle.line.proofs.Statuses.{formed-few}
 

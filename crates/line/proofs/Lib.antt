@@ -1,5 +1,4 @@
 -- What follows from the definitions of the line.
-pub mod Cases
 -- the line, read
 pub mod Pairing
 pub mod Machine

@@ -12,7 +12,7 @@ use lib.Dec.{eqb}
 use Rattle.document.specs.Pairing.{Token, start, literal, paired, untilStart, opened}
 use Rattle.document.specs.Message.{wholeMessage, heard, finishedBy}
 use Rattle.document.specs.Answer.{wholeAnswer, answersHeard, answerFinishedBy}
-use Rattle.line.proofs.Cases.{split}
+use Rattle.document.proofs.Cases.{split}
 use Rattle.line.proofs.Pairing.{waitsBehind, pairedFrom, paired-none, paired-literal}
 
 -- what the byte b adds to what stands in the pairing of the bytes bs: `finishedBy` and `answerFinishedBy` are this

@@ -7,7 +7,7 @@ use borrow.Author.Tests.{eqb-true}
 use lib.Dec.{eqb}
 use Rattle.document.specs.Doubling.{stuffed}
 use Rattle.document.specs.Pairing.{Token, start, literal, paired, untilStart, opened}
-use Rattle.line.proofs.Cases.{split}
+use Rattle.document.proofs.Cases.{split}
 
 -- whether a 0x2B waits behind the byte b, where one waited before it or not
 abbrev pub waitsBehind : Bool → ℕ → Bool

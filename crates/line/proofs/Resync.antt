@@ -7,7 +7,7 @@ use mathlib.Core.Bool.{Bool, true, false}
 use lib.Dec.{eqb}
 use Rattle.document.specs.Doubling.{stuffed}
 use Rattle.document.specs.Message.{Message, wellFormed, onWire, finishedBy}
-use Rattle.line.proofs.Cases.{split}
+use Rattle.document.proofs.Cases.{split}
 use Rattle.line.proofs.Pairing.{waitsBehind, waitsAfter, framed}
 use Rattle.line.proofs.Machine.{finished-found}
 use Rattle.line.proofs.Frames.{found-last, found-before, literals, message-frame, command-other}

@@ -10,7 +10,7 @@ use lib.ListN.{length}
 use Rattle.document.specs.Answer.{Answer}
 use Rattle.document.specs.AnswerWriter.{answerFormed}
 use Rattle.document.specs.Numbers.{isIn, isStatus, isError}
-use Rattle.line.proofs.Cases.{split, and-left, and-right}
+use Rattle.document.proofs.Cases.{split, and-left, and-right}
 
 -- n numbers from a on
 abbrev from : ℕ → ℕ → List ℕ

@@ -10,7 +10,7 @@ use lib.ListN.{length, getD, set, drop, length-append}
 use lib.Seq.{sets, drop-cons}
 use Rattle.document.specs.Doubling.{stuffed}
 use Rattle.document.specs.Sum.{total}
-use Rattle.line.proofs.Cases.{split}
+use Rattle.document.proofs.Cases.{split}
 
 -- ---- a byte, then others
 

@@ -7,7 +7,7 @@ use borrow.Author.Tests.{ltb-true, ltb-false}
 use lib.Dec.{ltb}
 use lib.ListN.{length, take, set, length-set, length-take}
 use lib.Seq.{sets, set-out, take-suc-set, take-length, take-all, take-append-seam, sets-eq}
-use Rattle.line.proofs.Cases.{split}
+use Rattle.document.proofs.Cases.{split}
 use Rattle.link.specs.declared.Event.{Event}
 use Rattle.link.specs.declared.Event.the-variants.{Nothing, Keep, Whole, Refused}
 use Rattle.link.specs.Report.{bodyAfter}

@@ -13,7 +13,7 @@ use lib.Seq.{sets, set-out, length-take-le}
 use Rattle.document.specs.Sum.{total}
 use Rattle.document.specs.Kinds.{hasLengthByte, fastLength}
 use Rattle.document.specs.Message.{ofLength, afterLengthByte, wholeMessage}
-use Rattle.line.proofs.Cases.{split}
+use Rattle.document.proofs.Cases.{split}
 use Rattle.line.proofs.RightSum.{total-append}
 use Rattle.line.proofs.Frames.{message}
 use Rattle.link.specs.declared.Receiver.{Receiver}

@@ -5,7 +5,7 @@ use mathlib.Core.Bool.{cond}
 use native.Mathlib.Omega.{arith}
 use borrow.Author.Tests.{ltb-true}
 use lib.Dec.{ltb, eqb}
-use Rattle.line.proofs.Cases.{split}
+use Rattle.document.proofs.Cases.{split}
 use Rattle.link.specs.declared.Receiver.{Receiver}
 use Rattle.link.specs.declared.Event.the-variants.{Nothing, Keep, Whole}
 use Rattle.link.specs.Step.{plus, withWaiting, afterByte, byteEvent, stepped}

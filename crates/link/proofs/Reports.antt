@@ -9,7 +9,7 @@ use borrow.Author.Tests.{leb-true, eqb-true, eqb-false, eq-eqb, ne-eqb}
 use lib.Dec.{leb, eqb}
 use lib.ListN.{length}
 use Rattle.document.specs.Message.{Message, wholeMessage, finishedBy}
-use Rattle.line.proofs.Cases.{split}
+use Rattle.document.proofs.Cases.{split}
 use Rattle.line.proofs.Pairing.{waitsBehind}
 use Rattle.line.proofs.Machine.{Reads, within-after, reported-at, found-map, finished-found}
 use Rattle.link.specs.declared.Receiver.{Receiver}

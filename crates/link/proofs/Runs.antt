@@ -7,7 +7,7 @@ use native.Mathlib.Omega.{arith}
 use native.Mathlib.Nat.{zero-add, add-zero}
 use lib.Dec.{eqb}
 use lib.ListN.{replicate}
-use Rattle.line.proofs.Cases.{split}
+use Rattle.document.proofs.Cases.{split}
 use Rattle.line.proofs.Pairing.{waitsBehind, waitsAfter}
 use Rattle.link.specs.Runs.{runBehind, run, odd, oddRun}
 

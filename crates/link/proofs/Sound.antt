@@ -7,7 +7,7 @@ use borrow.Author.Tests.{ltb-true, ltb-false, eqb-true, not-true, eq-eqb, lt-ltb
 use lib.Dec.{ltb, leb, eqb}
 use Rattle.document.specs.Numbers as numbers
 use Rattle.document.specs.Kinds.{hasLengthByte, fastLength}
-use Rattle.line.proofs.Cases.{split, and-left, and-right}
+use Rattle.document.proofs.Cases.{split, and-left, and-right}
 use Rattle.link.specs.declared.Receiver.{Receiver}
 use Rattle.link.specs.declared.Taken.{Taken}
 use Rattle.link.specs.declared.Event.the-variants.{Nothing, Keep, Whole, Refused}

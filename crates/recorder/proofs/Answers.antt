@@ -17,7 +17,7 @@ use Rattle.recorder.specs.declared.state.Recorder.{Recorder as RecorderS
 use Rattle.recorder.specs.State.{planKept, recorderOf, noRecorder}
 use Rattle.recorder.specs.Bounds.{planSound, sound}
 use Rattle.recorder.specs.Setup.{bodyStatus, setUpStatus, setUpState, setUpNext, SetUpSettled}
-use Rattle.recorder.proofs.Cases.{split}
+use Rattle.document.proofs.Cases.{split}
 use Rattle.recorder.proofs.SetUps.{short-layout, accepted-means}
 use Rattle.recorder.proofs.Keeps.{started-run-sound}
 

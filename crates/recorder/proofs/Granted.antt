@@ -14,9 +14,9 @@ use Rattle.recorder.specs.declared.state.Plan.{Plan as PlanState}
 use Rattle.recorder.specs.declared.state.Run.{Run as RunState}
 use Rattle.recorder.specs.State.{planOf}
 use Rattle.recorder.specs.Bounds.{fits, sizeSound, triggerSound, planSound, watchSound, runSound}
-use Rattle.recorder.specs.History.{PlanFits}
-use Rattle.recorder.proofs.Cases.{split, neither, both}
-use Rattle.recorder.proofs.Accepted.{none-of}
+use Rattle.history.specs.History.{PlanFits}
+use Rattle.document.proofs.Cases.{split, neither, both}
+use Rattle.history.proofs.Accepted.{none-of}
 
 -- of a choice whose first does not hold
 second-of : (a b : Bool) → a ≡ false → a || b ≡ true → b ≡ true

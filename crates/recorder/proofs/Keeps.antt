@@ -17,10 +17,10 @@ use Rattle.recorder.specs.declared.state.Recorder.{Recorder as RecorderS
 use Rattle.recorder.specs.State.{isSet, flagOf, triggerOf, planOf, watchOf, watchNumber, watchValue, runOf, runKept, recorderOf, withRun}
 use Rattle.recorder.specs.Bounds.{watchSound, planSound, runSound, sound}
 use Rattle.recorder.specs.Calls.{startStatus, startedState, stopStatus, haltedRun, haltedState, tickedState}
-use Rattle.recorder.specs.History.{CountsFit, setsLeft}
-use Rattle.recorder.proofs.Cases.{split, both}
-use Rattle.recorder.proofs.Ticks.{by-case, stopped-run, waits-run, takes-run}
-use Rattle.recorder.proofs.Counts.{started-fits, stopped-fits, tick-fits}
+use Rattle.history.specs.History.{CountsFit, setsLeft}
+use Rattle.document.proofs.Cases.{split, both}
+use Rattle.history.proofs.Ticks.{by-case, stopped-run, waits-run, takes-run}
+use Rattle.history.proofs.Counts.{started-fits, stopped-fits, tick-fits}
 use Rattle.recorder.proofs.Granted.{sound-fits, run-bounds, previous-fits, left-fits-post, left-some}
 use Rattle.recorder.proofs.Kept.{by-watch, halted-again}
 

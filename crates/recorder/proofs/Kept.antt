@@ -11,7 +11,7 @@ use Rattle.recorder.specs.declared.state.Run.{Run as RunState}
 use Rattle.recorder.specs.State.{isSet, flagOf, watchOf, watchNumber, watchValue, runOf, runKept}
 use Rattle.recorder.specs.Bounds.{watchSound, runSound}
 use Rattle.recorder.specs.Calls.{haltedRun}
-use Rattle.recorder.proofs.Cases.{split}
+use Rattle.document.proofs.Cases.{split}
 use Rattle.recorder.proofs.Granted.{run-bounds, unprimed-zero, watch-two}
 
 pub flag-again : (flag : ℕ) → flag ≤ 1 → flagOf (isSet flag) ≡ flag

@@ -12,7 +12,7 @@ use Rattle.document.specs.Recorder.Recorder.{absent, planned}
 use Rattle.recorder.specs.declared.state.Recorder.{Recorder as RecorderState}
 use Rattle.recorder.specs.State.{planOf, runOf, runKept, recorderOf, withRun}
 use Rattle.recorder.specs.Calls.{startStatus, startedState, stopStatus, haltedRun, haltedState, tickedState}
-use Rattle.recorder.proofs.Cases.{split}
+use Rattle.document.proofs.Cases.{split}
 use Rattle.recorder.proofs.Flags.{run-read}
 use Rattle.recorder.proofs.Readings.{at-absent, at-planned, at-running, at-stopped}
 

@@ -22,8 +22,8 @@ use Rattle.recorder.specs.declared.state.Plan.{Plan as PlanState}
 use Rattle.recorder.specs.State.{planOf, planKept}
 use Rattle.recorder.specs.Bounds.{sizeSound, triggerSound, planSound}
 use Rattle.recorder.specs.Setup.{planLayoutWrong, planSizeWrong, planRangeWrong, firstWrong, planStatus, bodyStatus}
-use Rattle.recorder.proofs.Cases.{split, neither}
-use Rattle.recorder.proofs.Accepted.{none-of}
+use Rattle.document.proofs.Cases.{split, neither}
+use Rattle.history.proofs.Accepted.{none-of}
 use Rattle.recorder.proofs.Granted.{one-of-sizes}
 use Rattle.recorder.proofs.Plans.{triggerFields, trigger-none, trigger-some}
 

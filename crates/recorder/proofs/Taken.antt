@@ -19,8 +19,8 @@ use Rattle.recorder.specs.declared.state.Recorder.{Recorder as RecorderS
 use Rattle.recorder.specs.State.{isSet, triggerOf, planOf, runOf, runKept, recorderOf, withRun}
 use Rattle.recorder.specs.Bounds.{sound}
 use Rattle.recorder.specs.Calls.{tickedState, TickTaken, TickSettled}
-use Rattle.recorder.proofs.Cases.{neither}
-use Rattle.recorder.proofs.Ticks.{stopped-run, stopped-memory, waits-run, waits-memory, takes-run, takes-memory}
+use Rattle.document.proofs.Cases.{neither}
+use Rattle.history.proofs.Ticks.{stopped-run, stopped-memory, waits-run, waits-memory, takes-run, takes-memory}
 use Rattle.recorder.proofs.Granted.{run-bounds}
 use Rattle.recorder.proofs.Readings.{at-absent, at-planned}
 use Rattle.recorder.proofs.Kept.{run-again, waited-again}

@@ -7,5 +7,3 @@ pub mod Bounds
 pub mod Setup
 -- the calls
 pub mod Calls
--- since a start
-pub mod History

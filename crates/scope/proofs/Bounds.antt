@@ -8,7 +8,7 @@ use Rattle.document.specs.Areas.{mayBeRead}
 use Rattle.document.specs.Variables.{anySizeZero, allMay}
 use Rattle.document.specs.Scope.Scope.{absent}
 use Rattle.variables.specs.State.{variablesOf}
-use Rattle.variables.proofs.Each.{both}
+use Rattle.document.proofs.Cases.{both}
 use Rattle.scope.specs.declared.Scope.{Scope}
 use Rattle.scope.specs.State.{scopeOf, noScope, sound}
 

@@ -17,7 +17,7 @@ use Rattle.document.specs.Refusals.{Refusal, firstOf}
 use Rattle.document.specs.Commands.{description, written, writtenMasked, status}
 use Rattle.document.specs.Fields.{isEx, sizeField, addressField}
 use Rattle.recorder.specs.Calls.{statusStatus}
-use Rattle.line.proofs.Cases.{split}
+use Rattle.document.proofs.Cases.{split}
 use Rattle.target.specs.Operations.{unless, blockWrong, blockEmpty, operated, reading, writing, readingScope, queryingBuffer, readRefusals, scopeReadRefusals, askRefusals, queryRefusals}
 use Rattle.target.specs.Told.{Told}
 use Rattle.target.specs.Wrote.{Wrote}

@@ -15,7 +15,7 @@ use Rattle.document.specs.Fields.{reads, writesPlain, hasSize, sizeField, dataP
 use Rattle.target.specs.Operations.{operationOf, blockStatus}
 use Rattle.target.specs.Looked.{Looked}
 use Rattle.target.specs.declared.operation.Operation.{Operation}
-use Rattle.line.proofs.Cases.{split, and-left, and-right}
+use Rattle.document.proofs.Cases.{split, and-left, and-right}
 use Rattle.target.proofs.Table.{upto, same-rule}
 use Rattle.target.proofs.Groups.{same-groups, at-group}
 use Rattle.target.proofs.FieldLaws.{sized, unsized}

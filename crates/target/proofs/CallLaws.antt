@@ -10,7 +10,7 @@ use lib.ListN.{length}
 use Rattle.document.specs.Numbers.{taken, stateRefused, memoryRefused, roomRefused}
 use Rattle.document.specs.Areas.{memoryEnd}
 use Rattle.document.specs.Calls.{tickRefusal, byteRefusal}
-use Rattle.line.proofs.Cases.{split}
+use Rattle.document.proofs.Cases.{split}
 
 module _ (sound : Bool) (memory : List ℕ) where
   pub outside : sound ≡ false → stateRefused ≡ tickRefusal sound memory

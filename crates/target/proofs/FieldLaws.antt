@@ -9,7 +9,7 @@ use lib.ListN.{getD}
 use borrow.Author.Tests.{eq-eqb, ne-eqb}
 use Rattle.document.specs.Fields.{hasSize, sizeField, addressPlace}
 use Rattle.document.specs.Variables.{addressWidth}
-use Rattle.line.proofs.Cases.{split}
+use Rattle.document.proofs.Cases.{split}
 use Rattle.target.specs.Looked.{Looked}
 use Rattle.target.specs.declared.operation.Operation.{Operation}
 use Rattle.target.proofs.Table.{upto, same-rule}

@@ -27,7 +27,7 @@ use Rattle.recorder.specs.State.{recorderOf}
 use Rattle.recorder.specs.Calls.{startedState, haltedState}
 use Rattle.recorder.proofs.Answers.{set-up-means}
 use Rattle.recorder.proofs.Meanings.{started-means, halted-means}
-use Rattle.line.proofs.Cases.{split}
+use Rattle.document.proofs.Cases.{split}
 use Rattle.target.specs.declared.answering.Instruments.{Instruments}
 use Rattle.target.specs.State.{gateOf}
 use Rattle.target.specs.Operations.{unless, askingRecorder, blockWrong, blockEmpty, operationOf, operated, readRefusals, scopeReadRefusals, askRefusals, queryRefusals}

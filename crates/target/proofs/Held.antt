@@ -13,7 +13,7 @@ use Rattle.document.specs.Gate.{Gate, says}
 use Rattle.document.specs.Refusals.{refusal}
 use Rattle.document.specs.Commands.{answered}
 use Rattle.link.specs.Report.{held}
-use Rattle.line.proofs.Cases.{split}
+use Rattle.document.proofs.Cases.{split}
 use Rattle.target.specs.Operations.{operationOf, operated}
 use Rattle.target.specs.AnsweredHeld.{answeredHeld}
 use Rattle.target.proofs.Operated.{answered-operated}

@@ -35,7 +35,7 @@ use Rattle.target.specs.State.{gateOf}
 use Rattle.target.specs.AnsweredHeld.{answeredHeld}
 use Rattle.target.specs.Calls.{Turn, silent, keeping, heldBy, telling, onEvent, turn}
 use Rattle.scope.specs.State.{scopeOf}
-use Rattle.line.proofs.Cases.{split}
+use Rattle.document.proofs.Cases.{split}
 use Rattle.target.specs.Bytes.{bytesOf}
 use Rattle.target.proofs.Resync.{told-bytes}
 use Rattle.target.specs.House.{Reply, House, turned, served, servedAll, fromReset, replyOf}

@@ -19,7 +19,7 @@ use Rattle.document.specs.Refusals.{Refusal, when, firstOf}
 use Rattle.document.specs.Commands.{start, stop, status, withScope}
 use Rattle.scope.specs.Setup.{setUpStatus}
 use Rattle.recorder.specs.Calls.{startStatus, stopStatus, statusStatus, queryStatus, indexOf}
-use Rattle.line.proofs.Cases.{split}
+use Rattle.document.proofs.Cases.{split}
 use Rattle.target.specs.Operations.{unless, settingUpScope, askingRecorder, queryingBuffer}
 
 -- a status alone

@@ -17,7 +17,7 @@ use Rattle.scope.specs.Setup as scope
 use Rattle.recorder.specs.Setup as recorder
 use Rattle.recorder.specs.State.{recorderOf}
 use Rattle.recorder.specs.Calls.{startStatus, stopStatus, startedState, haltedState}
-use Rattle.line.proofs.Cases.{split}
+use Rattle.document.proofs.Cases.{split}
 use Rattle.target.specs.declared.answering.Instruments.{Instruments}
 use Rattle.target.specs.declared.operating.Responded.{Responded}
 use Rattle.target.specs.Operations.{unless, operated, settingUpRecorder, askRefusals}

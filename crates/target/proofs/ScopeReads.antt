@@ -17,7 +17,7 @@ use Rattle.document.specs.Gate.{Gate}
 use Rattle.scope.specs.declared.Scope.{Scope}
 use Rattle.scope.specs.State.{scopeOf, sound}
 use Rattle.scope.specs.Read.{readRefusal, scopeStatus, readStatus, readBytes}
-use Rattle.line.proofs.Cases.{split}
+use Rattle.document.proofs.Cases.{split}
 use Rattle.target.specs.Operations.{readingScope}
 use Rattle.target.proofs.InstrumentLaws.{alone}
 

@@ -4,7 +4,7 @@ use mathlib.Core.Bool.{true, false, _&&_}
 use Rattle.link.specs.Bounds as link
 use Rattle.scope.specs.State as scope
 use Rattle.recorder.specs.Bounds as recorder
-use Rattle.line.proofs.Cases.{and-left, and-right}
+use Rattle.document.proofs.Cases.{and-left, and-right}
 use Rattle.target.specs.declared.state.Target.{Target}
 use Rattle.target.specs.Bounds.{sound}
 

@@ -11,7 +11,7 @@ use Rattle.link.specs.declared.Event.{Event}
 use Rattle.link.specs.declared.Event.the-variants.{Nothing, Keep, Whole, Refused}
 use Rattle.link.specs.Bounds.{lengthRight}
 use Rattle.link.specs.Step.{stepped}
-use Rattle.line.proofs.Cases.{split}
+use Rattle.document.proofs.Cases.{split}
 use Rattle.target.specs.declared.state.Target.{Target}
 use Rattle.target.specs.declared.byte.Taken.{Taken}
 use Rattle.target.specs.State.{gateOf}

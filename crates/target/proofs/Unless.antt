@@ -7,7 +7,7 @@ use lib.Dec.{eqb}
 use Rattle.document.specs.Numbers.{done, layoutWrong, sizeWrong, isStatus}
 use Rattle.document.specs.Gate.{Gate, Outcome, says}
 use Rattle.document.specs.Refusals.{Refusal, when}
-use Rattle.line.proofs.Cases.{split}
+use Rattle.document.proofs.Cases.{split}
 use Rattle.target.specs.Operations.{unless, blockWrong, blockEmpty, blockStatus}
 
 module _ (c : ℕ) (body : List ℕ) where

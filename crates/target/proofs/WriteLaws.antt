@@ -12,7 +12,7 @@ use Rattle.document.specs.Gate.{Gate, Outcome, says}
 use Rattle.document.specs.Refusals.{Refusal, when}
 use Rattle.memory.specs.declared.stores.Stored.{Stored}
 use Rattle.memory.specs.Writes.{numberOf, Written}
-use Rattle.line.proofs.Cases.{split}
+use Rattle.document.proofs.Cases.{split}
 use Rattle.target.specs.Wrote.{Wrote}
 use Rattle.target.specs.Operations.{unless, writing, blockStatus}
 use Rattle.target.proofs.Unless.{after-block}

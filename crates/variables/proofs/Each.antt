@@ -11,15 +11,11 @@ use lib.Seq.{drop-cons, getD-take, length-take-le}
 use borrow.Author.Tests.{eq-eqb, ne-eqb}
 use Rattle.document.specs.declared.Variable.{Variable}
 use Rattle.document.specs.Variables.{anySizeZero, allMay, setSize}
+use Rattle.document.proofs.Cases.{both}
 use Rattle.variables.specs.State.{upTo}
 
 abbrev pub blank : Variable
 blank = record { address = 0; size = 0 }
-
-pub both : (a b : Bool) → (a && b) ≡ true → (a ≡ true) × (b ≡ true)
-both true b e = (refl, e)
-both false true e = (e, refl)
-both false false e = (e, e)
 
 -- the k-th of the first `count` entries of a list
 module _ (list : List Variable) (count k : ℕ) (h : k < count) (room : count ≤ length list) where

@@ -11,9 +11,10 @@ use Rattle.document.specs.declared.Variable.{Variable}
 use Rattle.document.specs.Areas.{bytesAt}
 use Rattle.document.specs.Stores.{stored}
 use Rattle.document.specs.Variables.{allMay, setSize, valuesOf}
+use Rattle.document.proofs.Cases.{both}
 use Rattle.memory.proofs.Copies.{stored-append}
 use Rattle.variables.specs.State.{upTo}
-use Rattle.variables.proofs.Each.{blank, both, next-variable}
+use Rattle.variables.proofs.Each.{blank, next-variable}
 
 pub range-length : (memory : List ℕ) (address size : ℕ) → address + size ≤ length memory → length (bytesAt memory address size) ≡ size
 range-length m a s h = length-take-le s (drop a m) (rw length-drop (omega arith))

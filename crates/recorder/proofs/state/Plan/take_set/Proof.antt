@@ -6,7 +6,7 @@ use Rattle.document.specs.Variables.{setSize}
 use Rattle.document.specs.Run.{setOf}
 use Rattle.variables.specs.State.{variablesOf}
 use Rattle.recorder.specs.State.{planOf}
-use Rattle.recorder.proofs.Places.{place-room}
+use Rattle.history.proofs.Places.{place-room}
 use Rattle.recorder.proofs.Granted.{plan-bounds}
 use native.Mathlib.Omega.{arith}
 use borrow.Author.Needs.{needs}

@@ -8,11 +8,11 @@ use Rattle.document.specs.Plan.{Plan}
 use Rattle.document.specs.Trigger.{triggerValue, fires}
 use Rattle.document.specs.Run.{Watch, Run, watched, goesOn}
 use Rattle.document.specs.Run.Watch.{unprimed, previous, triggered}
-use Rattle.recorder.specs.History.{Event, Recording, begun, stepped, after, ticks, Unstopped, TriggersNext, StoppedByTrigger}
-use Rattle.recorder.specs.History.Event.{tick, others, stop}
-use Rattle.recorder.proofs.Cases.{split, neither}
-use Rattle.recorder.proofs.Ticks.{by-case, waits-run, takes-run}
-use Rattle.recorder.proofs.Stop.{hasTriggered, stops}
+use Rattle.history.specs.History.{Event, Recording, begun, stepped, after, ticks, Unstopped, TriggersNext, StoppedByTrigger}
+use Rattle.history.specs.History.Event.{tick, others, stop}
+use Rattle.document.proofs.Cases.{split, neither}
+use Rattle.history.proofs.Ticks.{by-case, waits-run, takes-run}
+use Rattle.history.proofs.Stop.{hasTriggered, stops}
 
 -- no trigger has come, and it runs
 record Watching (r : Run) : Type 0 where

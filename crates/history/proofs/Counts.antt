@@ -9,10 +9,10 @@ use Rattle.document.specs.Plan.{Plan}
 use Rattle.document.specs.Trigger.{triggerValue, fires}
 use Rattle.document.specs.Run.{Watch, Run, started, stopped, placeAfter, watched, ranTick}
 use Rattle.document.specs.Run.Watch.{unprimed, previous, triggered}
-use Rattle.recorder.specs.History.{PlanFits, CountsFit, setsLeft, Event, Recording, begun, stepped, after}
-use Rattle.recorder.specs.History.Event.{tick, others, stop}
-use Rattle.recorder.proofs.Cases.{split, neither}
-use Rattle.recorder.proofs.Ticks.{by-case, stopped-run, waits-run, takes-run}
+use Rattle.history.specs.History.{PlanFits, CountsFit, setsLeft, Event, Recording, begun, stepped, after}
+use Rattle.history.specs.History.Event.{tick, others, stop}
+use Rattle.document.proofs.Cases.{split, neither}
+use Rattle.history.proofs.Ticks.{by-case, stopped-run, waits-run, takes-run}
 
 place-fits : (n i : ℕ) → i < n → placeAfter n i < n
 place-fits n i h =

@@ -10,10 +10,10 @@ use Rattle.document.specs.Stores.{stored}
 use Rattle.document.specs.Plan.{Plan}
 use Rattle.document.specs.Run.{startIndex, placeBegins, setOf, memoryAfterTick}
 use Rattle.document.specs.Sets.{setsTaken, readRound, lastOf}
-use Rattle.recorder.specs.History.{PlanFits, Event, begun, after, taken, memoriesLeft, memoriesFound, AllLeaveBuffer}
-use Rattle.recorder.proofs.Held.{Held, held-start, held-after, held-read}
-use Rattle.recorder.proofs.Sets.{taken-of-left, taken-of-found}
-use Rattle.recorder.proofs.Ticks.{takes-memory}
+use Rattle.history.specs.History.{PlanFits, Event, begun, after, taken, memoriesLeft, memoriesFound, AllLeaveBuffer}
+use Rattle.history.proofs.Held.{Held, held-start, held-after, held-read}
+use Rattle.history.proofs.Sets.{taken-of-left, taken-of-found}
+use Rattle.history.proofs.Ticks.{takes-memory}
 
 module _ (p : Plan) (m : List ℕ) (es : List Event) (f : PlanFits p) (l : length m ≡ memoryEnd) (q : AllLeaveBuffer p (begun m) es) where
   all-held : Held p (after p (begun m) es .run .place) (after p (begun m) es .run .full) (after p (begun m) es .memory) (taken p (begun m) es)

@@ -13,10 +13,10 @@ use Rattle.document.specs.Plan.{Plan}
 use Rattle.document.specs.Trigger.{triggerValue, fires}
 use Rattle.document.specs.Run.{Watch, Run, setOf, watched, goesOn, setTaken, waited, ranTick}
 use Rattle.document.specs.Run.Watch.{unprimed, previous, triggered}
-use Rattle.recorder.specs.History.{Event, Recording, stepped, after, takenAt, taken, ticks, Unstopped, TriggersNext, setsLeft}
-use Rattle.recorder.specs.History.Event.{tick, others, stop}
-use Rattle.recorder.proofs.Cases.{split, neither}
-use Rattle.recorder.proofs.Ticks.{by-case, stopped-run, stopped-taken, waits-run, waits-taken, takes-run, takes-taken}
+use Rattle.history.specs.History.{Event, Recording, stepped, after, takenAt, taken, ticks, Unstopped, TriggersNext, setsLeft}
+use Rattle.history.specs.History.Event.{tick, others, stop}
+use Rattle.document.proofs.Cases.{split, neither}
+use Rattle.history.proofs.Ticks.{by-case, stopped-run, stopped-taken, waits-run, waits-taken, takes-run, takes-taken}
 
 -- the trigger has come
 abbrev pub hasTriggered : Watch → Bool

@@ -14,27 +14,14 @@ use Rattle.document.specs.Variables.{allMay, setSize, valuesOf}
 use Rattle.document.specs.Plan.{Plan}
 use Rattle.document.specs.Trigger.{triggerValue}
 use Rattle.document.specs.Run.{setOf}
-use Rattle.recorder.specs.History.{PlanFits}
-use Rattle.recorder.proofs.Cases.{both}
-use Rattle.recorder.proofs.Bytes.{bytes-agree}
-
-bytes-length : (m : List ℕ) (a n : ℕ) → a + n ≤ length m → length (bytesAt m a n) ≡ n
-bytes-length m a n h = length-take-le n (drop a m) (rw length-drop (omega arith))
+use Rattle.variables.proofs.Gathered.{values-length}
+use Rattle.history.specs.History.{PlanFits}
+use Rattle.document.proofs.Cases.{both}
+use Rattle.history.proofs.Bytes.{bytes-agree}
 
 -- where a variable that may be recorded ends
 below : (a n : ℕ) → mayBeRecorded a n ≡ true → a + n ≤ 12288
 below a n e = leb-true (a + n) 12288 e
-
-pub values-length : (m : List ℕ) (vs : List Variable) → allMay mayBeRecorded vs ≡ true → 12288 ≤ length m
-    → length (valuesOf m vs) ≡ setSize vs
-values-length m [] e h = refl
-values-length m (v ∷ vs) e h =
-    let b = both (mayBeRecorded (v .address) (v .size)) (allMay mayBeRecorded vs) e in
-    rw (
-      length-append (bytesAt m (v .address) (v .size)),
-      bytes-length m (v .address) (v .size) (omega (arith, below (v .address) (v .size) (b .0))),
-      values-length m vs (b .1) h,
-    )
 
 pub values-agree : (m n : List ℕ) (vs : List Variable) → allMay mayBeRecorded vs ≡ true → take calibrationEnd m ≡ take calibrationEnd n
     → valuesOf m vs ≡ valuesOf n vs
@@ -46,7 +33,7 @@ values-agree m n (v ∷ vs) e a =
 
 module _ (p : Plan) (f : PlanFits p) where
   pub set-length : (m : List ℕ) → length m ≡ 16384 → length (setOf p m) ≡ setSize (p .variables)
-  set-length m e = values-length m (p .variables) (f .variables) (omega arith)
+  set-length m e = values-length m calibrationEnd (p .variables) (f .variables) (omega arith)
 
   -- memories that agree below the buffer have the same set and the same value
   pub set-agrees : (m n : List ℕ) → take calibrationEnd m ≡ take calibrationEnd n → setOf p m ≡ setOf p n

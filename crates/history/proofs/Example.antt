@@ -9,8 +9,8 @@ use Rattle.document.specs.Plan.{Plan}
 use Rattle.document.specs.Trigger.{fires}
 use Rattle.document.specs.Run.{startIndex, ranTick, memoryAfterTick}
 use Rattle.document.specs.Sets.{setsTaken, readRound}
-use Rattle.recorder.specs.History.{PlanFits, Event, begun, after, memoriesLeft}
-use Rattle.recorder.specs.History.Event.{tick, others}
+use Rattle.history.specs.History.{PlanFits, Event, begun, after, memoriesLeft}
+use Rattle.history.specs.History.Event.{tick, others}
 
 abbrev plan : Plan
 plan =

@@ -16,13 +16,13 @@ use Rattle.document.specs.Variables.{setSize}
 use Rattle.document.specs.Plan.{Plan}
 use Rattle.document.specs.Run.{Run, placeBegins, placeAfter, fullAfter, setOf, ranTick, memoryAfterTick}
 use Rattle.document.specs.Sets.{readRound, lastOf}
-use Rattle.recorder.specs.History.{PlanFits, Event, Recording, stepped, after, takenAt, taken, LeavesBuffer, AllLeaveBuffer}
-use Rattle.recorder.specs.History.Event.{tick, others, stop}
-use Rattle.recorder.proofs.Cases.{split}
-use Rattle.recorder.proofs.Bytes.{bytes-stored}
-use Rattle.recorder.proofs.Places.{place-next, full-next, place-room, places-apart, other-place}
-use Rattle.recorder.proofs.Sources.{set-length}
-use Rattle.recorder.proofs.Ticks.{by-case, stopped-run, stopped-memory, stopped-taken, waits-run, waits-memory, waits-taken, takes-run, takes-memory, takes-taken}
+use Rattle.history.specs.History.{PlanFits, Event, Recording, stepped, after, takenAt, taken, LeavesBuffer, AllLeaveBuffer}
+use Rattle.history.specs.History.Event.{tick, others, stop}
+use Rattle.document.proofs.Cases.{split}
+use Rattle.history.proofs.Bytes.{bytes-stored}
+use Rattle.history.proofs.Places.{place-next, full-next, place-room, places-apart, other-place}
+use Rattle.history.proofs.Sources.{set-length}
+use Rattle.history.proofs.Ticks.{by-case, stopped-run, stopped-memory, stopped-taken, waits-run, waits-memory, waits-taken, takes-run, takes-memory, takes-taken}
 
 -- the bytes of a place
 abbrev pub bytesOfPlace : Plan → List ℕ → ℕ → List ℕ

@@ -10,8 +10,8 @@ use Rattle.document.specs.Areas.{mayBeRecorded}
 use Rattle.document.specs.Numbers.{isIn}
 use Rattle.document.specs.Variables.{countIn, anySizeZero, countWrong, allMay, setSize}
 use Rattle.document.specs.Plan.{planIn, variablesPart, recordedIn, samplesField, looksAtTrigger, triggerIn, triggerAddressField, triggerSizeField, recorderSizeWrong, recorderRangeWrong}
-use Rattle.recorder.specs.History.{PlanFits}
-use Rattle.recorder.proofs.Cases.{split, neither}
+use Rattle.history.specs.History.{PlanFits}
+use Rattle.document.proofs.Cases.{split, neither}
 
 -- none of two
 pub none-of : (a b : Bool) → a || b ≡ false → (a ≡ false) × (b ≡ false)

@@ -15,13 +15,13 @@ use Rattle.document.specs.Trigger.{triggerValue, fires}
 use Rattle.document.specs.Run.{Watch, Run, placeBegins, setOf, watched, goesOn, setTaken, memoryAfterTick}
 use Rattle.document.specs.Run.Watch.{unprimed, previous, triggered}
 use Rattle.document.specs.Sets.{every, untilStop, fromFirst, setsTaken}
-use Rattle.recorder.specs.History.{PlanFits, CountsFit, Event, Recording, begun, stepped, taken, memoriesLeft, memoriesFound}
-use Rattle.recorder.specs.History.Event.{tick, others, stop}
-use Rattle.recorder.proofs.Cases.{split}
-use Rattle.recorder.proofs.Bytes.{take-sets}
-use Rattle.recorder.proofs.Sources.{set-agrees, value-agrees}
-use Rattle.recorder.proofs.Counts.{started-fits, tick-fits}
-use Rattle.recorder.proofs.Ticks.{by-case, stopped-run, stopped-memory, stopped-taken, waits-run, waits-memory, waits-taken, takes-run, takes-memory, takes-taken}
+use Rattle.history.specs.History.{PlanFits, CountsFit, Event, Recording, begun, stepped, taken, memoriesLeft, memoriesFound}
+use Rattle.history.specs.History.Event.{tick, others, stop}
+use Rattle.document.proofs.Cases.{split}
+use Rattle.history.proofs.Bytes.{take-sets}
+use Rattle.history.proofs.Sources.{set-agrees, value-agrees}
+use Rattle.history.proofs.Counts.{started-fits, tick-fits}
+use Rattle.history.proofs.Ticks.{by-case, stopped-run, stopped-memory, stopped-taken, waits-run, waits-memory, waits-taken, takes-run, takes-memory, takes-taken}
 
 -- as many as are left, none when none is
 cut : (n : ℕ) (ms : List (List ℕ)) → take n ms ≡ cond (ltb 0 n) (take n ms) []

@@ -11,9 +11,9 @@ use lib.Seq.{sets}
 use borrow.Author.Tests.{eqb-true, eqb-false, ltb-true, ltb-false, leb-true, leb-false, le-leb, lt-leb}
 use Rattle.document.specs.Areas.{bytesAt}
 use Rattle.document.specs.Run.{placeAfter, fullAfter}
-use Rattle.recorder.specs.History.{placeOfSet}
-use Rattle.recorder.proofs.Cases.{split}
-use Rattle.recorder.proofs.Bytes.{bytes-before, bytes-behind}
+use Rattle.history.specs.History.{placeOfSet}
+use Rattle.document.proofs.Cases.{split}
+use Rattle.history.proofs.Bytes.{bytes-before, bytes-behind}
 
 -- the place behind that of set k is that of set k + 1
 pub place-next : (k n : ℕ) → 1 ≤ n → placeAfter n (k % n) ≡ suc k % n

@@ -11,12 +11,12 @@ use borrow.Author.Tests.{eq-eqb, ne-eqb, eqb-true, eqb-false}
 use Rattle.document.specs.Variables.{setSize}
 use Rattle.document.specs.Plan.{Plan}
 use Rattle.document.specs.Run.{Run, placeBegins, setOf, setTaken, waited, ranTick, memoryAfterTick}
-use Rattle.recorder.specs.History.{PlanFits, takenAt}
-use Rattle.recorder.specs.History.Event.{tick}
-use Rattle.recorder.proofs.Cases.{split}
-use Rattle.recorder.proofs.Bytes.{take-sets, drop-sets}
-use Rattle.recorder.proofs.Places.{place-room}
-use Rattle.recorder.proofs.Sources.{set-length}
+use Rattle.history.specs.History.{PlanFits, takenAt}
+use Rattle.history.specs.History.Event.{tick}
+use Rattle.document.proofs.Cases.{split}
+use Rattle.history.proofs.Bytes.{take-sets, drop-sets}
+use Rattle.history.proofs.Places.{place-room}
+use Rattle.history.proofs.Sources.{set-length}
 
 -- by the case that a tick finds: stopped, waiting, a set due
 pub by-case : {P : Type 0} (r : Run) → (r .running ≡ false → P) → (r .running ≡ true → 0 < r .wait → P)

@@ -1,0 +1,13 @@
+-- The laws and theorems, lowest first.
+pub mod Bytes
+pub mod Places
+pub mod Sources
+pub mod Ticks
+pub mod Counts
+pub mod Held
+pub mod Sets
+pub mod History
+pub mod Stop
+pub mod Untriggered
+pub mod Accepted
+pub mod Example
