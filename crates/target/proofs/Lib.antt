@@ -18,8 +18,3 @@ pub mod TargetBounds
 pub mod CallLaws
 pub mod TurnLaws
 pub mod TickLaws
-pub mod Happened
-pub mod Resync
-pub mod Gates
-pub mod House
-pub mod Demand3

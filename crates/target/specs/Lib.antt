@@ -1,6 +1,4 @@
 pub mod Operations
-pub mod Bytes
-pub mod Resync
 pub mod Looked
 pub mod Asked
 pub mod AnsweredHeld
@@ -11,5 +9,3 @@ pub mod Answers
 pub mod Next
 pub mod Bounds
 pub mod Calls
-pub mod House
-pub mod Demand3

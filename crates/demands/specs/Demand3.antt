@@ -5,8 +5,8 @@ use Prim.Native.Nat.{ℕ}
 use Rattle.document.specs.Message.{Message}
 use Rattle.document.specs.Commands.{answered}
 use Rattle.link.specs.Demands.{EndIn}
 use Rattle.target.specs.State.{gateOf}
-use Rattle.target.specs.House.{House, replyOf}
+use Rattle.demands.specs.House.{House, replyOf}
 
 -- "get exactly the answer, and leave the memory, scope and recorder, that a freshly reset link would give over these as
 -- they stand at the last byte": the fresh link is the definition, `answered`

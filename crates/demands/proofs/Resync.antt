@@ -12,10 +12,10 @@ use Rattle.link.proofs.Runs.{waits-odd}
 use Rattle.link.proofs.Demands.{finishes-whole}
 use Rattle.line.proofs.Pairing.{waitsAfter}
 use Rattle.line.proofs.Resync.{message-settled}
-use Rattle.target.specs.Bytes.{bytesOf}
-use Rattle.target.specs.Resync.{Resynchronised, ByHalf}
-use Rattle.target.specs.Resync.ByHalf.{nothing, whole}
-use Rattle.target.proofs.Happened.{before-last, at-last}
+use Rattle.demands.specs.Bytes.{bytesOf}
+use Rattle.demands.specs.Resync.{Resynchronised, ByHalf}
+use Rattle.demands.specs.Resync.ByHalf.{nothing, whole}
+use Rattle.demands.proofs.Happened.{before-last, at-last}
 
 settled-answered : (m : Message) (s : Since) (hs : List Happening) (b : ℕ) → wellFormed m ≡ true → waitsAfter (s .bytes) ≡ false
     → onWire m ≡ bytesOf hs ++ (b ∷ []) → Resynchronised s hs b m

@@ -10,7 +10,7 @@ use Rattle.document.specs.Happenings.{Happening, Since, told, after, afterAll}
 use Rattle.document.specs.Happenings.Happening.{byte, tick, writes}
 use Rattle.line.proofs.Pairing.{waitsAfter}
 use Rattle.line.proofs.Resync.{message-last, message-before}
-use Rattle.target.specs.Bytes.{bytesOf, besideBytes}
+use Rattle.demands.specs.Bytes.{bytesOf, besideBytes}
 
 -- none of the bytes finishes a message behind the bytes bs
 abbrev Quiet : List ℕ → List ℕ → Type 0

@@ -13,13 +13,13 @@ use Rattle.document.specs.Happenings.{Happening, Since, after, afterAll, fromRe
 use Rattle.document.specs.Happenings.Happening.{byte}
 use Rattle.link.specs.Runs.{oddRun}
 use Rattle.link.specs.Demands.{EndIn}
-use Rattle.target.specs.Bytes.{bytesOf}
-use Rattle.target.specs.Resync.{Resynchronised, ByHalf}
-use Rattle.target.specs.House.{House, served, servedAll, fromReset, replyOf}
-use Rattle.target.specs.Demand3.{AnsweredFresh, NothingByHalf}
-use Rattle.target.specs.Demand3.NothingByHalf.{nothing, whole}
-use Rattle.target.proofs.Resync.{bytes-after, resync-even, resync-next, nothing-by-half}
-use Rattle.target.proofs.House.{Bytes, Stands, front-bytes, stands-byte, stands-all, demand-2}
+use Rattle.demands.specs.Bytes.{bytesOf}
+use Rattle.demands.specs.Resync.{Resynchronised, ByHalf}
+use Rattle.demands.specs.House.{House, served, servedAll, fromReset, replyOf}
+use Rattle.demands.specs.Demand3.{AnsweredFresh, NothingByHalf}
+use Rattle.demands.specs.Demand3.NothingByHalf.{nothing, whole}
+use Rattle.demands.proofs.Resync.{bytes-after, resync-even, resync-next, nothing-by-half}
+use Rattle.demands.proofs.House.{Bytes, Stands, front-bytes, stands-byte, stands-all, demand-2}
 
 -- a message behind a house that stands for the definition
 module _ (buffer : List ℕ) (start : House) (s : Since) (stands : Stands buffer start s) (hs : List Happening) (b : ℕ) (m : Message)

@@ -7,7 +7,7 @@ use Rattle.document.specs.Commands.{answered}
 use Rattle.document.specs.Happenings.{Happening, Since, after, afterAll}
 use Rattle.document.specs.Happenings.Happening.{byte}
 use Rattle.link.specs.Demands.{EndIn}
-use Rattle.target.specs.Bytes.{besideBytes}
+use Rattle.demands.specs.Bytes.{besideBytes}
 
 -- "a start byte and a well-formed stuffed message get exactly the answer, and leave the memory, scope and recorder, that a
 -- freshly reset link would give over these as they stand at the last byte": `hs` brings all of it but its last byte b

@@ -30,18 +30,18 @@ use Rattle.link.proofs.Reports.{reports, stays-sound}
 use Rattle.link.proofs.Demands.{finishes-whole}
 use Rattle.recorder.specs.State.{recorderOf}
 use Rattle.recorder.proofs.Meanings.{ticked-means}
 use Rattle.target.specs.declared.state.Target.{Target}
 use Rattle.target.specs.State.{gateOf}
 use Rattle.target.specs.AnsweredHeld.{answeredHeld}
 use Rattle.target.specs.Calls.{Turn, silent, keeping, heldBy, telling, onEvent, turn}
 use Rattle.scope.specs.State.{scopeOf}
 use Rattle.document.proofs.Cases.{split}
-use Rattle.target.specs.Bytes.{bytesOf}
-use Rattle.target.proofs.Resync.{told-bytes}
-use Rattle.target.specs.House.{Reply, House, turned, served, servedAll, fromReset, replyOf}
+use Rattle.demands.specs.Bytes.{bytesOf}
+use Rattle.demands.proofs.Resync.{told-bytes}
+use Rattle.demands.specs.House.{Reply, House, turned, served, servedAll, fromReset, replyOf}
 use Rattle.target.proofs.Held.{answered-held}
-use Rattle.target.proofs.Gates.{held-kept}
+use Rattle.demands.proofs.Gates.{held-kept}
 use Rattle.target.proofs.TurnLaws.{nextOf, by-event}
 
 abbrev blank : List ℕ
 blank = replicate 64 0

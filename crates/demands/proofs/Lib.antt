@@ -1,0 +1,6 @@
+-- The laws and theorems, lowest first.
+pub mod Happened
+pub mod Resync
+pub mod Gates
+pub mod House
+pub mod Demand3

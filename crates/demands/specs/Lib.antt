@@ -1,0 +1,4 @@
+pub mod Bytes
+pub mod Resync
+pub mod House
+pub mod Demand3
