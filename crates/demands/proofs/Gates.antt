@@ -2,8 +2,7 @@
 use mathlib.Core.Path.{_≡_, refl, sym, ap, _∙_}
 use mathlib.Core.Bool.{true, cond, not, false≢true}
 use mathlib.Core.List.{List, [], _∷_}
-use Prim.Native.Nat.{ℕ, zero, suc, _<_}
-use native.Mathlib.Omega.{arith}
+use Prim.Native.Nat.{ℕ, _<_}
 use borrow.Author.Tests.{eqb-true, eqb-false}
 use lib.Dec.{eqb, ltb}
 use Rattle.document.specs.Numbers.{done, layoutWrong, sizeWrong, rangeWrong, recorderRuns, recorderStopped}
@@ -30,10 +29,11 @@ use Rattle.recorder.proofs.Meanings.{started-means, halted-means}
 use Rattle.document.proofs.Cases.{split}
 use Rattle.target.specs.declared.answering.Instruments.{Instruments}
 use Rattle.target.specs.State.{gateOf}
-use Rattle.target.specs.Operations.{unless, askingRecorder, blockWrong, blockEmpty, operationOf, operated, readRefusals, scopeReadRefusals, askRefusals, queryRefusals}
+use Rattle.target.specs.Operations.{unless, askingRecorder, operationOf, operated, readRefusals, writeRefusals, scopeReadRefusals, askRefusals, queryRefusals}
 use Rattle.target.specs.Next.{instrumentsAfter}
 use Rattle.target.specs.AnsweredHeld.{answeredHeld, instrumentsHeld}
 use Rattle.target.proofs.Groups.{operation-below}
+use Rattle.demands.proofs.Numbered.{below-13}
 
 -- a start and a stop of what is not set up change nothing
 absent-started : (r : Recorder) → recorderAbsent r ≡ true → recorderStarted r ≡ r
@@ -55,31 +55,6 @@ gate-halted g =
     split (recorderAbsent (g .recorder))
     (λ none. rw none (λ j. record { memory = g .memory; scope = g .scope; recorder = sym (absent-halted (g .recorder) none) j }))
     (λ some. rw some refl)
-
--- every number below 13
-below-13 : (P : ℕ → Type 0) → P 0 → P 1 → P 2 → P 3 → P 4 → P 5 → P 6 → P 7 → P 8 → P 9 → P 10 → P 11 → P 12 → (n : ℕ) → n < 13 → P n
-below-13 P p0 p1 p2 p3 p4 p5 p6 p7 p8 p9 p10 p11 p12 zero h = p0
-below-13 P p0 p1 p2 p3 p4 p5 p6 p7 p8 p9 p10 p11 p12 (suc zero) h = p1
-below-13 P p0 p1 p2 p3 p4 p5 p6 p7 p8 p9 p10 p11 p12 (suc (suc zero)) h = p2
-below-13 P p0 p1 p2 p3 p4 p5 p6 p7 p8 p9 p10 p11 p12 (suc (suc (suc zero))) h = p3
-below-13 P p0 p1 p2 p3 p4 p5 p6 p7 p8 p9 p10 p11 p12 (suc (suc (suc (suc zero)))) h = p4
-below-13 P p0 p1 p2 p3 p4 p5 p6 p7 p8 p9 p10 p11 p12 (suc (suc (suc (suc (suc zero))))) h = p5
-below-13 P p0 p1 p2 p3 p4 p5 p6 p7 p8 p9 p10 p11 p12 (suc (suc (suc (suc (suc (suc zero)))))) h = p6
-below-13 P p0 p1 p2 p3 p4 p5 p6 p7 p8 p9 p10 p11 p12 (suc (suc (suc (suc (suc (suc (suc zero))))))) h = p7
-below-13 P p0 p1 p2 p3 p4 p5 p6 p7 p8 p9 p10 p11 p12 (suc (suc (suc (suc (suc (suc (suc (suc zero)))))))) h = p8
-below-13 P p0 p1 p2 p3 p4 p5 p6 p7 p8 p9 p10 p11 p12 (suc (suc (suc (suc (suc (suc (suc (suc (suc zero))))))))) h = p9
-below-13 P p0 p1 p2 p3 p4 p5 p6 p7 p8 p9 p10 p11 p12 (suc (suc (suc (suc (suc (suc (suc (suc (suc (suc zero)))))))))) h = p10
-below-13 P p0 p1 p2 p3 p4 p5 p6 p7 p8 p9 p10 p11 p12 (suc (suc (suc (suc (suc (suc (suc (suc (suc (suc (suc zero))))))))))) h = p11
-below-13 P p0 p1 p2 p3 p4 p5 p6 p7 p8 p9 p10 p11 p12 (suc (suc (suc (suc (suc (suc (suc (suc (suc (suc (suc (suc zero)))))))))))) h = p12
-below-13 P p0 p1 p2 p3 p4 p5 p6 p7 p8 p9 p10 p11 p12 (suc (suc (suc (suc (suc (suc (suc (suc (suc (suc (suc (suc (suc n))))))))))))) h =
-    let b : ⊥ = omega arith in absurd b
-
-abbrev writeRefusals : ℕ → List ℕ → List Refusal
-writeRefusals c body =
-    when layoutWrong (blockWrong c body)
-    ∷ when sizeWrong (blockEmpty c body)
-    ∷ when rangeWrong (not (mayBeWritten (addressField c body) (sizeField c body)))
-    ∷ []
 
 -- the parts that a gate's structs keep, whatever the memory
 module _ (i : Instruments) (memory : List ℕ) where

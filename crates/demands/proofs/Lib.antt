@@ -1,4 +1,7 @@
 -- The laws and theorems, lowest first.
+pub mod ByteLaws
+pub mod Numbered
+pub mod Left
 pub mod Happened
 pub mod Resync
 pub mod Gates

@@ -1,6 +1,6 @@
 -- The bytes among what happens, and what happens beside them.
 use mathlib.Core.List.{List, [], _∷_}
-use Prim.Native.Nat.{ℕ}
+use Prim.Native.Nat.{ℕ, _<_}
 use Rattle.document.specs.Happenings.{Happening}
 use Rattle.document.specs.Happenings.Happening.{byte, tick, writes}
 
@@ -17,3 +17,15 @@ besideBytes [] = []
 besideBytes (byte b ∷ hs) = besideBytes hs
 besideBytes (tick ∷ hs) = tick ∷ besideBytes hs
 besideBytes (writes address bytes ∷ hs) = writes address bytes ∷ besideBytes hs
+
+-- every one of them is a byte
+abbrev pub AllBytes : List ℕ → Type 0
+AllBytes [] = Unit {0}
+AllBytes (b ∷ bs) = (b < 256) × AllBytes bs
+
+-- what comes and what is written are bytes
+abbrev pub AreBytes : List Happening → Type 0
+AreBytes [] = Unit {0}
+AreBytes (byte b ∷ hs) = (b < 256) × AreBytes hs
+AreBytes (tick ∷ hs) = AreBytes hs
+AreBytes (writes address bytes ∷ hs) = AllBytes bytes × AreBytes hs

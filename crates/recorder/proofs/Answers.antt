@@ -2,11 +2,11 @@
 use mathlib.Core.Path.{_≡_, refl, sym, ap, _∙_}
 use mathlib.Core.Bool.{Bool, true, false, cond}
 use mathlib.Core.List.{List}
-use Prim.Native.Nat.{ℕ, _≤_}
+use Prim.Native.Nat.{ℕ, _≤_, _<_, _*_, _^_}
 use native.Mathlib.Omega.{arith}
-use lib.Dec.{ltb}
+use lib.Dec.{ltb, eqb}
 use lib.ListN.{length}
-use borrow.Author.Tests.{ltb-true, ltb-false, eq-eqb, ne-eqb}
+use borrow.Author.Tests.{ltb-true, ltb-false, eqb-true, eq-eqb, ne-eqb}
 use Rattle.document.specs.Numbers.{done, layoutWrong, busy}
 use Rattle.document.specs.Plan.{Plan, headWidth, planIn, recordedIn}
 use Rattle.document.specs.Run.{started}
@@ -18,7 +18,7 @@ use Rattle.recorder.specs.State.{planKept, recorderOf, noRecorder}
 use Rattle.recorder.specs.Bounds.{planSound, sound}
 use Rattle.recorder.specs.Setup.{bodyStatus, setUpStatus, setUpState, setUpNext, SetUpSettled}
 use Rattle.document.proofs.Cases.{split}
-use Rattle.recorder.proofs.SetUps.{short-layout, accepted-means}
+use Rattle.recorder.proofs.SetUps.{short-layout, accepted-means, accepted-sound}
 use Rattle.recorder.proofs.Keeps.{started-run-sound}
 
 module _ (r : RecorderState) (ex : Bool) (body : List ℕ) where
@@ -79,6 +79,20 @@ module _ (r : RecorderState) (ex : Bool) (body : List ℕ) where
       let d : bodyStatus ex body ≡ done = sym (while-stopped (idle e)) ∙ e in
       ap (λ (b : Bool). recorderOf (cond b (setUpState ex body) r)) (eq-eqb (setUpStatus (recorderOf r) ex body) done e)
       ∙ ap (λ (p : Plan). planned p started) (accepted-means ex body (long-enough d) d)
+
+  -- a setup leaves a state within the bounds: the threshold's bytes hold a number of its size
+  pub set-up-sound : sound r ≡ true
+      → (planIn ex body .trigger .size ≤ 4 → planIn ex body .trigger .threshold < 2 ^ (8 * planIn ex body .trigger .size))
+      → sound (setUpNext r ex body) ≡ true
+  unfolding setUpNext
+  set-up-sound s t =
+      split (eqb (setUpStatus (recorderOf r) ex body) done)
+      (λ e.
+      let taken : setUpStatus (recorderOf r) ex body ≡ done = eqb-true _ _ e in
+      let d : bodyStatus ex body ≡ done = sym (while-stopped (idle taken)) ∙ taken in
+      let p : planSound (planKept (planIn ex body) (kept (recordedIn ex body))) ≡ true = accepted-sound ex body (long-enough d) d t in
+      rw (e, p, started-run-sound (planKept (planIn ex body) (kept (recordedIn ex body))) p))
+      (λ f. rw f s)
 
 -- at reset nothing is set up, and the state is sound
 pub new-means : recorderOf noRecorder ≡ absent

@@ -42,23 +42,25 @@ readRefusals c body =
 abbrev pub reading : Gate → ℕ → List ℕ → Outcome
 reading g c body = unless g (readRefusals c body) (readAnswer g c body)
 
-abbrev pub writing : Gate → ℕ → List ℕ → Outcome → Outcome
-writing g c body outcome =
-    unless g
-    (when layoutWrong (blockWrong c body)
+abbrev pub writeRefusals : ℕ → List ℕ → List Refusal
+writeRefusals c body =
+    when layoutWrong (blockWrong c body)
     ∷ when sizeWrong (blockEmpty c body)
     ∷ when rangeWrong (not (mayBeWritten (addressField c body) (sizeField c body)))
-    ∷ [])
-    outcome
+    ∷ []
 
-abbrev pub settingUpScope : Gate → Bool → List ℕ → Outcome
-settingUpScope g ex body =
-    unless g
-    (when layoutWrong (scopeLayoutWrong ex body)
+abbrev pub writing : Gate → ℕ → List ℕ → Outcome → Outcome
+writing g c body outcome = unless g (writeRefusals c body) outcome
+
+abbrev pub scopeSetUpRefusals : Bool → List ℕ → List Refusal
+scopeSetUpRefusals ex body =
+    when layoutWrong (scopeLayoutWrong ex body)
     ∷ when sizeWrong (scopeSizeWrong ex body)
     ∷ when rangeWrong (scopeRangeWrong ex body)
-    ∷ [])
-    (says (withScope g (scopeSetUp ex body)) done [])
+    ∷ []
+
+abbrev pub settingUpScope : Gate → Bool → List ℕ → Outcome
+settingUpScope g ex body = unless g (scopeSetUpRefusals ex body) (says (withScope g (scopeSetUp ex body)) done [])
 
 abbrev pub scopeReadRefusals : Gate → List Refusal
 scopeReadRefusals g =
@@ -67,15 +69,16 @@ scopeReadRefusals g =
 abbrev pub readingScope : Gate → Outcome
 readingScope g = unless g (scopeReadRefusals g) (says g done (scopeRead (g .scope) (g .memory)))
 
-abbrev pub settingUpRecorder : Gate → Bool → List ℕ → Outcome
-settingUpRecorder g ex body =
-    unless g
-    (when busy (isRunning (g .recorder))
+abbrev pub recorderSetUpRefusals : Gate → Bool → List ℕ → List Refusal
+recorderSetUpRefusals g ex body =
+    when busy (isRunning (g .recorder))
     ∷ when layoutWrong (recorderLayoutWrong ex body)
     ∷ when sizeWrong (recorderSizeWrong ex body)
     ∷ when rangeWrong (recorderRangeWrong ex body)
-    ∷ [])
-    (says (withRecorder g (recorderSetUp ex body)) done [])
+    ∷ []
+
+abbrev pub settingUpRecorder : Gate → Bool → List ℕ → Outcome
+settingUpRecorder g ex body = unless g (recorderSetUpRefusals g ex body) (says (withRecorder g (recorderSetUp ex body)) done [])
 
 -- start, stop and status
 abbrev pub askRefusals : Gate → List Refusal
