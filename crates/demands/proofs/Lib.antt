@@ -2,6 +2,7 @@
 pub mod ByteLaws
 pub mod Numbered
 pub mod Left
+pub mod Within
 pub mod Happened
 pub mod Resync
 pub mod Gates

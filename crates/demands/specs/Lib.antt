@@ -2,3 +2,4 @@ pub mod Bytes
 pub mod Resync
 pub mod House
 pub mod Demand3
+pub mod Within

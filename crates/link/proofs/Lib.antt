@@ -1,5 +1,6 @@
 -- What follows from the definitions of the receiver.
 pub mod Sound
+pub mod Events
 pub mod Body
 pub mod Owed
 pub mod Reports
