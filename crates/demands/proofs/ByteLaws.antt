@@ -69,6 +69,12 @@ all-masked (o ∷ os) [] ms = tt
 all-masked (o ∷ os) (v ∷ vs) [] = tt
 all-masked (o ∷ os) (v ∷ vs) (m ∷ ms) = (masked-below 8 o v m, all-masked os vs ms)
 
+-- a front of n is no longer than n
+pub take-short : (n : ℕ) (l : List ℕ) → length (take n l) ≤ n
+take-short zero l = omega arith
+take-short (suc n) [] = omega arith
+take-short (suc n) (x ∷ l) = omega (arith, take-short n l)
+
 number-below-256 : (l : List ℕ) (n : ℕ) → AllBytes l → length l ≤ n → number l < 256 ^ n
 number-below-256 [] n p h = fewer-bytes 0 n (omega arith)
 number-below-256 (b ∷ l) zero p h = let x : ⊥ = omega arith in absurd x

@@ -1,8 +1,10 @@
 -- The laws and theorems, lowest first.
+pub mod Outcomes
 pub mod ByteLaws
 pub mod Numbered
 pub mod Left
 pub mod Within
+pub mod Formed
 pub mod Happened
 pub mod Resync
 pub mod Gates

@@ -51,15 +51,10 @@ use Rattle.target.proofs.TurnLaws.{nextOf, by-event}
 use Rattle.demands.specs.Bytes.{AllBytes, AreBytes}
 use Rattle.demands.specs.House.{House, turned, served, servedAll, fromReset}
 use Rattle.demands.specs.Within.{Within}
-use Rattle.demands.proofs.ByteLaws.{all-set, all-sets, all-take, all-drop, all-range, all-values, all-masked, all-zeros, number-below}
+use Rattle.demands.proofs.ByteLaws.{take-short, all-set, all-sets, all-take, all-drop, all-range, all-values, all-masked, all-zeros, number-below}
 use Rattle.demands.proofs.Left.{held-left}
 
 -- ---- the numbers that bytes of the memory or a message hold
-
-take-short : (n : ℕ) (l : List ℕ) → length (take n l) ≤ n
-take-short zero l = omega arith
-take-short (suc n) [] = omega arith
-take-short (suc n) (x ∷ l) = omega (arith, take-short n l)
 
 -- "only the first 'trigger size' bytes count"
 threshold-fits : (ex : Bool) (body : List ℕ) → AllBytes body

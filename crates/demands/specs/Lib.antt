@@ -3,3 +3,4 @@ pub mod Resync
 pub mod House
 pub mod Demand3
 pub mod Within
+pub mod Sent
