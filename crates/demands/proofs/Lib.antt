@@ -5,6 +5,7 @@ pub mod Numbered
 pub mod Left
 pub mod Within
 pub mod Formed
+pub mod Served
 pub mod Happened
 pub mod Resync
 pub mod Gates

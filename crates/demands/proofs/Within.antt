@@ -136,7 +136,7 @@ module _ (buffer : List ℕ) (h : House) (w : Within h) where
   parts : Parts (h .target)
   parts = parts-of (h .target) (w .state)
 
-  within-tick : Within (served buffer h tick)
+  pub within-tick : Within (served buffer h tick)
   within-tick =
       let good : Good (tickedMemory (recorderOf (h .target .instruments .recorder)) (h .memory)) =
       ticked-good (recorderOf (h .target .instruments .recorder)) (h .memory) (w .size, w .memory) in
@@ -156,7 +156,7 @@ module _ (buffer : List ℕ) (h : House) (w : Within h) where
         command = w .command;
       }
 
-  within-write : (address : ℕ) (bytes : List ℕ) → AllBytes bytes → Within (served buffer h (writes address bytes))
+  pub within-write : (address : ℕ) (bytes : List ℕ) → AllBytes bytes → Within (served buffer h (writes address bytes))
   within-write address bytes all =
       let good : Good (stored (h .memory) address bytes) = good-stored (h .memory) address bytes (w .size, w .memory) all in
       record { state = w .state; size = good .0; memory = good .1; body = w .body; command = w .command }
@@ -206,7 +206,7 @@ module _ (buffer : List ℕ) (h : House) (w : Within h) where
           command = command-byte (h .target .receiver) b (w .command) small;
         })
 
-    within-byte : Within (served buffer h (byte b))
+    pub within-byte : Within (served buffer h (byte b))
     within-byte = by (stepped (h .target .receiver) b .event) refl
       where
         by : (e : Event) → stepped (h .target .receiver) b .event ≡ e → Within (served buffer h (byte b))

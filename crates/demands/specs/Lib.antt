@@ -4,3 +4,4 @@ pub mod House
 pub mod Demand3
 pub mod Within
 pub mod Sent
+pub mod Run
