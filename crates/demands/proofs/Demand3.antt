@@ -13,13 +13,14 @@ use Rattle.document.specs.Happenings.{Happening, Since, after, afterAll, fromRe
 use Rattle.document.specs.Happenings.Happening.{byte}
 use Rattle.link.specs.Runs.{oddRun}
 use Rattle.link.specs.Demands.{EndIn}
-use Rattle.demands.specs.Bytes.{bytesOf}
+use Rattle.demands.specs.Bytes.{Bytes, bytesOf}
 use Rattle.demands.specs.Resync.{Resynchronised, ByHalf}
+use Rattle.demands.specs.Stands.{Stands}
 use Rattle.demands.specs.House.{House, served, servedAll, fromReset, replyOf}
 use Rattle.demands.specs.Demand3.{AnsweredFresh, NothingByHalf}
 use Rattle.demands.specs.Demand3.NothingByHalf.{nothing, whole}
 use Rattle.demands.proofs.Resync.{bytes-after, resync-even, resync-next, nothing-by-half}
-use Rattle.demands.proofs.House.{Bytes, Stands, front-bytes, stands-byte, stands-all, demand-2}
+use Rattle.demands.proofs.House.{front-bytes, stands-byte, stands-all, stands-since-reset}
 
 -- a message behind a house that stands for the definition
 module _ (buffer : List ℕ) (start : House) (s : Since) (stands : Stands buffer start s) (hs : List Happening) (b : ℕ) (m : Message)
@@ -58,7 +59,7 @@ module _ (buffer memory : List ℕ) (first : List Happening) where
   reached-bytes = bytes-after first (since (gate memory))
 
   reached-stands : (rest : List ℕ) → Bytes (bytesOf first ++ rest) → Stands buffer start reached
-  reached-stands rest bytes = demand-2 buffer memory first (front-bytes (bytesOf first) rest bytes)
+  reached-stands rest bytes = stands-since-reset buffer memory first (front-bytes (bytesOf first) rest bytes)
 
   -- an even run, or none, before the start byte
   pub demand-3-even : (hs : List Happening) (b : ℕ) (m : Message) → Bytes (bytesOf first ++ (bytesOf hs ++ (b ∷ []))) → wellFormed m ≡ true

@@ -1,4 +1,4 @@
--- Demand 2, over any happenings since reset: the target's answers, memory, scope and recorder are the definition's.
+-- Over whatever happens since reset, the target's answers, memory, scope and recorder are the definition's.
 use mathlib.Core.Path.{_≡_, refl, sym, ap, subst, _∙_}
 use mathlib.Core.Bool.{true, false, cond}
 use mathlib.Core.List.{List, [], _∷_, _++_, map, map-append, append-nil, append-assoc, foldl-append}
@@ -36,21 +36,13 @@ use Rattle.target.specs.AnsweredHeld.{answeredHeld}
 use Rattle.target.specs.Calls.{Turn, silent, keeping, heldBy, telling, onEvent, turn}
 use Rattle.scope.specs.State.{scopeOf}
 use Rattle.document.proofs.Cases.{split}
-use Rattle.demands.specs.Bytes.{bytesOf}
+use Rattle.demands.specs.Bytes.{Bytes, bytesOf}
 use Rattle.demands.proofs.Resync.{told-bytes}
+use Rattle.demands.specs.Stands.{blank, Stands}
 use Rattle.demands.specs.House.{Reply, House, turned, served, servedAll, fromReset, replyOf}
 use Rattle.target.proofs.Held.{answered-held}
 use Rattle.demands.proofs.Gates.{held-kept}
 use Rattle.target.proofs.TurnLaws.{nextOf, by-event}
-
-abbrev blank : List ℕ
-blank = replicate 64 0
-
--- the house stands for what the definition has since reset
-pub record Stands (buffer : List ℕ) (h : House) (s : Since) : Type 0 where
-  pub gate : gateOf (h .target .instruments) (h .memory) ≡ s .gate
-  pub link-part : _≡_ {A = Beside} (record { receiver = h .target .receiver; body = h .target .body }) (sinceReset blank (s .bytes))
-  pub answers : h .answers ≡ map (replyOf buffer) (s .answers)
 
 -- ---- lists
 map-none : (ms : List Message) → map held ms ≡ [] → ms ≡ []
@@ -67,7 +59,7 @@ replied-one : (buffer : List ℕ) (a : Answer)
 replied-one buffer a = rw (wire-long a) refl
 
 -- ---- a command on the wire is a byte
-command-small : (bytes : List ℕ) → ((i : ℕ) → getD bytes i 0 < 256) → (m : Message) → EndIn bytes m → m .command < 256
+pub command-small : (bytes : List ℕ) → ((i : ℕ) → getD bytes i 0 < 256) → (m : Message) → EndIn bytes m → m .command < 256
 unfolding onWire
 command-small bytes small m ends =
     subst (λ (k : ℕ). k < 256)
@@ -197,10 +189,6 @@ module _ (buffer : List ℕ) (h : House) (s : Since) (stands : Stands buffer h s
       }
 
 -- ---- all that happens
--- every one of them is a byte
-abbrev pub Bytes : List ℕ → Type 0
-Bytes l = (i : ℕ) → getD l i 0 < 256
-
 pub front-bytes : (xs ys : List ℕ) → Bytes (xs ++ ys) → Bytes xs
 front-bytes xs ys all i =
     split (ltb i (length xs))
@@ -221,10 +209,8 @@ stands-all buffer (tick ∷ hs) h s bytes stands =
 stands-all buffer (writes address data′ ∷ hs) h s bytes stands =
     stands-all buffer hs (served buffer h (writes address data′)) (after s (writes address data′)) bytes (stands-write buffer h s stands address data′)
 
--- Demand 2: "Messages, commands and recorder do exactly what AN2471/D and the MCBCOM manual define, as document 01 sets them
--- out." Whatever bytes come, ticks and writes of the gate's own program between them, the target's answers, memory, scope
--- and recorder are those of the definition.
-pub demand-2 : (buffer memory : List ℕ) (hs : List Happening) → ((i : ℕ) → getD (bytesOf hs) i 0 < 256)
+-- since reset
+pub stands-since-reset : (buffer memory : List ℕ) (hs : List Happening) → Bytes (bytesOf hs)
     → Stands buffer (servedAll buffer (fromReset memory) hs) (afterAll (since (gate memory)) hs)
-demand-2 buffer memory hs bytes =
+stands-since-reset buffer memory hs bytes =
     stands-all buffer hs (fromReset memory) (since (gate memory)) bytes (record { gate = refl; link-part = refl; answers = refl })

@@ -11,3 +11,5 @@ pub mod Resync
 pub mod Gates
 pub mod House
 pub mod Demand3
+pub mod Recording
+pub mod Follows

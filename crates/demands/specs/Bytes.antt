@@ -1,6 +1,7 @@
 -- The bytes among what happens, and what happens beside them.
 use mathlib.Core.List.{List, [], _∷_}
 use Prim.Native.Nat.{ℕ, _<_}
+use lib.ListN.{getD}
 use Rattle.document.specs.Happenings.{Happening}
 use Rattle.document.specs.Happenings.Happening.{byte, tick, writes}
 
@@ -22,6 +23,10 @@ besideBytes (writes address bytes ∷ hs) = writes address bytes ∷ besideBytes
 abbrev pub AllBytes : List ℕ → Type 0
 AllBytes [] = Unit {0}
 AllBytes (b ∷ bs) = (b < 256) × AllBytes bs
+
+-- the same, at each place
+abbrev pub Bytes : List ℕ → Type 0
+Bytes l = (i : ℕ) → getD l i 0 < 256
 
 -- what comes and what is written are bytes
 abbrev pub AreBytes : List Happening → Type 0
