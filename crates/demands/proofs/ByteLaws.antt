@@ -1,5 +1,5 @@
 -- Lists of bytes stay lists of bytes, whatever is stored from one into another; and n bytes hold a number below 2 to the 8n.
-use mathlib.Core.Path.{_≡_, refl, sym, subst}
+use mathlib.Core.Path.{_≡_, subst}
 use mathlib.Core.List.{List, [], _∷_, _++_}
 use Prim.Native.Nat.{ℕ, zero, suc, _+_, _*_, _^_, _<_, _≤_}
 use native.Mathlib.Nat.{pow-suc}
@@ -8,7 +8,7 @@ use lib.ListN.{length, getD, set, take, drop, replicate}
 use lib.Seq.{sets}
 use Rattle.document.specs.Areas.{bytesAt}
 use Rattle.document.specs.Values.{number}
-use Rattle.document.specs.Stores.{masked, maskedBytes}
+use Rattle.document.specs.Stores.{maskedBytes}
 use Rattle.document.specs.declared.Variable.{Variable}
 use Rattle.document.specs.Variables.{valuesOf}
 use Rattle.memory.proofs.Masks.{masked-below}

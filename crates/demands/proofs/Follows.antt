@@ -1,9 +1,9 @@
 -- From one accepted start to the next the gate's recorder and memory are those of the recorder's own history.
 use mathlib.Core.Path.{_≡_, refl, sym, ap, subst, _∙_}
-use mathlib.Core.Bool.{true, false, cond}
+use mathlib.Core.Bool.{false}
 use mathlib.Core.List.{List, [], _∷_, _++_, append-assoc}
 use Prim.Native.Nat.{ℕ, _<_}
-use lib.ListN.{length, getD, drop}
+use lib.ListN.{length, drop}
 use Rattle.document.specs.Areas.{calibrationEnd, memoryEnd}
 use Rattle.document.specs.Message.{Message, finishedBy}
 use Rattle.document.specs.Stores.{stored}
@@ -19,7 +19,7 @@ use Rattle.document.proofs.Cases.{split}
 use Rattle.variables.proofs.Places.{stored-length}
 use Rattle.history.specs.History.{Event, Recording, AllLeaveBuffer}
 use Rattle.history.specs.History as history
-use Rattle.history.specs.History.Event.{tick as ticks, others, stop}
+use Rattle.history.specs.History.Event.{tick as ticks}
 use Rattle.link.proofs.Demands.{finishes-whole}
 use Rattle.demands.specs.Bytes.{Bytes, bytesOf}
 use Rattle.demands.specs.Recording.{starts, stops, eventsOf, eventsAt, events, NoStart, Undisturbed, AllUndisturbed}

@@ -1,29 +1,27 @@
 -- Every answer can be formed: a known status, at most 64 data bytes, none beside an error. So it fits the lent buffer.
-use mathlib.Core.Path.{_≡_, refl, sym, ap, subst, _∙_}
-use mathlib.Core.Bool.{Bool, true, false, cond, not, _&&_}
-use mathlib.Core.List.{List, [], _∷_, _++_}
-use Prim.Native.Nat.{ℕ, zero, suc, _+_, _<_, _≤_}
+use mathlib.Core.Path.{_≡_, refl, subst}
+use mathlib.Core.Bool.{Bool, true, false, cond}
+use mathlib.Core.List.{List, [], _∷_}
+use Prim.Native.Nat.{ℕ, _<_, _≤_}
 use native.Mathlib.Omega.{arith}
-use borrow.Author.Tests.{eqb-true, eq-eqb, ltb-false, le-ltb}
+use borrow.Author.Tests.{eqb-true, ltb-false, le-ltb}
 use lib.Dec.{eqb, ltb}
-use lib.ListN.{length, take, drop, length-append}
+use lib.ListN.{length, drop, length-append}
 use Rattle.document.specs.Numbers.{isStatus, isError, done, recorderRuns, recorderStopped}
-use Rattle.document.specs.Areas.{calibrationEnd, bytesAt}
-use Rattle.document.specs.Values.{littleEndian}
+use Rattle.document.specs.Areas.{bytesAt}
 use Rattle.document.specs.declared.Variable.{Variable}
 use Rattle.document.specs.Variables.{addressWidth, setSize, valuesOf}
 use Rattle.document.specs.Fields.{isEx, sizeField, addressField}
 use Rattle.document.specs.Message.{Message}
 use Rattle.document.specs.Answer.{Answer, answerOnWire}
 use Rattle.document.specs.AnswerWriter.{answerFormed}
-use Rattle.document.specs.Run.{startIndex}
-use Rattle.document.specs.Scope.{scopeAbsent, scopeTooLong, scopeVariables, scopeSetUp, scopeRead}
+use Rattle.document.specs.Scope.{scopeTooLong, scopeVariables, scopeSetUp, scopeRead}
 use Rattle.document.specs.Recorder.{Recorder, isRunning, recorderSetUp, bufferAnswer}
 use Rattle.document.specs.Recorder.Recorder.{absent, planned}
 use Rattle.document.specs.Gate.{Gate, Outcome, says}
 use Rattle.document.specs.Refusals.{Refusal, firstOf}
-use Rattle.document.specs.Commands.{description, withScope, withRecorder, readAnswer, written, writtenMasked, start, stop, status, answered}
-use Rattle.document.proofs.Cases.{split, neither}
+use Rattle.document.specs.Commands.{withScope, withRecorder, readAnswer, written, writtenMasked, start, stop, status, answered}
+use Rattle.document.proofs.Cases.{split}
 use Rattle.line.proofs.Left.{sets-front, sets-behind, answer-fits}
 use Rattle.link.specs.Report.{Held, held}
 use Rattle.target.specs.Operations.{unless, operationOf, operated, readRefusals, writeRefusals, scopeSetUpRefusals, scopeReadRefusals, recorderSetUpRefusals, askRefusals, queryRefusals}
@@ -33,6 +31,7 @@ use Rattle.target.proofs.Held.{answered-held}
 use Rattle.demands.specs.House.{replyOf}
 use Rattle.demands.specs.Sent.{Sent}
 use Rattle.demands.proofs.Numbered.{below-13}
+use Rattle.demands.proofs.Firsts.{Known, first-known, none-applies}
 use Rattle.demands.proofs.ByteLaws.{take-short}
 
 -- ---- an answer's form
@@ -41,28 +40,6 @@ formed-alone s known = split (isError s) (λ e. rw (known, e) refl) (λ e. rw (k
 
 formed-done : (body : List ℕ) → length body ≤ 64 → answerFormed (record { status = done; body = body }) ≡ true
 formed-done body few = rw (le-ltb 64 (length body) few) refl
-
--- ---- the refusals of a list
--- each has a known status, and none of them says that it is done
-abbrev Known : List Refusal → Type 0
-Known [] = Unit {0}
-Known (r ∷ rs) = (isStatus (r .status) ≡ true) × (eqb (r .status) done ≡ false) × Known rs
-
-abbrev NoneApplies : List Refusal → Type 0
-NoneApplies [] = Unit {0}
-NoneApplies (r ∷ rs) = (r .applies ≡ false) × NoneApplies rs
-
-first-known : (rs : List Refusal) → Known rs → isStatus (firstOf rs) ≡ true
-first-known [] known = refl
-first-known (r ∷ rs) known =
-    split (r .applies) (λ t. rw t (known .0)) (λ f. rw f (first-known rs (known .2)))
-
-none-applies : (rs : List Refusal) → Known rs → firstOf rs ≡ done → NoneApplies rs
-none-applies [] known e = tt
-none-applies (r ∷ rs) known e =
-    split (r .applies)
-    (λ t. neither (sym (known .1) ∙ eq-eqb (r .status) done (rw t at e)))
-    (λ f. (f, none-applies rs (known .2) (rw f at e)))
 
 module _ (g : Gate) (c : ℕ) (body : List ℕ) where
   unless-formed : (refusals : List Refusal) → Known refusals → (o : Outcome) → (firstOf refusals ≡ done → answerFormed (o .answer) ≡ true)

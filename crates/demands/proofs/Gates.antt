@@ -1,12 +1,12 @@
 -- What an operation leaves in the structs stands for the gate that the definition leaves.
 use mathlib.Core.Path.{_≡_, refl, sym, ap, _∙_}
-use mathlib.Core.Bool.{true, cond, not, false≢true}
-use mathlib.Core.List.{List, [], _∷_}
+use mathlib.Core.Bool.{true, cond, false≢true}
+use mathlib.Core.List.{List, []}
 use Prim.Native.Nat.{ℕ, _<_}
 use borrow.Author.Tests.{eqb-true, eqb-false}
 use lib.Dec.{eqb, ltb}
-use Rattle.document.specs.Numbers.{done, layoutWrong, sizeWrong, rangeWrong, recorderRuns, recorderStopped}
-use Rattle.document.specs.Areas.{bytesAt, mayBeWritten}
+use Rattle.document.specs.Numbers.{done, recorderRuns, recorderStopped}
+use Rattle.document.specs.Areas.{bytesAt}
 use Rattle.document.specs.Stores.{stored, maskStored}
 use Rattle.document.specs.Variables.{addressWidth}
 use Rattle.document.specs.Fields.{isEx, sizeField, addressField, dataField, maskField}
@@ -14,7 +14,7 @@ use Rattle.document.specs.Scope.{scopeSetUp, scopeRead}
 use Rattle.document.specs.Recorder.{Recorder, recorderAbsent, isRunning, recorderSetUp, recorderStarted, recorderHalted, bufferAnswer}
 use Rattle.document.specs.Recorder.Recorder.{absent, planned}
 use Rattle.document.specs.Gate.{Gate, says}
-use Rattle.document.specs.Refusals.{Refusal, when, firstOf}
+use Rattle.document.specs.Refusals.{Refusal, firstOf}
 use Rattle.document.specs.Commands.{withRecorder, start, stop}
 use Rattle.link.specs.Report.{Held}
 use Rattle.scope.specs.Setup as scope

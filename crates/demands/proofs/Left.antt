@@ -1,20 +1,18 @@
 -- What a message leaves of the memory: what it was, or the variables written, and nothing from byte 8,192 on.
-use mathlib.Core.Path.{_≡_, refl, sym, subst, _∙_}
-use mathlib.Core.Bool.{Bool, true, false, cond, not}
-use mathlib.Core.List.{List, [], _∷_}
-use Prim.Native.Nat.{ℕ, zero, suc, _<_}
-use native.Mathlib.Omega.{arith}
+use mathlib.Core.Path.{_≡_}
+use mathlib.Core.Bool.{true}
+use mathlib.Core.List.{List, []}
+use Prim.Native.Nat.{ℕ, _<_}
 use lib.Dec.{eqb, ltb}
-use Rattle.document.specs.Numbers.{done, layoutWrong, sizeWrong, rangeWrong}
+use Rattle.document.specs.Numbers.{done}
 use Rattle.document.specs.Areas.{mayBeWritten}
-use Rattle.document.specs.Stores.{stored, maskStored}
-use Rattle.document.specs.Fields.{isEx, sizeField, addressField, dataField, maskField}
+use Rattle.document.specs.Fields.{isEx, sizeField, addressField}
 use Rattle.document.specs.Variables.{addressWidth}
 use Rattle.document.specs.Scope.{scopeSetUp, scopeRead}
 use Rattle.document.specs.Recorder.{recorderSetUp, bufferAnswer}
 use Rattle.document.specs.Gate.{Gate, Outcome, says}
 use Rattle.document.specs.Commands.{withScope, withRecorder, readAnswer, written, writtenMasked, start, stop, status}
-use Rattle.document.specs.Refusals.{Refusal, when, firstOf}
+use Rattle.document.specs.Refusals.{Refusal, firstOf}
 use Rattle.document.proofs.Cases.{split}
 use Rattle.link.specs.Report.{Held}
 use Rattle.target.specs.Operations.{unless, writing, blockWrong, blockEmpty, operationOf, operated, readRefusals, writeRefusals, scopeSetUpRefusals, scopeReadRefusals, recorderSetUpRefusals, askRefusals, queryRefusals}

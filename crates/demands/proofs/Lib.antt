@@ -1,15 +1,20 @@
 -- The laws and theorems, lowest first.
 pub mod Outcomes
+pub mod Refused
 pub mod ByteLaws
 pub mod Numbered
 pub mod Left
 pub mod Within
+pub mod Firsts
 pub mod Formed
 pub mod Served
 pub mod Happened
 pub mod Resync
 pub mod Gates
 pub mod House
-pub mod Demand3
+pub mod Fresh
 pub mod Recording
 pub mod Follows
+pub mod Recorded
+pub mod Runs
+pub mod Demands

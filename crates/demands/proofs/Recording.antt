@@ -1,32 +1,33 @@
 -- The recorder among what happens to a gate goes through the events of its history.
 use mathlib.Core.Path.{_≡_, refl, sym, ap, subst, _∙_}
-use mathlib.Core.Bool.{Bool, true, false, cond, not, _&&_, _||_}
-use mathlib.Core.List.{List, [], _∷_, _++_, append-assoc}
-use Prim.Native.Nat.{ℕ, zero, suc, _+_, _<_, _≤_}
+use mathlib.Core.Bool.{true, false, not, _&&_, _||_}
+use mathlib.Core.List.{List, [], _∷_}
+use Prim.Native.Nat.{ℕ, _+_, _<_, _≤_}
 use native.Mathlib.Omega.{arith}
-use borrow.Author.Tests.{eqb-true, leb-true}
-use lib.Dec.{eqb, ltb}
-use lib.ListN.{length, getD, take, drop}
+use borrow.Author.Tests.{eqb-true, leb-true, not-true}
+use lib.Dec.{eqb}
+use lib.ListN.{length, drop}
 use Rattle.document.specs.Numbers.{done}
 use Rattle.document.specs.Areas.{calibrationEnd, memoryEnd, mayBeWritten, bytesAt}
-use Rattle.document.specs.Message.{Message, finishedBy}
-use Rattle.document.specs.Stores.{stored, maskStored, maskedBytes}
-use Rattle.document.specs.Fields.{reads, writesPlain, writesMasked, setsUpScope, setsUpRecorder, sizeField, addressField, dataField, maskField, dataPlace}
-use Rattle.document.specs.Plan.{Plan}
-use Rattle.document.specs.Run.{Run, started, stopped, ranTick, memoryAfterTick, placeBegins, setOf}
-use Rattle.document.specs.Recorder.{Recorder, isRunning, recorderStarted, recorderHalted, ticked, tickedMemory}
+use Rattle.document.specs.Message.{Message}
+use Rattle.document.specs.Stores.{stored, maskedBytes}
+use Rattle.document.specs.Fields.{isEx, reads, writesPlain, writesMasked, setsUpScope, setsUpRecorder, sizeField, addressField, dataField, maskField, dataPlace}
+use Rattle.document.specs.Plan.{Plan, planIn}
+use Rattle.document.specs.Run.{Run, started, stopped, memoryAfterTick, placeBegins, setOf}
+use Rattle.document.specs.Recorder.{Recorder, recorderAbsent, isRunning, recorderSetUp, recorderStarted, recorderHalted, tickedMemory}
 use Rattle.document.specs.Recorder.Recorder.{absent, planned}
 use Rattle.document.specs.Gate.{Gate, Outcome, says}
-use Rattle.document.specs.Refusals.{refusal}
-use Rattle.document.specs.Commands.{carriedOut, answered, withRecorder, start, stop}
+use Rattle.document.specs.Refusals.{isNotSetUp, table, refusal}
+use Rattle.document.specs.Commands.{carriedOut, answered, start, stop}
 use Rattle.document.proofs.Cases.{split, neither, both}
 use Rattle.variables.proofs.Places.{stored-length}
 use Rattle.history.proofs.Bytes.{drop-sets}
 use Rattle.link.specs.Report.{held}
 use Rattle.target.proofs.Held.{answered-held}
-use Rattle.demands.specs.Recording.{starts, stops}
+use Rattle.demands.specs.Recording.{starts, stops, Begins}
 use Rattle.demands.proofs.ByteLaws.{take-short}
 use Rattle.demands.proofs.Left.{held-left}
+use Rattle.demands.proofs.Firsts.{none-applies}
 
 -- ---- what a command that is carried out does to the recorder
 module _ (g : Gate) (c : ℕ) (body : List ℕ) where
@@ -57,21 +58,21 @@ started-same absent e = neither e
 started-same (planned p r) e = rw e refl
 
 -- ---- what a message does to a recorder that has its plan
+carried : (g : Gate) (m : Message) → eqb (refusal g m) done ≡ true → answered g m ≡ carriedOut g (m .command) (m .body)
+unfolding answered
+carried g m t = rw t refl
+
+refused : (g : Gate) (m : Message) → eqb (refusal g m) done ≡ false → answered g m ≡ says g (refusal g m) []
+unfolding answered
+refused g m f = rw f refl
+
 module _ (g : Gate) (m : Message) (p : Plan) (r : Run) (has : g .recorder ≡ planned p r) where
-  carried : eqb (refusal g m) done ≡ true → answered g m ≡ carriedOut g (m .command) (m .body)
-  unfolding answered
-  carried t = rw t refl
-
-  refused : eqb (refusal g m) done ≡ false → answered g m ≡ says g (refusal g m) []
-  unfolding answered
-  refused f = rw f refl
-
   -- an accepted stop
   pub stop-stops : stops g m ≡ true
       → (answered g m .gate .recorder ≡ planned p (stopped r)) × (answered g m .gate .memory ≡ g .memory)
   stop-stops e =
       let t = both (eqb (refusal g m) done) (eqb (m .command) 0xC2) e in
-      let o : answered g m ≡ stop g = carried (t .0) ∙ carried-stop g (m .command) (m .body) (eqb-true _ _ (t .1)) in (
+      let o : answered g m ≡ stop g = carried g m (t .0) ∙ carried-stop g (m .command) (m .body) (eqb-true _ _ (t .1)) in (
         ap (λ (x : Outcome). x .gate .recorder) o ∙ ap recorderHalted has,
         ap (λ (x : Outcome). x .gate .memory) o,
       )
@@ -80,7 +81,7 @@ module _ (g : Gate) (m : Message) (p : Plan) (r : Run) (has : g .recorder ≡ pl
   pub others-pass : starts g m ≡ false → stops g m ≡ false → answered g m .gate .recorder ≡ planned p r
   others-pass no-start no-stop =
       split (eqb (refusal g m) done)
-      (λ t. ap (λ (x : Outcome). x .gate .recorder) (carried t)
+      (λ t. ap (λ (x : Outcome). x .gate .recorder) (carried g m t)
       ∙ split (setsUpRecorder (m .command))
       (λ s. neither (sym (rw (t, s) at no-start)))
       (λ n. split (eqb (m .command) 0xC1)
@@ -88,7 +89,50 @@ module _ (g : Gate) (m : Message) (p : Plan) (r : Run) (has : g .recorder ≡ pl
       (λ runs. ap (λ (x : Outcome). x .gate .recorder) (carried-start g (m .command) (m .body) (eqb-true _ _ c1)) ∙ started-same (g .recorder) runs ∙ has)
       (λ still. neither (sym (rw (t, n, c1, still) at no-start))))
       (λ n1. others-leave g (m .command) (m .body) n n1 (rw t at no-stop) ∙ has)))
-      (λ f. ap (λ (x : Outcome). x .gate .recorder) (refused f) ∙ has)
+      (λ f. ap (λ (x : Outcome). x .gate .recorder) (refused g m f) ∙ has)
+
+-- ---- an accepted start
+carried-set-up : (g : Gate) (c : ℕ) (body : List ℕ) → setsUpRecorder c ≡ true → carriedOut g c body .gate .recorder ≡ recorderSetUp (isEx c) body
+unfolding carriedOut
+carried-set-up g c body t =
+    split (eqb c 0x09)
+    (λ e. at 0x09 (eqb-true c 0x09 e) refl)
+    (λ n. split (eqb c 0x0B) (λ e. at 0x0B (eqb-true c 0x0B e) refl) (λ k. neither (rw (n, k) at t)))
+  where
+    at : (k : ℕ) → c ≡ k → carriedOut g k body .gate .recorder ≡ recorderSetUp (isEx k) body → carriedOut g c body .gate .recorder ≡ recorderSetUp (isEx c) body
+    at k e h = subst (λ (x : ℕ). carriedOut g x body .gate .recorder ≡ recorderSetUp (isEx x) body) (sym e) h
+
+-- what is not refused asks of a recorder that is set up
+is-set-up : (g : Gate) (m : Message) → refusal g m ≡ done → isNotSetUp g (m .command) ≡ false
+unfolding refusal
+is-set-up g m e =
+    none-applies (table g m) (refl, refl, (refl, refl, (refl, refl, (refl, refl, (refl, refl, (refl, refl, (refl, refl, (refl, refl, (refl, refl, tt))))))))) e .1 .1 .1 .0
+
+absent-not : (g : Gate) (c : ℕ) → c ≡ 0xC1 → isNotSetUp g c ≡ false → recorderAbsent (g .recorder) ≡ false
+absent-not g c e h =
+    split (recorderAbsent (g .recorder))
+    (λ t. neither (sym (rw t at (subst (λ (k : ℕ). isNotSetUp g k ≡ false) e h))))
+    (λ f. f)
+
+begins : (r : Recorder) → recorderAbsent r ≡ false → isRunning r ≡ false → (p : Plan) × (recorderStarted r ≡ planned p started)
+begins absent there still = neither (sym there)
+begins (planned p r) there still = (p, rw still refl)
+
+pub start-begins : (g : Gate) (m : Message) → starts g m ≡ true → Begins g m
+start-begins g m e =
+    let t = both (eqb (refusal g m) done) (setsUpRecorder (m .command) || (eqb (m .command) 0xC1 && not (isRunning (g .recorder)))) e in
+    let o : answered g m .gate .recorder ≡ carriedOut g (m .command) (m .body) .gate .recorder = ap (λ (x : Outcome). x .gate .recorder) (carried g m (t .0)) in
+    split (setsUpRecorder (m .command))
+    (λ s. record { plan = planIn (isEx (m .command)) (m .body); recorder = o ∙ carried-set-up g (m .command) (m .body) s })
+    (λ n.
+    let c = both (eqb (m .command) 0xC1) (not (isRunning (g .recorder))) (rw n at (t .1)) in
+    let c1 : m .command ≡ 0xC1 = eqb-true (m .command) 0xC1 (c .0) in
+    let there : recorderAbsent (g .recorder) ≡ false = absent-not g (m .command) c1 (is-set-up g m (eqb-true (refusal g m) done (t .0))) in
+    let b = begins (g .recorder) there (not-true (isRunning (g .recorder)) (c .1)) in
+    record {
+      plan = b .0;
+      recorder = o ∙ ap (λ (x : Outcome). x .gate .recorder) (carried-start g (m .command) (m .body) c1) ∙ b .1;
+    })
 
 -- ---- what a message leaves of the buffer: all of it
 abbrev LeftBuffer : List ℕ → List ℕ → Type 0

@@ -1,19 +1,16 @@
 -- What happens since reset leaves every part of the state within its bounds.
-use mathlib.Core.Path.{_≡_, refl, sym, ap, subst, _∙_}
-use mathlib.Core.Bool.{Bool, true, false, cond}
+use mathlib.Core.Path.{_≡_, refl, sym, subst, _∙_}
+use mathlib.Core.Bool.{Bool, true}
 use mathlib.Core.List.{List, [], _∷_}
-use Prim.Native.Nat.{ℕ, zero, suc, _+_, _*_, _^_, _<_, _≤_}
+use Prim.Native.Nat.{ℕ, _+_, _*_, _^_, _<_, _≤_}
 use native.Mathlib.Omega.{arith}
-use borrow.Author.Tests.{eqb-true}
 use lib.Dec.{eqb, ltb}
-use lib.ListN.{length, take, drop, length-set, length-take}
-use lib.Seq.{length-take-le}
+use lib.ListN.{length, take, drop}
 use Rattle.document.specs.Areas.{memoryEnd, bytesAt}
-use Rattle.document.specs.Values.{number}
 use Rattle.document.specs.Stores.{stored, maskedBytes}
 use Rattle.document.specs.Fields.{isEx, sizeField, addressField, dataField, maskField, dataPlace}
 use Rattle.document.specs.Variables.{addressWidth}
-use Rattle.document.specs.Plan.{Plan, modeField, triggerSizeField, thresholdField, planIn}
+use Rattle.document.specs.Plan.{modeField, triggerSizeField, planIn}
 use Rattle.document.specs.Trigger.{triggerValue}
 use Rattle.document.specs.Run.{setOf, placeBegins, memoryAfterTick}
 use Rattle.document.specs.Recorder.{Recorder, tickedMemory}
@@ -51,7 +48,7 @@ use Rattle.target.proofs.TurnLaws.{nextOf, by-event}
 use Rattle.demands.specs.Bytes.{AllBytes, AreBytes}
 use Rattle.demands.specs.House.{House, turned, served, servedAll, fromReset}
 use Rattle.demands.specs.Within.{Within}
-use Rattle.demands.proofs.ByteLaws.{take-short, all-set, all-sets, all-take, all-drop, all-range, all-values, all-masked, all-zeros, number-below}
+use Rattle.demands.proofs.ByteLaws.{take-short, all-set, all-sets, all-take, all-range, all-values, all-masked, all-zeros, number-below}
 use Rattle.demands.proofs.Left.{held-left}
 
 -- ---- the numbers that bytes of the memory or a message hold

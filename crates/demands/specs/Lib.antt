@@ -2,8 +2,9 @@ pub mod Bytes
 pub mod Resync
 pub mod House
 pub mod Stands
-pub mod Demand3
+pub mod Fresh
 pub mod Within
 pub mod Sent
 pub mod Run
 pub mod Recording
+pub mod Refused

@@ -11,7 +11,7 @@ use Rattle.document.specs.Message.{Message, finishedBy}
 use Rattle.document.specs.Stores.{stored}
 use Rattle.document.specs.Fields.{setsUpRecorder}
 use Rattle.document.specs.Plan.{Plan}
-use Rattle.document.specs.Run.{Run, startIndex}
+use Rattle.document.specs.Run.{Run, started, startIndex}
 use Rattle.document.specs.Recorder.{isRunning}
 use Rattle.document.specs.Recorder.Recorder.{planned}
 use Rattle.document.specs.Sets.{readRound, lastOf}
@@ -30,6 +30,11 @@ abbrev pub starts : Gate → Message → Bool
 starts g m =
     eqb (refusal g m) done
     && (setsUpRecorder (m .command) || (eqb (m .command) 0xC1 && not (isRunning (g .recorder))))
+
+-- what an accepted start leaves: a recorder with its plan, at its start
+pub record Begins (g : Gate) (m : Message) : Type 0 where
+  pub plan : Plan
+  pub recorder : answered g m .gate .recorder ≡ planned plan started
 
 -- an accepted stop
 abbrev pub stops : Gate → Message → Bool

@@ -4,10 +4,9 @@ use mathlib.Core.Bool.{true}
 use mathlib.Core.List.{List, [], _∷_}
 use Prim.Native.Nat.{ℕ, _+_, _≤_}
 use native.Mathlib.Omega.{arith}
-use lib.ListN.{length, take, drop, length-append, length-drop}
-use lib.Seq.{length-take-le}
+use lib.ListN.{length, take}
 use borrow.Author.Tests.{leb-true}
-use Rattle.document.specs.Areas.{bytesAt, calibrationEnd, mayBeRecorded}
+use Rattle.document.specs.Areas.{calibrationEnd, mayBeRecorded}
 use Rattle.document.specs.Values.{number}
 use Rattle.document.specs.declared.Variable.{Variable}
 use Rattle.document.specs.Variables.{allMay, setSize, valuesOf}

@@ -1,6 +1,5 @@
 -- What a step's events carry: the byte that came, and the command that the receiver holds.
 use mathlib.Core.Path.{_≡_, refl, sym, ap, _∙_}
-use mathlib.Core.Bool.{true, false, cond}
 use Prim.Native.Nat.{ℕ, _<_}
 use lib.Dec.{eqb, ltb}
 use Rattle.document.proofs.Cases.{split}

@@ -1,6 +1,4 @@
--- Demand 3: "After any bytes since reset, with an even (or no) run of 0x2B just before, a start byte and a well-formed stuffed
--- message get exactly the answer, and leave the memory, scope and recorder, that a freshly reset link would give over these
--- as they stand at the last byte. After an odd run, that holds for the next message sent directly behind."
+-- A message behind whatever happened since reset, answered as a fresh link would; and nothing by half. `Demands` quotes the demand.
 use mathlib.Core.Path.{_≡_, sym, ap, subst, _∙_}
 use mathlib.Core.Bool.{true, false}
 use mathlib.Core.List.{List, [], _∷_, _++_, map, map-append, append-assoc}
@@ -17,8 +15,8 @@ use Rattle.demands.specs.Bytes.{Bytes, bytesOf}
 use Rattle.demands.specs.Resync.{Resynchronised, ByHalf}
 use Rattle.demands.specs.Stands.{Stands}
 use Rattle.demands.specs.House.{House, served, servedAll, fromReset, replyOf}
-use Rattle.demands.specs.Demand3.{AnsweredFresh, NothingByHalf}
-use Rattle.demands.specs.Demand3.NothingByHalf.{nothing, whole}
+use Rattle.demands.specs.Fresh.{AnsweredFresh, NothingByHalf}
+use Rattle.demands.specs.Fresh.NothingByHalf.{nothing, whole}
 use Rattle.demands.proofs.Resync.{bytes-after, resync-even, resync-next, nothing-by-half}
 use Rattle.demands.proofs.House.{front-bytes, stands-byte, stands-all, stands-since-reset}
 
@@ -62,19 +60,19 @@ module _ (buffer memory : List ℕ) (first : List Happening) where
   reached-stands rest bytes = stands-since-reset buffer memory first (front-bytes (bytesOf first) rest bytes)
 
   -- an even run, or none, before the start byte
-  pub demand-3-even : (hs : List Happening) (b : ℕ) (m : Message) → Bytes (bytesOf first ++ (bytesOf hs ++ (b ∷ []))) → wellFormed m ≡ true
+  pub fresh-even : (hs : List Happening) (b : ℕ) (m : Message) → Bytes (bytesOf first ++ (bytesOf hs ++ (b ∷ []))) → wellFormed m ≡ true
       → oddRun (bytesOf first) ≡ false → onWire m ≡ bytesOf hs ++ (b ∷ [])
       → AnsweredFresh buffer start (servedAll buffer start hs) (served buffer (servedAll buffer start hs) (byte b)) m
-  demand-3-even hs b m bytes formed even e =
+  fresh-even hs b m bytes formed even e =
       answered-fresh buffer start reached (reached-stands (bytesOf hs ++ (b ∷ [])) bytes) hs b m
       (subst (λ (l : List ℕ). Bytes (l ++ (bytesOf hs ++ (b ∷ [])))) (sym reached-bytes) bytes)
       (resync-even m reached hs b formed (ap oddRun reached-bytes ∙ even) e)
 
   -- behind a well-formed message, whatever was before that: so after an odd run too
-  pub demand-3-next : (sent : Message) (mid hs : List Happening) (b : ℕ) (m : Message) → Bytes (bytesOf first ++ (bytesOf mid ++ (bytesOf hs ++ (b ∷ []))))
+  pub fresh-next : (sent : Message) (mid hs : List Happening) (b : ℕ) (m : Message) → Bytes (bytesOf first ++ (bytesOf mid ++ (bytesOf hs ++ (b ∷ []))))
       → wellFormed sent ≡ true → wellFormed m ≡ true → onWire sent ≡ bytesOf mid → onWire m ≡ bytesOf hs ++ (b ∷ [])
       → AnsweredFresh buffer (servedAll buffer start mid) (servedAll buffer (servedAll buffer start mid) hs) (served buffer (servedAll buffer (servedAll buffer start mid) hs) (byte b)) m
-  demand-3-next sent mid hs b m bytes formed formed′ e₀ e =
+  fresh-next sent mid hs b m bytes formed formed′ e₀ e =
       let rest = bytesOf hs ++ (b ∷ []) in
       let mid-bytes : afterAll reached mid .bytes ≡ bytesOf first ++ bytesOf mid =
       bytes-after mid reached ∙ ap (λ (l : List ℕ). l ++ bytesOf mid) reached-bytes in
@@ -87,8 +85,8 @@ module _ (buffer memory : List ℕ) (first : List Happening) where
       (resync-next sent m reached mid hs b formed formed′ e₀ e)
 
   -- "A command is never carried out unless its whole message, with a right sum, stands in the bytes since one start byte."
-  pub demand-3-half : (b : ℕ) → Bytes (bytesOf first ++ (b ∷ [])) → NothingByHalf buffer start (served buffer start (byte b)) (bytesOf first ++ (b ∷ []))
-  demand-3-half b bytes = by (nothing-by-half reached b (subst (λ (l : List ℕ). Bytes (l ++ (b ∷ []))) (sym reached-bytes) bytes))
+  pub by-half : (b : ℕ) → Bytes (bytesOf first ++ (b ∷ [])) → NothingByHalf buffer start (served buffer start (byte b)) (bytesOf first ++ (b ∷ []))
+  by-half b bytes = by (nothing-by-half reached b (subst (λ (l : List ℕ). Bytes (l ++ (b ∷ []))) (sym reached-bytes) bytes))
     where
       now : Stands buffer start reached
       now = reached-stands (b ∷ []) bytes

@@ -1,0 +1,30 @@
+-- Demand 1: what a refusal leaves.
+use mathlib.Core.Path.{_≡_}
+use mathlib.Core.Bool.{true}
+use mathlib.Core.List.{List, []}
+use Prim.Native.Nat.{ℕ}
+use Rattle.document.specs.Numbers.{taken, done, isError}
+use Rattle.document.specs.Calls.{byteRefusal, tickRefusal}
+use Rattle.document.specs.Message.{Message}
+use Rattle.document.specs.Gate.{Gate, says}
+use Rattle.document.specs.Refusals.{refusal}
+use Rattle.document.specs.Commands.{answered}
+use Rattle.target.specs.declared.state.Target.{Target}
+use Rattle.target.specs.declared.byte.Taken.{Taken}
+use Rattle.target.specs.declared.tick.Ticked.{Ticked}
+use Rattle.target.specs.Bounds.{sound}
+
+-- "one number from the document, given exactly when the document says, and changes no byte lent to the call"
+pub record ByteRefused (t : Target) (memory buffer : List ℕ) (r : Taken) (left told : List ℕ) : Type 0 where
+  pub number : r .refusal ≡ byteRefusal (sound t) memory buffer
+  pub unchanged : (r .refusal ≡ taken → ⊥) → (r .length ≡ 0) × (r .next ≡ t) × (left ≡ memory) × (told ≡ buffer)
+
+pub record TickRefused (t : Target) (memory : List ℕ) (r : Ticked) (left : List ℕ) : Type 0 where
+  pub number : r .refusal ≡ tickRefusal (sound t) memory
+  pub unchanged : (r .refusal ≡ taken → ⊥) → (r .next ≡ t) × (left ≡ memory)
+
+-- "a refusal sent on the wire writes that answer's bytes only": the gate stays, and there are no data
+pub record WireRefused (g : Gate) (m : Message) : Type 0 where
+  pub refused : (refusal g m ≡ done → ⊥) → answered g m ≡ says g (refusal g m) []
+  -- an error is said only where the document's table refuses
+  pub exactly : isError (answered g m .answer .status) ≡ true → refusal g m ≡ done → ⊥
