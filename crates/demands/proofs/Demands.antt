@@ -28,7 +28,7 @@ use Rattle.target.specs.declared.byte.Taken.{Taken}
 use Rattle.target.specs.declared.tick.Ticked.{Ticked}
 use Rattle.target.specs.Bounds.{sound}
 use Rattle.target.specs.Calls.{ByteTaken, TickTaken}
-use Rattle.demands.specs.Bytes.{AreBytes, bytesOf}
+use Rattle.demands.specs.Bytes.{AreBytes, bytesOf, besideBytes}
 use Rattle.demands.specs.House.{House, servedAll, fromReset, replyOf}
 use Rattle.demands.specs.Run.{Lent, Step, Run}
 use Rattle.demands.specs.Refused.{ByteRefused, TickRefused, WireRefused}
@@ -75,24 +75,29 @@ module _ (buffer memory : List ℕ) (lent : Lent buffer memory) (first : List Ha
   -- these as they stand at the last byte."
 
   module _ (hs : List Happening) (before : House) (b : ℕ) (last : House) (m : Message) (more : AreBytes hs) (small : b < 256) (formed : wellFormed m ≡ true) where
-    -- `hs` brings the start byte and the message but for its last byte `b`, ticks and writes among them
+    -- `hs` brings the start byte and the message but for its last byte `b`, ticks and writes among them; before `b` the gate is
+    -- what those alone leave
     pub demand-3-even : oddRun (bytesOf first) ≡ false → onWire m ≡ bytesOf hs ++ (b ∷ [])
-        → Run buffer h hs before → Step buffer before (byte b) last → AnsweredFresh buffer h before last m
+        → Run buffer h hs before → Step buffer before (byte b) last
+        → AnsweredFresh buffer h before last (afterAll (afterAll (since (gate memory)) first) (besideBytes hs) .gate) m
     demand-3-even even sent on step =
         let a = after-run buffer memory lent first h are run in
-        message-as buffer (lent .room) h (servedAll buffer (fromReset memory) first) (a .within) (a .is) hs more b before last on step m
+        message-as buffer (lent .room) h (servedAll buffer (fromReset memory) first) (a .within) (a .is) hs more b before last on step
+        (afterAll (afterAll (since (gate memory)) first) (besideBytes hs) .gate) m
         (fresh-even buffer memory first hs b m (bytes-to first hs b are more small) formed even sent)
 
   -- "After an odd run, that holds for the next message sent directly behind.": behind a well-formed message, whatever came
   -- before that
   module _ (mid hs : List Happening) (start before : House) (b : ℕ) (last : House) (earlier m : Message) (between : AreBytes mid) (more : AreBytes hs) (small : b < 256) (formed-earlier : wellFormed earlier ≡ true) (formed : wellFormed m ≡ true) where
     pub demand-3-next : onWire earlier ≡ bytesOf mid → onWire m ≡ bytesOf hs ++ (b ∷ [])
-        → Run buffer h mid start → Run buffer start hs before → Step buffer before (byte b) last → AnsweredFresh buffer start before last m
+        → Run buffer h mid start → Run buffer start hs before → Step buffer before (byte b) last
+        → AnsweredFresh buffer start before last (afterAll (afterAll (afterAll (since (gate memory)) first) mid) (besideBytes hs) .gate) m
     demand-3-next sent-earlier sent to-start on step =
         let a = after-run buffer memory lent first h are run in
         let o = run-on buffer (lent .room) h (a .within) mid start between to-start in
         message-as buffer (lent .room) start (servedAll buffer (servedAll buffer (fromReset memory) first) mid) (o .within)
-        (o .is ∙ ap (λ (q : House). servedAll buffer q mid) (a .is)) hs more b before last on step m
+        (o .is ∙ ap (λ (q : House). servedAll buffer q mid) (a .is)) hs more b before last on step
+        (afterAll (afterAll (afterAll (since (gate memory)) first) mid) (besideBytes hs) .gate) m
         (fresh-next buffer memory first earlier mid hs b m (bytes-through first mid hs b are between more small) formed-earlier formed sent-earlier sent)
 
   -- "A command is never carried out unless its whole message, with a right sum, stands in the bytes since one start byte."

@@ -11,7 +11,7 @@ use Rattle.document.specs.Happenings.{Happening, Since, after, afterAll, fromRe
 use Rattle.document.specs.Happenings.Happening.{byte}
 use Rattle.link.specs.Runs.{oddRun}
 use Rattle.link.specs.Demands.{EndIn}
-use Rattle.demands.specs.Bytes.{Bytes, bytesOf}
+use Rattle.demands.specs.Bytes.{Bytes, bytesOf, besideBytes}
 use Rattle.demands.specs.Resync.{Resynchronised, ByHalf}
 use Rattle.demands.specs.Stands.{Stands}
 use Rattle.demands.specs.House.{House, served, servedAll, fromReset, replyOf}
@@ -32,11 +32,12 @@ module _ (buffer : List ℕ) (start : House) (s : Since) (stands : Stands buffer
   last-bytes =
       subst Bytes (sym (append-assoc (s .bytes) (bytesOf hs) (b ∷ [])) ∙ ap (λ (l : List ℕ). l ++ (b ∷ [])) (sym (bytes-after hs s))) bytes
 
-  answered-fresh : AnsweredFresh buffer start (servedAll buffer start hs) (served buffer (servedAll buffer start hs) (byte b)) m
+  answered-fresh : AnsweredFresh buffer start (servedAll buffer start hs) (served buffer (servedAll buffer start hs) (byte b)) (afterAll s (besideBytes hs) .gate) m
   answered-fresh =
       let last = stands-byte buffer (servedAll buffer start hs) (afterAll s hs) b before-stands last-bytes in
       record {
         quiet = before-stands .answers ∙ ap (λ (l : List Answer). map (replyOf buffer) l) (resync .quiet) ∙ sym (stands .answers);
+        untouched = before-stands .gate ∙ resync .untouched;
         told =
             last .answers
             ∙ ap (λ (l : List Answer). map (replyOf buffer) l) (resync .told)
@@ -62,7 +63,7 @@ module _ (buffer memory : List ℕ) (first : List Happening) where
   -- an even run, or none, before the start byte
   pub fresh-even : (hs : List Happening) (b : ℕ) (m : Message) → Bytes (bytesOf first ++ (bytesOf hs ++ (b ∷ []))) → wellFormed m ≡ true
       → oddRun (bytesOf first) ≡ false → onWire m ≡ bytesOf hs ++ (b ∷ [])
-      → AnsweredFresh buffer start (servedAll buffer start hs) (served buffer (servedAll buffer start hs) (byte b)) m
+      → AnsweredFresh buffer start (servedAll buffer start hs) (served buffer (servedAll buffer start hs) (byte b)) (afterAll reached (besideBytes hs) .gate) m
   fresh-even hs b m bytes formed even e =
       answered-fresh buffer start reached (reached-stands (bytesOf hs ++ (b ∷ [])) bytes) hs b m
       (subst (λ (l : List ℕ). Bytes (l ++ (bytesOf hs ++ (b ∷ [])))) (sym reached-bytes) bytes)
@@ -71,7 +72,7 @@ module _ (buffer memory : List ℕ) (first : List Happening) where
   -- behind a well-formed message, whatever was before that: so after an odd run too
   pub fresh-next : (sent : Message) (mid hs : List Happening) (b : ℕ) (m : Message) → Bytes (bytesOf first ++ (bytesOf mid ++ (bytesOf hs ++ (b ∷ []))))
       → wellFormed sent ≡ true → wellFormed m ≡ true → onWire sent ≡ bytesOf mid → onWire m ≡ bytesOf hs ++ (b ∷ [])
-      → AnsweredFresh buffer (servedAll buffer start mid) (servedAll buffer (servedAll buffer start mid) hs) (served buffer (servedAll buffer (servedAll buffer start mid) hs) (byte b)) m
+      → AnsweredFresh buffer (servedAll buffer start mid) (servedAll buffer (servedAll buffer start mid) hs) (served buffer (servedAll buffer (servedAll buffer start mid) hs) (byte b)) (afterAll (afterAll reached mid) (besideBytes hs) .gate) m
   fresh-next sent mid hs b m bytes formed formed′ e₀ e =
       let rest = bytesOf hs ++ (b ∷ []) in
       let mid-bytes : afterAll reached mid .bytes ≡ bytesOf first ++ bytesOf mid =

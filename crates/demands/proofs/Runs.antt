@@ -18,7 +18,7 @@ use Rattle.recorder.proofs.Keeps.{sound-parts}
 use Rattle.recorder.proofs.Granted.{sound-fits}
 use Rattle.target.proofs.TargetBounds.{parts-of}
 use Rattle.document.proofs.Cases.{split, neither}
-use Rattle.document.specs.Gate.{fresh as gate}
+use Rattle.document.specs.Gate.{Gate, fresh as gate}
 use Rattle.document.specs.Happenings.{Happening, afterAll, fromReset as since}
 use Rattle.document.specs.Happenings.Happening.{byte, tick, writes}
 use Rattle.target.specs.Bounds.{sound}
@@ -100,12 +100,12 @@ run-on buffer room h w hs last are run =
 -- ---- a message from a house on that has two names
 module _ (buffer : List ℕ) (room : 132 ≤ length buffer) (h H : House) (w : Within h) (is : h ≡ H) (hs : List Happening) (are : AreBytes hs) (b : ℕ) (before last : House)
     (run : Run buffer h hs before) (step : Step buffer before (byte b) last) where
-  pub message-as : (m : Message) → AnsweredFresh buffer H (servedAll buffer H hs) (served buffer (servedAll buffer H hs) (byte b)) m
-      → AnsweredFresh buffer h before last m
-  message-as m fresh =
-      subst (λ (q : House). AnsweredFresh buffer q before last m) (sym is)
-      (subst (λ (q : House). AnsweredFresh buffer H q last m) (sym to-before)
-      (subst (λ (q : House). AnsweredFresh buffer H (servedAll buffer H hs) q m) (sym to-last) fresh))
+  pub message-as : (beside : Gate) (m : Message) → AnsweredFresh buffer H (servedAll buffer H hs) (served buffer (servedAll buffer H hs) (byte b)) beside m
+      → AnsweredFresh buffer h before last beside m
+  message-as beside m fresh =
+      subst (λ (q : House). AnsweredFresh buffer q before last beside m) (sym is)
+      (subst (λ (q : House). AnsweredFresh buffer H q last beside m) (sym to-before)
+      (subst (λ (q : House). AnsweredFresh buffer H (servedAll buffer H hs) q beside m) (sym to-last) fresh))
     where
       onward : Onward buffer h hs before
       onward = run-on buffer room h w hs before are run

@@ -3,6 +3,7 @@ use mathlib.Core.Path.{_≡_}
 use mathlib.Core.List.{List, [], _∷_, _++_}
 use Prim.Native.Nat.{ℕ}
 use Rattle.document.specs.Message.{Message}
+use Rattle.document.specs.Gate.{Gate}
 use Rattle.document.specs.Commands.{answered}
 use Rattle.link.specs.Demands.{EndIn}
 use Rattle.target.specs.State.{gateOf}
@@ -10,8 +11,11 @@ use Rattle.demands.specs.House.{House, replyOf}
 
 -- "get exactly the answer, and leave the memory, scope and recorder, that a freshly reset link would give over these as
 -- they stand at the last byte": the fresh link is the definition, `answered`
-pub record AnsweredFresh (buffer : List ℕ) (start before last : House) (m : Message) : Type 0 where
+pub record AnsweredFresh (buffer : List ℕ) (start before last : House) (beside : Gate) (m : Message) : Type 0 where
+  -- before the last byte nothing is answered, and the gate is what it is without the message's bytes
   pub quiet : before .answers ≡ start .answers
+  pub untouched : gateOf (before .target .instruments) (before .memory) ≡ beside
+  -- with it comes the answer
   pub told :
       last .answers
       ≡ start .answers ++ (replyOf buffer (answered (gateOf (before .target .instruments) (before .memory)) m .answer) ∷ [])
