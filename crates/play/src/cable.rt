@@ -12,18 +12,18 @@ use crate::span::span_of;
 use host::AnswerReader;
 use host::Event;
 use line::Written;
-use script::buffer::fill;
-use script::operands::ByteRead;
-use script::operands::NumberRead;
-use script::operands::read_byte;
-use script::operands::read_bytes;
-use script::operands::read_number;
 use script::output::put;
 use script::output::put_bytes;
 use script::output::put_decimal;
 use script::output::put_hex;
 use script::output::put_text;
-use script::words::is_over;
+use words::buffer::fill;
+use words::operands::ByteRead;
+use words::operands::NumberRead;
+use words::operands::read_byte;
+use words::operands::read_bytes;
+use words::operands::read_number;
+use words::words::is_over;
 
 pub struct Cable {
     pub reader: AnswerReader,

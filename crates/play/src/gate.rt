@@ -5,17 +5,17 @@ use crate::complaint::RANGE;
 use crate::complaint::SURPLUS;
 use crate::play::Printed;
 use crate::span::span_of;
-use script::adler::adler32;
-use script::operands::NumberRead;
-use script::operands::read_bytes;
-use script::operands::read_number;
 use script::output::put;
 use script::output::put_bytes;
 use script::output::put_decimal;
 use script::output::put_text;
 use script::output::put_word;
-use script::words::is_over;
 use target::Target;
+use words::adler::adler32;
+use words::operands::NumberRead;
+use words::operands::read_bytes;
+use words::operands::read_number;
+use words::words::is_over;
 
 pub struct Gate {
     pub target: Target,

@@ -5,7 +5,7 @@ use crate::complaint::OPERATION;
 use crate::gate;
 use crate::play::Done;
 use crate::play::Play;
-use script::words::word_at;
+use words::words::word_at;
 
 enum Operation {
     // A line without words, or a comment, which is known by its very first character alone.

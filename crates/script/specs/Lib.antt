@@ -1,7 +1,3 @@
--- What the lines and words of a script say, where output goes, and the checksum that ends it.
-pub mod Adler
-pub mod Words
-pub mod Numbers
-pub mod Operands
+-- Where lines come from, and where output goes.
 pub mod Input
 pub mod Output

@@ -1,8 +1,8 @@
 // A gate from reset: the target and its memory, and where in a lent buffer its next answer goes.
 ghost use Prim.Native.Nat.{_+_, _≤_};
 ghost use lib.ListN.{length};
-use script::buffer::fill;
 use target::Target;
+use words::buffer::fill;
 
 // The target after some bytes, and where the answers that came with them end.
 pub struct Given {
