@@ -24,10 +24,10 @@ use Rattle.document.specs.Commands.{withScope, withRecorder, readAnswer, writte
 use Rattle.document.proofs.Cases.{split}
 use Rattle.line.proofs.Left.{sets-front, sets-behind, answer-fits}
 use Rattle.link.specs.Report.{Held, held}
-use Rattle.target.specs.Operations.{unless, operationOf, operated, readRefusals, writeRefusals, scopeSetUpRefusals, scopeReadRefusals, recorderSetUpRefusals, askRefusals, queryRefusals}
-use Rattle.target.specs.AnsweredHeld.{answeredHeld}
-use Rattle.target.proofs.Groups.{operation-below}
-use Rattle.target.proofs.Held.{answered-held}
+use Rattle.operations.specs.Operations.{unless, operationOf, operated, readRefusals, writeRefusals, scopeSetUpRefusals, scopeReadRefusals, recorderSetUpRefusals, askRefusals, queryRefusals}
+use Rattle.operations.specs.AnsweredHeld.{answeredHeld}
+use Rattle.operations.proofs.Groups.{operation-below}
+use Rattle.operations.proofs.Held.{answered-held}
 use Rattle.demands.specs.House.{replyOf}
 use Rattle.demands.specs.Sent.{Sent}
 use Rattle.demands.proofs.Numbered.{below-13}

@@ -27,12 +27,12 @@ use Rattle.recorder.specs.Calls.{startedState, haltedState}
 use Rattle.recorder.proofs.Answers.{set-up-means}
 use Rattle.recorder.proofs.Meanings.{started-means, halted-means}
 use Rattle.document.proofs.Cases.{split}
-use Rattle.target.specs.declared.answering.Instruments.{Instruments}
-use Rattle.target.specs.State.{gateOf}
-use Rattle.target.specs.Operations.{unless, askingRecorder, operationOf, operated, readRefusals, writeRefusals, scopeReadRefusals, askRefusals, queryRefusals}
-use Rattle.target.specs.Next.{instrumentsAfter}
-use Rattle.target.specs.AnsweredHeld.{answeredHeld, instrumentsHeld}
-use Rattle.target.proofs.Groups.{operation-below}
+use Rattle.operations.specs.declared.answering.Instruments.{Instruments}
+use Rattle.operations.specs.State.{gateOf}
+use Rattle.operations.specs.Operations.{unless, askingRecorder, operationOf, operated, readRefusals, writeRefusals, scopeReadRefusals, askRefusals, queryRefusals}
+use Rattle.operations.specs.Next.{instrumentsAfter}
+use Rattle.operations.specs.AnsweredHeld.{answeredHeld, instrumentsHeld}
+use Rattle.operations.proofs.Groups.{operation-below}
 use Rattle.demands.proofs.Numbered.{below-13}
 
 -- a start and a stop of what is not set up change nothing

@@ -31,8 +31,8 @@ use Rattle.link.proofs.Demands.{finishes-whole}
 use Rattle.recorder.specs.State.{recorderOf}
 use Rattle.recorder.proofs.Meanings.{ticked-means}
 use Rattle.target.specs.declared.state.Target.{Target}
-use Rattle.target.specs.State.{gateOf}
-use Rattle.target.specs.AnsweredHeld.{answeredHeld}
+use Rattle.operations.specs.State.{gateOf}
+use Rattle.operations.specs.AnsweredHeld.{answeredHeld}
 use Rattle.target.specs.Calls.{Turn, silent, keeping, heldBy, telling, onEvent, turn}
 use Rattle.scope.specs.State.{scopeOf}
 use Rattle.document.proofs.Cases.{split}
@@ -40,7 +40,7 @@ use Rattle.demands.specs.Bytes.{Bytes, bytesOf}
 use Rattle.demands.proofs.Resync.{told-bytes}
 use Rattle.demands.specs.Stands.{blank, Stands}
 use Rattle.demands.specs.House.{Reply, House, turned, served, servedAll, fromReset, replyOf}
-use Rattle.target.proofs.Held.{answered-held}
+use Rattle.operations.proofs.Held.{answered-held}
 use Rattle.demands.proofs.Gates.{held-kept}
 use Rattle.target.proofs.TurnLaws.{nextOf, by-event}
 

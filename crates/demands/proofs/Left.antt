@@ -15,9 +15,9 @@ use Rattle.document.specs.Commands.{withScope, withRecorder, readAnswer, writte
 use Rattle.document.specs.Refusals.{Refusal, firstOf}
 use Rattle.document.proofs.Cases.{split}
 use Rattle.link.specs.Report.{Held}
-use Rattle.target.specs.Operations.{unless, writing, blockWrong, blockEmpty, operationOf, operated, readRefusals, writeRefusals, scopeSetUpRefusals, scopeReadRefusals, recorderSetUpRefusals, askRefusals, queryRefusals}
-use Rattle.target.specs.AnsweredHeld.{answeredHeld}
-use Rattle.target.proofs.Groups.{operation-below}
+use Rattle.operations.specs.Operations.{unless, writing, blockWrong, blockEmpty, operationOf, operated, readRefusals, writeRefusals, scopeSetUpRefusals, scopeReadRefusals, recorderSetUpRefusals, askRefusals, queryRefusals}
+use Rattle.operations.specs.AnsweredHeld.{answeredHeld}
+use Rattle.operations.proofs.Groups.{operation-below}
 use Rattle.demands.proofs.Numbered.{below-13}
 
 module _ (P : List ℕ → Type 0) (g : Gate) (same : P (g .memory)) where

@@ -23,7 +23,7 @@ use Rattle.document.proofs.Cases.{split, neither, both}
 use Rattle.variables.proofs.Places.{stored-length}
 use Rattle.history.proofs.Bytes.{drop-sets}
 use Rattle.link.specs.Report.{held}
-use Rattle.target.proofs.Held.{answered-held}
+use Rattle.operations.proofs.Held.{answered-held}
 use Rattle.demands.specs.Recording.{starts, stops, Begins}
 use Rattle.demands.proofs.ByteLaws.{take-short}
 use Rattle.demands.proofs.Left.{held-left}

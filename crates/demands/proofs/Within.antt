@@ -29,9 +29,9 @@ use Rattle.recorder.specs.Bounds as recorder
 use Rattle.recorder.specs.State.{recorderOf, triggerOf}
 use Rattle.recorder.proofs.Answers.{set-up-sound as recorder-set-up, new-sound as new-recorder}
 use Rattle.recorder.proofs.Keeps.{started-sound, halted-sound, ticked-sound}
-use Rattle.target.specs.declared.answering.Instruments.{Instruments}
-use Rattle.target.specs.Next.{instrumentsAfter}
-use Rattle.target.specs.AnsweredHeld.{answeredHeld, instrumentsHeld}
+use Rattle.operations.specs.declared.answering.Instruments.{Instruments}
+use Rattle.operations.specs.Next.{instrumentsAfter}
+use Rattle.operations.specs.AnsweredHeld.{answeredHeld, instrumentsHeld}
 use Rattle.link.specs.declared.Receiver.{Receiver}
 use Rattle.link.specs.declared.Event.{Event}
 use Rattle.link.specs.declared.Event.the-variants.{Nothing, Keep, Whole, Refused}
@@ -40,8 +40,8 @@ use Rattle.link.specs.Step.{stepped}
 use Rattle.link.proofs.Sound.{step-sound, reset-sound}
 use Rattle.link.proofs.Events.{kept-byte, whole-command, command-byte}
 use Rattle.target.specs.declared.state.Target.{Target}
-use Rattle.target.specs.State.{gateOf}
-use Rattle.target.specs.Operations.{operationOf}
+use Rattle.operations.specs.State.{gateOf}
+use Rattle.operations.specs.Operations.{operationOf}
 use Rattle.target.specs.Calls.{Turn, silent, keeping, heldBy, turn}
 use Rattle.target.proofs.TargetBounds.{Parts, parts-of, whole-of}
 use Rattle.target.proofs.TurnLaws.{nextOf, by-event}

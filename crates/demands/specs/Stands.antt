@@ -5,7 +5,7 @@ use Prim.Native.Nat.{ℕ}
 use lib.ListN.{replicate}
 use Rattle.document.specs.Happenings.{Since}
 use Rattle.link.specs.Report.{Beside, sinceReset}
-use Rattle.target.specs.State.{gateOf}
+use Rattle.operations.specs.State.{gateOf}
 use Rattle.demands.specs.House.{House, replyOf}
 
 -- the body of a link at reset

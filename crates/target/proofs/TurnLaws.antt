@@ -14,8 +14,8 @@ use Rattle.link.specs.Step.{stepped}
 use Rattle.document.proofs.Cases.{split}
 use Rattle.target.specs.declared.state.Target.{Target}
 use Rattle.target.specs.declared.byte.Taken.{Taken}
-use Rattle.target.specs.State.{gateOf}
-use Rattle.target.specs.AnsweredHeld.{answeredHeld}
+use Rattle.operations.specs.State.{gateOf}
+use Rattle.operations.specs.AnsweredHeld.{answeredHeld}
 use Rattle.target.specs.Calls.{Turn, withReceiver, silent, keeping, heldBy, telling, onEvent, turn, TurnTaken}
 
 module _ (t : Target) (b : ℕ) (memory buffer : List ℕ) where

@@ -21,8 +21,8 @@ use Rattle.recorder.specs.Calls.{tickedState}
 use Rattle.target.specs.declared.state.Target.{Target}
 use Rattle.target.specs.declared.byte.Taken.{Taken}
 use Rattle.target.specs.declared.tick.Ticked.{Ticked}
-use Rattle.target.specs.State.{gateOf}
-use Rattle.target.specs.AnsweredHeld.{answeredHeld, instrumentsHeld}
+use Rattle.operations.specs.State.{gateOf}
+use Rattle.operations.specs.AnsweredHeld.{answeredHeld, instrumentsHeld}
 use Rattle.target.specs.Bounds.{sound}
 
 -- ---- a byte

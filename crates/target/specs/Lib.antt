@@ -1,11 +1,3 @@
-pub mod Operations
-pub mod Looked
-pub mod Asked
-pub mod AnsweredHeld
-pub mod Told
-pub mod Wrote
-pub mod State
-pub mod Answers
-pub mod Next
+-- The bounds of the state, and what the calls promise.
 pub mod Bounds
 pub mod Calls

@@ -8,15 +8,15 @@ ghost use Rattle.document.specs.Message.{lengthFits};
 ghost use Rattle.document.specs.Calls.{byteRefusal};
 ghost use Rattle.scope.specs.State as scope;
 ghost use Rattle.target.specs.Bounds.{sound};
-ghost use Rattle.target.specs.State.{gateOf};
-ghost use Rattle.target.specs.AnsweredHeld.{answeredHeld};
+ghost use Rattle.operations.specs.State.{gateOf};
+ghost use Rattle.operations.specs.AnsweredHeld.{answeredHeld};
 ghost use Rattle.target.specs.Calls.{turn, heldBy, telling, TurnTaken, ByteTaken};
-use crate::responding::Whole;
-use crate::responding::respond;
 use crate::state::Target;
 use codes::ROOM_REFUSED;
 use codes::TAKEN;
 use link::Event;
+use operations::Whole;
+use operations::respond;
 
 // Start, status, and 65 bytes that may all be doubled.
 const ANSWER_ROOM: usize = 132;

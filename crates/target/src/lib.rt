@@ -1,19 +1,8 @@
-// The target: what comes over the port, refused or carried out.
-mod answer;
-mod answering;
+// The target: a byte of the line and a tick of the gate.
 mod byte;
-mod describing;
-mod fields;
-mod instruments;
-mod operating;
-mod operation;
-mod reading;
-mod responding;
 mod state;
 mod tick;
-mod writing;
 
-pub use answering::Instruments;
 pub use byte::Taken;
 pub use state::Target;
 pub use tick::Ticked;

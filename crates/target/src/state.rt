@@ -1,7 +1,7 @@
 // The target's state: the receiver with the data of the message it is in, the scope and the recorder.
 ghost use mathlib.Core.Path.{_≡_};
 ghost use Rattle.target.specs.Bounds.{fresh, sound};
-use crate::answering::Instruments;
+use operations::Instruments;
 
 #[repr(C)]
 pub struct Target {

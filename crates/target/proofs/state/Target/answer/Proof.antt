@@ -4,7 +4,6 @@ use Rattle.target.proofs.state.Target.answer.Statement.{statement}
 use Rattle.target.proofs.state.Target.answer.Tie as tie
 use Rattle.target.proofs.state.Target.answer.Reads as reads
 use Rattle.target.proofs.state.Target.answer.Lts as lts
-use Rattle.target.proofs.responding.respond.Reads as respond-reads
 
 slice-aggregate-respond : tie.Need-slice-aggregate-respond
 slice-aggregate-respond c = search needs

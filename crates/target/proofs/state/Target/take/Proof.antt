@@ -1,7 +1,7 @@
 -- By the event that the receiver makes of the byte.
 use mathlib.Core.Path.{sym, ap, subst, _∙_}
-use Rattle.target.specs.AnsweredHeld.{answeredHeld}
-use Rattle.target.specs.State.{gateOf}
+use Rattle.operations.specs.AnsweredHeld.{answeredHeld}
+use Rattle.operations.specs.State.{gateOf}
 use Rattle.target.specs.Calls.{withReceiver, heldBy, telling, TurnTaken}
 use Rattle.target.proofs.TurnLaws.{nothing-taken, refused-taken, keep-taken, whole-taken, fits}
 use Rattle.target.proofs.TargetBounds.{parts-of}
