@@ -230,6 +230,44 @@ static void test_instruments(void)
     EXPECT(status_of(0xC1, "") == LOG_GATE_DONE && status_of(0xC3, "") == LOG_GATE_RECORDER_RUNS);
 }
 
+/* The edges of a trigger of one byte, threshold 0x80: mode, sign, the values at two sets, and whether it stops then. */
+static void test_edges(void)
+{
+    static const struct {
+        uint8_t mode, sign, from, to, stops;
+    } edges[] = {{1, 0, 0x7F, 0x80, 1}, {1, 0, 0x80, 0x81, 0}, {1, 0, 0x7E, 0x7F, 0}, {2, 0, 0x81, 0x80, 1},
+                 {2, 0, 0x80, 0x7F, 0}, {2, 0, 0x82, 0x81, 0}, {2, 1, 0x7F, 0x80, 1}, {2, 1, 0x81, 0x80, 1},
+                 {1, 1, 0x7F, 0x80, 0}, {1, 1, 0x80, 0x7F, 0}, {0, 0, 0x7F, 0x80, 0}, {0, 0, 0x81, 0x80, 0}};
+    for (size_t i = 0; i < sizeof edges / sizeof edges[0]; i++) {
+        char data[64];
+        reset();
+        sprintf(data, "%02X 02 00 00 00 00 00 10 00 01 %02X 80 00 00 00 01 01 10 00", edges[i].mode, edges[i].sign);
+        EXPECT(status_of(0x09, data) == LOG_GATE_DONE);
+        gate.memory[16] = edges[i].from;
+        tick();
+        gate.memory[16] = edges[i].to;
+        tick();
+        EXPECT(status_of(0xC3, "") == (edges[i].stops ? LOG_GATE_RECORDER_STOPPED : LOG_GATE_RECORDER_RUNS));
+    }
+}
+
+/* Post-trigger 2, divider 1: it stops 4 ticks after the trigger; the start index is the place that would be written next. */
+static void test_post_trigger(void)
+{
+    reset();
+    EXPECT(status_of(0x09, "01 03 00 02 00 01 00 10 00 01 00 80 00 00 00 01 01 10 00") == LOG_GATE_DONE);
+    for (uint8_t i = 0; i < 7; i++) { /* sets at ticks 1, 3 (the trigger), 5 and 7 */
+        EXPECT(status_of(0xC3, "") == LOG_GATE_RECORDER_RUNS);
+        gate.memory[16] = (uint8_t)(0x7E + i);
+        tick();
+    }
+    EXPECT(status_of(0xC3, "") == LOG_GATE_RECORDER_STOPPED);
+    tick();
+    EXPECT(gate.memory[12288] == 0x84 && gate.memory[12289] == 0x80 && gate.memory[12290] == 0x82 && gate.memory[12291] == 0);
+    struct reply reply = ask(0xC4, "", 4);
+    EXPECT(reply.length == 4 && memcmp(reply.data, "\0\x30\x01\0", 4) == 0);
+}
+
 /* ---- every status that refuses on the wire, with what stands below it in the order also wrong */
 
 static const struct {
@@ -492,6 +530,8 @@ int main(void)
     test_longest();
     test_both_ends();
     test_instruments();
+    test_edges();
+    test_post_trigger();
     test_wrong_messages();
     test_order();
     test_target_refusals();
