@@ -13,7 +13,7 @@ mkdir -p $built
 build() { $CC_X86 $CFLAGS_X86 -o "$built/$1" "tests/$2" "$3"; }
 build smoke smoke.c "$archive"
 build fuzz fuzz.c "$archive"
-build fuzz-plain fuzz.c bench/plain/log_gate.c
+build fuzz-plain fuzz.c benchmark/plain/log_gate.c
 
 $RUN_X86 $built/smoke
 $RUN_X86 $built/fuzz | tee $built/fuzz.out

@@ -89,26 +89,36 @@ static bool message_formed(uint8_t command, size_t length)
     return command < FAST ? length <= 255 : length == fast_length(command);
 }
 
-static void put_message(struct writer *w, uint8_t command, const uint8_t *data, size_t length)
+/* What `put` would do to a writer, without writing: a message is measured before a byte of it is written. */
+static void measure(struct writer *w, uint8_t byte)
 {
+    w->length += byte == START ? 2 : 1;
+    w->sum = (uint8_t)(w->sum + byte);
+}
+
+static size_t message_length(uint8_t command, const uint8_t *data, size_t length)
+{
+    struct writer w = {NULL, 2, command};
     if (command < FAST)
-        put(w, (uint8_t)length);
-    put_all(w, data, length);
+        measure(&w, (uint8_t)length);
+    for (size_t i = 0; i < length; i++)
+        measure(&w, data[i]);
+    measure(&w, (uint8_t)-w.sum);
+    return w.length;
 }
 
 log_gate_taken log_gate_write_command(uint8_t command, const uint8_t *data, size_t data_length, uint8_t *out,
                                       size_t out_length)
 {
-    uint8_t message[LOG_GATE_COMMAND_ROOM];
     if (!message_formed(command, data_length))
         return (log_gate_taken){LOG_GATE_FORM_REFUSED, 0};
-    struct writer w = begin_writing(message, command);
-    put_message(&w, command, data, data_length);
-    size_t length = finish_writing(&w);
-    if (out_length < length)
+    if (out_length < message_length(command, data, data_length))
         return (log_gate_taken){LOG_GATE_ROOM_REFUSED, 0};
-    memcpy(out, message, length);
-    return (log_gate_taken){LOG_GATE_TAKEN, length};
+    struct writer w = begin_writing(out, command);
+    if (command < FAST)
+        put(&w, (uint8_t)data_length);
+    put_all(&w, data, data_length);
+    return (log_gate_taken){LOG_GATE_TAKEN, finish_writing(&w)};
 }
 
 uint8_t log_gate_reader_begin(uint8_t *reader, size_t reader_length, size_t expected)
