@@ -1,6 +1,5 @@
 #!/bin/sh
-# tests/run.sh ARCHIVE: the smoke test and the fuzzing loop against an archive. The loop is run against the plain C too, with the same
-# seed: both must give the same digest of all answers, states and memory.
+# tests/run.sh ARCHIVE: all tests of an archive with the calls of include/log_gate.h.
 set -eu
 [ $# -eq 1 ] || { echo "tests/run.sh: say which archive to test" >&2; exit 2; }
 [ -r "$1" ] || { echo "tests/run.sh: the archive $1 cannot be read" >&2; exit 2; }
@@ -10,13 +9,20 @@ cd "$(dirname "$0")/.."
 
 built=target/tests
 mkdir -p $built
-build() { $CC_X86 $CFLAGS_X86 -o "$built/$1" "tests/$2" "$3"; }
-build smoke smoke.c "$archive"
-build fuzz fuzz.c "$archive"
-build fuzz-plain fuzz.c benchmark/plain/log_gate.c
 
-$RUN_X86 $built/smoke
-$RUN_X86 $built/fuzz | tee $built/fuzz.out
-$RUN_X86 $built/fuzz-plain >$built/fuzz-plain.out
-cmp $built/fuzz.out $built/fuzz-plain.out || { echo "tests/run.sh: the archive and the plain C differ" >&2; exit 1; }
-echo "fuzz: the plain C gives the same"
+# build NAME FILES..: a program for x86-64
+build() {
+    name=$1
+    shift
+    $CC_X86 $CFLAGS_X86 -o "$built/$name" "$@"
+}
+
+fail() {
+    echo "tests/run.sh: $1" >&2
+    exit 1
+}
+
+. tests/calls.sh
+. tests/scripts.sh
+. tests/port.sh
+echo "tests/run.sh: all passed"
