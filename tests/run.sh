@@ -22,6 +22,7 @@ fail() {
     exit 1
 }
 
+. tests/usage.sh
 . tests/calls.sh
 . tests/scripts.sh
 . tests/port.sh
