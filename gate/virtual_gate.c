@@ -1,15 +1,13 @@
 /*
  * A log gate without the iron: the proved target behind a pseudo-terminal, a tick every millisecond, and a live scene in its
- * variables. It shows how firmware uses the calls: bytes go in one by one, answers go out, and the clock ticks.
+ * variables.
  *
  *     virtual_gate [--seed N] [--ticks N]
  */
 #define _XOPEN_SOURCE 700
-#include "../include/log_gate.h"
-#include "map.h"
-#include "memory.h"
+#include "gate.h"
 #include "port.h"
-#include "scene.h"
+#include "print.h"
 
 #include <errno.h>
 #include <signal.h>
@@ -21,99 +19,12 @@
 /* How many ticks are made up for when the machine was late; beyond that they are lost, as in a gate that stood still. */
 enum { MOST_LATE = 1000 };
 
-struct gate {
-    uint8_t state[LOG_GATE_STATE];
-    uint8_t memory[LOG_GATE_MEMORY];
-    uint8_t answer[LOG_GATE_ANSWER_ROOM];
-    struct scene scene;
-    uint64_t ticks, lost, bytes, answers;
-};
-
 static volatile sig_atomic_t stopped;
 
 static void stop(int signal)
 {
     (void)signal;
     stopped = 1;
-}
-
-/* A gate whose target refuses is broken: its state or its memory is not what the target left there. */
-static void expect_taken(uint8_t refusal)
-{
-    if (refusal == LOG_GATE_TAKEN)
-        return;
-    fprintf(stderr, "virtual gate: the target refuses with %u\n", refusal);
-    exit(1);
-}
-
-static void gate_tick(struct gate *g)
-{
-    scene_tick(&g->scene, g->memory);
-    expect_taken(log_gate_tick(g->state, sizeof g->state, g->memory, sizeof g->memory));
-    g->ticks++;
-}
-
-/* How many bytes of g->answer are to be sent. */
-static size_t gate_byte(struct gate *g, uint8_t byte)
-{
-    log_gate_taken taken =
-        log_gate_byte(g->state, sizeof g->state, byte, g->memory, sizeof g->memory, g->answer, sizeof g->answer);
-    expect_taken(taken.refusal);
-    return taken.length;
-}
-
-/* ---- what is printed */
-
-static void print_bytes(const char *what, const uint8_t *bytes, size_t length)
-{
-    printf("%s", what);
-    for (size_t i = 0; i < length; i++)
-        printf(" %02X", bytes[i]);
-    printf("\n");
-}
-
-static void print_map(void)
-{
-#define GATE_LINE(name, address, bytes, what) printf("  %4d  %5d  %s\n", address, bytes, what);
-    printf("Address  bytes  little-endian\n");
-    GATE_MAP(GATE_LINE)
-#undef GATE_LINE
-}
-
-/* A real exchange, with the gate as it is now. */
-static void print_example(struct gate *g)
-{
-    const uint8_t address[] = {COIL_1, 0};
-    uint8_t wire[LOG_GATE_COMMAND_ROOM];
-    log_gate_taken written = log_gate_write_command(0xD1, address, sizeof address, wire, sizeof wire);
-    size_t length = 0;
-    for (size_t i = 0; i < written.length; i++)
-        length = gate_byte(g, wire[i]);
-    printf("For example, two bytes at address %d, which are coil 1:\n", COIL_1);
-    print_bytes("  send    ", wire, written.length);
-    print_bytes("  answer  ", g->answer, length);
-    printf("  so coil 1 reads %u\n", (unsigned)number_at(g->answer + 2, 2));
-}
-
-static void print_welcome(struct gate *g, const char *path)
-{
-    printf("The service port is %s\n\n", path);
-    print_map();
-    printf("\n");
-    print_example(g);
-    printf("From a shell, the same:\n");
-    printf("  (sleep 1; printf '\\053\\321\\020\\000\\037' >%s) & head -c 5 %s | od -A n -t x1\n", path, path);
-    printf("\nStop with Ctrl-C.\n");
-    fflush(stdout);
-}
-
-static void print_farewell(const struct gate *g)
-{
-    printf("\nThe gate is closed: %llu ticks, %u logs, %u alarms; %llu bytes came, %llu answers went.\n",
-           (unsigned long long)g->ticks, (unsigned)number_at(g->memory + LOGS, 4),
-           (unsigned)number_at(g->memory + ALARMS, 4), (unsigned long long)g->bytes, (unsigned long long)g->answers);
-    if (g->lost > 0)
-        printf("The machine was late, and %llu ticks were lost.\n", (unsigned long long)g->lost);
 }
 
 /* ---- the clock and the loop */
@@ -181,13 +92,6 @@ static int read_options(int argc, char **argv, struct options *o)
             return 0;
     }
     return 1;
-}
-
-static void gate_begin(struct gate *g, uint64_t seed)
-{
-    expect_taken(log_gate_reset(g->state, sizeof g->state));
-    scene_begin(&g->scene, seed, g->memory);
-    gate_tick(g);
 }
 
 static void listen_for_stops(void)
