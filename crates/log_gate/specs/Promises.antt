@@ -17,7 +17,7 @@ use Rattle.target.specs.Calls.{turn, tickedTarget}
 use Rattle.host.specs.declared.reader.Event.{Event}
 use Rattle.host.specs.declared.reader.Event.the-variants.{Nothing, Answer}
 use Rattle.host.specs.declared.reader.Read.{Read}
-use Rattle.host.specs.Reader as reader
+use Rattle.host.specs.Reader as host
 use Rattle.host.specs.Promises.{gives, readerRefusal}
 use Rattle.blocks.specs.Layout.{stateLength, readerLength, decoded, encoded, decodedReader, encodedReader}
 use Rattle.log_gate.specs.declared.target_calls.Taken.{Taken}
@@ -74,7 +74,7 @@ beginNumber block expected = cond (leb readerLength (length block)) (beginRefusa
 pub record BeginDone (block : List ℕ) (expected r : ℕ) (after : List ℕ) : Type 0 where
   pub result : r ≡ beginNumber block expected
   pub reader :
-      after ≡ cond (eqb (beginNumber block expected) taken) (sets block 0 (encodedReader (reader.fresh expected))) block
+      after ≡ cond (eqb (beginNumber block expected) taken) (sets block 0 (encodedReader (host.fresh expected))) block
 
 -- a byte of it knows 1 and 3, and takes the byte with 6
 abbrev pub readNumber : List ℕ → List ℕ → ℕ
@@ -89,11 +89,11 @@ pub record ReadDone (block : List ℕ) (b : ℕ) (buffer : List ℕ) (r : ReadBy
   pub result :
       r
       ≡ cond (eqb (readNumber block buffer) taken)
-      (readOf (gives (reader.stepped (decodedReader block) b) .refusal) (gives (reader.stepped (decodedReader block) b) .event))
+      (readOf (gives (host.stepped (decodedReader block) b) .refusal) (gives (host.stepped (decodedReader block) b) .event))
       (record { refusal = readNumber block buffer; whole = 0; status = 0; length = 0 })
   pub reader :
       after
-      ≡ cond (eqb (readNumber block buffer) taken) (sets block 0 (encodedReader (reader.stepped (decodedReader block) b .next))) block
+      ≡ cond (eqb (readNumber block buffer) taken) (sets block 0 (encodedReader (host.stepped (decodedReader block) b .next))) block
   pub buffer-told :
       told
-      ≡ cond (eqb (readNumber block buffer) taken) (readBuffer (reader.stepped (decodedReader block) b .brings) buffer) buffer
+      ≡ cond (eqb (readNumber block buffer) taken) (readBuffer (host.stepped (decodedReader block) b .brings) buffer) buffer

@@ -53,14 +53,14 @@ fn read_of(refusal: u8, event: Event) -> ReadByte
 }
 
 #[no_mangle]
-pub extern "C" fn log_gate_reader_byte(reader: &mut [u8], byte: u8, data: &mut [u8]) -> ReadByte
-    ensures { λ r. ⌜ ReadDone (now (reader .entry)) byte (now (data .entry)) r (now (reader .exit)) (now (data .exit)) ⌝ }
+pub extern "C" fn log_gate_reader_byte(reader: &mut [u8], byte: u8, out: &mut [u8]) -> ReadByte
+    ensures { λ r. ⌜ ReadDone (now (reader .entry)) byte (now (out .entry)) r (now (reader .exit)) (now (out .exit)) ⌝ }
 {
     if reader.len() < READER_LENGTH {
         return read_of(STATE_REFUSED, Event::Nothing);
     }
     let state = blocks::reader_in(reader);
-    let read = state.read(byte, data);
+    let read = state.read(byte, out);
     let refusal = read.refusal;
     let event = read.event;
     if refusal == STATE_REFUSED {
