@@ -15,5 +15,8 @@ mod writing;
 
 pub use answering::Instruments;
 pub use byte::Taken;
+pub use operating::Responded;
+pub use responding::Whole;
+pub use responding::respond;
 pub use state::Target;
 pub use tick::Ticked;

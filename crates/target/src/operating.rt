@@ -18,7 +18,7 @@ use crate::operation::START;
 use crate::operation::STOP;
 
 // How many bytes go over the wire, and what is set up then.
-pub(crate) struct Responded {
+pub struct Responded {
     pub length: usize,
     pub next: Instruments,
 }

@@ -18,7 +18,7 @@ use codes::MESSAGE_TOO_LONG;
 use codes::SUM_WRONG;
 
 // What the receiver tells of a whole message; its data stand in the body.
-pub(crate) struct Whole {
+pub struct Whole {
     pub command: u8,
     pub length: u8,
     pub sum: u8,
@@ -30,7 +30,7 @@ fn wide(length: u8) -> usize
     length as usize
 }
 
-pub(crate) fn respond(
+pub fn respond(
     whole: Whole,
     instruments: Instruments,
     body: &[u8],

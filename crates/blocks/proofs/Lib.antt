@@ -1,0 +1,6 @@
+pub mod Ranges
+pub mod Numbers
+pub mod Definitions
+pub mod Within
+pub mod Parts
+pub mod Kept

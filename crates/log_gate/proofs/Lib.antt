@@ -1,0 +1,4 @@
+pub mod Stored
+pub mod Turns
+pub mod Settled
+pub mod Readings
