@@ -205,7 +205,7 @@ static void look_at_place(const uint8_t *recorder)
 {
     size_t set = 0, place = number_at(recorder + 64);
     for (size_t i = 0; i < recorder[18] && i < 8; i++)
-        set += recorder[19 + 5 * i + 4];
+        set += recorder[19 + 5 * i];
     int runs = recorder[0] == 1 && recorder[59] == 1 && number_at(recorder + 62) == 0;
     size_t from = runs ? BUFFER + place * set : 0, to = runs ? from + set : 0;
     expect(kept_but(&mem, from, to), "a tick writes outside its place");

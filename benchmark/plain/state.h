@@ -21,8 +21,8 @@ struct BLOCK receiver {
 };
 
 struct BLOCK variable {
-    uint32_t address;
     uint8_t size;
+    uint32_t address;
 };
 
 /* Of the list, the first `count` are looked at. */
@@ -31,15 +31,15 @@ struct BLOCK variables {
     struct variable list[MOST_VARIABLES];
 };
 
-/* What a setup fixes. */
+/* What a setup fixes, in the order of its data part. */
 struct BLOCK plan {
+    uint8_t mode;
     uint16_t samples;
     uint16_t post_trigger;
     uint16_t divider;
-    uint8_t mode;
+    uint32_t address;
     uint8_t size;
     uint8_t sign;
-    uint32_t address;
     uint32_t threshold;
     struct variables variables;
 };
