@@ -19,7 +19,7 @@ use Rattle.host.specs.declared.reader.Read.{Read}
 use Rattle.host.specs.Reader as host
 use Rattle.host.specs.Promises.{gives, readerRefusal, readResult, bufferLeft}
 use Rattle.blocks.specs.Layout.{decodedReader, encodedReader}
-use Rattle.log_gate.specs.declared.reader_calls.ReadByte.{ReadByte}
+use Rattle.log_gate.specs.declared.reader.ReadByte.{ReadByte}
 use Rattle.log_gate.specs.Promises.{beginNumber, BeginDone, readNumber, readOf, ReadDone}
 
 -- ---- the beginning
