@@ -3,7 +3,7 @@
 use mathlib.Core.Path.{_≡_, refl, sym, ap, _∙_}
 use mathlib.Core.Bool.{true}
 use mathlib.Core.List.{List, [], _∷_, _++_, append-assoc}
-use Prim.Native.Nat.{ℕ, zero, suc, _+_, _*_, _/_, _%_, _^_, _<_}
+use Prim.Native.Nat.{ℕ, zero, suc, _+_, _/_, _^_, _<_}
 use native.Mathlib.Nat.{pow-suc}
 use native.Mathlib.Omega.{arith}
 use lib.ListN.{length, getD, take, drop}
@@ -20,7 +20,7 @@ use Rattle.recorder.specs.declared.state.Run.{Run}
 use Rattle.recorder.specs.declared.state.Recorder.{Recorder}
 use Rattle.target.specs.declared.state.Target.{Target}
 use Rattle.host.specs.declared.reader.AnswerReader.{AnswerReader}
-use Rattle.blocks.specs.Layout.{decodedReceiver, decodedDefinitions, decodedScope, decodedPlan, decodedRun, decodedRecorder, decoded, decodedReader, encodedReceiver, encodedDefinitions, encodedVariables, encodedScope, encodedNumbers, encodedRun, encodedRecorder, encodedInstruments, encoded, encodedReader}
+use Rattle.blocks.specs.Layout.{decodedReceiver, decodedDefinitions, decodedScope, decodedPlan, decodedRun, decodedRecorder, decoded, decodedReader, encodedReceiver, encodedDefinitions, encodedScope, encodedRun, encodedRecorder, encoded, encodedReader}
 use Rattle.blocks.proofs.Parts.{receiver-length, definitions-length, scope-length}
 
 -- ---- the states that fit: numbers of their widths, lists of their lengths

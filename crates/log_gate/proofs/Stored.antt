@@ -3,7 +3,7 @@ use mathlib.Core.Path.{_≡_, refl, sym, ap, _∙_}
 use mathlib.Core.List.{List, _++_, append-assoc}
 use Prim.Native.Nat.{ℕ, _+_, _<_, _≤_}
 use native.Mathlib.Omega.{arith}
-use lib.ListN.{length, getD, set, take, drop, length-set}
+use lib.ListN.{length, getD, set, take, length-set}
 use lib.Seq.{sets, length-sets, drop-set-lt}
 use Rattle.document.specs.Areas.{bytesAt}
 use Rattle.link.specs.declared.Receiver.{Receiver}

@@ -1,15 +1,11 @@
+-- Refused, nothing changes; else the byte is taken.
+use mathlib.Core.Path.{sym, _∙_}
+use borrow.Author.Needs.{needs}
+use Rattle.target.proofs.CallLaws.{byte-known}
 use Rattle.log_gate.proofs.Settled.{block-known, byte-refused, byte-taken}
 use Rattle.log_gate.specs.Promises.{blockSound}
-use Rattle.target.proofs.CallLaws.{byte-known}
-use mathlib.Core.Path.{_≡_, refl, sym, ap, subst, _∙_}
-use native.Mathlib.Omega.{arith}
-use borrow.Author.Needs.{needs}
 use Rattle.log_gate.proofs.byte.log_gate_byte.Statement.{statement}
 use Rattle.log_gate.proofs.byte.log_gate_byte.Tie as tie
-use Rattle.log_gate.proofs.byte.log_gate_byte.Reads as reads
-use Rattle.log_gate.proofs.byte.log_gate_byte.Lts as lts
-use Rattle.log_gate.proofs.refusals.byte_refusal.Reads as byte-refusal-reads
-use Rattle.log_gate.proofs.byte.take.Reads as take-reads
 
 byte-refusal-requires : tie.Need-byte-refusal-requires
 byte-refusal-requires c κs = search needs
@@ -24,10 +20,16 @@ same-length-3 : tie.Need-same-length-3
 same-length-3 c = search needs
 
 returns : tie.Need-returns
-returns c = byte-refused ((c .before .before .before .before .before .before .before .before .args) .state .now) ((c .before .before .before .before .before .before .before .before .args) .memory .now) ((c .before .before .before .before .before .before .before .before .args) .byte) ((c .before .before .before .before .before .before .before .before .args) .answer .now) ((c .before .byte-refusal) .result) ((c .before .byte-refusal) .ensures) ((c .if1) .taken)
+returns c =
+    let args = c .before .before .before .before .before .before .before .before .args in
+    byte-refused (args .state .now) (args .memory .now) (args .byte) (args .answer .now) (c .before .byte-refusal .result) (c .before .byte-refusal .ensures) (c .if1 .taken)
 
 take-requires : tie.Need-take-requires
-take-requires c κs = let known = byte-known (blockSound ((c .before .before .before .before .before .before .before .before .before .before .before .args) .state .now)) ((c .before .before .before .before .before .before .before .before .before .before .before .args) .memory .now) ((c .before .before .before .before .before .before .before .before .before .before .before .args) .answer .now) (sym ((c .before .before .before .before .byte-refusal) .ensures) ∙ (c .before .before .before .if1) .left) in (block-known ((c .before .before .before .before .before .before .before .before .before .before .before .args) .state .now) (known .0) .0, block-known ((c .before .before .before .before .before .before .before .before .before .before .before .args) .state .now) (known .0) .1, known .1, known .2)
+take-requires c κs =
+    let args = c .before .before .before .before .before .before .before .before .before .before .before .args in
+    let byte-refusal = c .before .before .before .before .byte-refusal in
+    let if1 = c .before .before .before .if1 in
+    let known = byte-known (blockSound (args .state .now)) (args .memory .now) (args .answer .now) (sym (byte-refusal .ensures) ∙ if1 .left) in (block-known (args .state .now) (known .0) .0, block-known (args .state .now) (known .0) .1, known .1, known .2)
 
 same-length-4 : tie.Need-same-length-4
 same-length-4 c = search needs
@@ -39,7 +41,12 @@ same-length-6 : tie.Need-same-length-6
 same-length-6 c = search needs
 
 returns-2 : tie.Need-returns-2
-returns-2 c = byte-taken ((c .before .before .before .before .before .before .before .before .before .before .before .before .before .before .before .before .before .before .args) .state .now) ((c .before .before .before .before .before .before .before .before .before .before .before .before .before .before .before .before .before .before .args) .memory .now) ((c .before .before .before .before .before .before .before .before .before .before .before .before .before .before .before .before .before .before .args) .byte) ((c .before .before .before .before .before .before .before .before .before .before .before .before .before .before .before .before .before .before .args) .answer .now) _ _ _ _ (sym ((c .before .before .before .before .before .before .before .before .before .before .before .byte-refusal) .ensures) ∙ (c .before .before .before .before .before .before .before .before .before .before .if1) .left) ((c .before .before .before .before .before .before .take) .ensures)
+returns-2 c =
+    let args = c .before .before .before .before .before .before .before .before .before .before .before .before .before .before .before .before .before .before .args in
+    let byte-refusal = c .before .before .before .before .before .before .before .before .before .before .before .byte-refusal in
+    let if1 = c .before .before .before .before .before .before .before .before .before .before .if1 in
+    let take = c .before .before .before .before .before .before .take in
+    byte-taken (args .state .now) (args .memory .now) (args .byte) (args .answer .now) _ _ _ _ (sym (byte-refusal .ensures) ∙ if1 .left) (take .ensures)
 
 pub log-gate-byte-spec : {M : Type 1} → statement M
 log-gate-byte-spec =

@@ -1,11 +1,9 @@
-use Rattle.log_gate.specs.Promises.{readOf}
+-- By the event.
 use mathlib.Core.Path.{sym, ap}
-use native.Mathlib.Omega.{arith}
 use borrow.Author.Needs.{needs}
+use Rattle.log_gate.specs.Promises.{readOf}
 use Rattle.log_gate.proofs.reader.read_of.Statement.{statement}
 use Rattle.log_gate.proofs.reader.read_of.Tie as tie
-use Rattle.log_gate.proofs.reader.read_of.Reads as reads
-use Rattle.log_gate.proofs.reader.read_of.Lts as lts
 
 enum-told : tie.Need-enum-told
 enum-told c = search needs
@@ -14,10 +12,12 @@ enum-known-event : tie.Need-enum-known-event
 enum-known-event c = search needs
 
 returns : tie.Need-returns
-returns c = ap (readOf ((c .before .before .args) .refusal)) (sym ((c .enum-told) .given .1))
+returns c = ap (readOf (c .before .before .args .refusal)) (sym (c .enum-told .given .1))
 
 returns-2 : tie.Need-returns-2
-returns-2 c = ap (readOf ((c .before .before .before .args) .refusal)) (sym ((c .before .event) .given .1))
+returns-2 c =
+    let args = c .before .before .before .args in
+    ap (readOf (args .refusal)) (sym (c .before .event .given .1))
 
 pub read-of-spec : {M : Type 1} → statement M
 read-of-spec = tie.close (tie.spec enum-told enum-known-event returns returns-2)
