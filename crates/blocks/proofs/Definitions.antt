@@ -1,6 +1,6 @@
 -- Definitions in a block, one behind the other: read, kept, and looked at in one pass.
 use mathlib.Core.Path.{_≡_, refl, sym, ap, _∙_}
-use mathlib.Core.Bool.{Bool, true, false, cond, not, _&&_, _||_}
+use mathlib.Core.Bool.{Bool, true, false, not, _&&_, _||_}
 use mathlib.Core.List.{List, [], _∷_, _++_}
 use Prim.Native.Nat.{ℕ, zero, suc, _+_, _-_, _*_, _<_, _≤_}
 use native.Mathlib.Nat.{add-zero}
@@ -13,10 +13,8 @@ use borrow.Author.Tests.{eq-eqb, ne-eqb}
 use Rattle.document.specs.Areas.{bytesAt}
 use Rattle.document.specs.Values.{number, littleEndian}
 use Rattle.document.specs.declared.Variable.{Variable}
-use Rattle.document.specs.Variables.{anySizeZero, allMay, setSize, definitionIn, definitionsIn}
+use Rattle.document.specs.Variables.{anySizeZero, setSize, definitionIn, definitionsIn}
 use Rattle.variables.specs.State.{upTo}
-use Rattle.line.proofs.Cases.{split}
-use Rattle.blocks.specs.declared.bounds.Measured.{Measured}
 use Rattle.blocks.specs.Layout.{encodedDefinitions}
 use Rattle.blocks.specs.Measured.{areWithin, measured}
 use Rattle.blocks.proofs.Ranges.{bytes-cons, bytes-append}

@@ -1,12 +1,12 @@
 -- What is decoded and encoded again is the block as it was, part by part and whole.
-use mathlib.Core.Path.{_≡_, refl, sym, ap, _∙_}
+use mathlib.Core.Path.{_≡_, refl, ap, _∙_}
 use mathlib.Core.List.{List, [], _∷_, _++_}
 use Prim.Native.Nat.{ℕ, zero, suc, _+_, _<_, _≤_}
 use native.Mathlib.Omega.{arith}
 use lib.ListN.{length, getD, take}
 use Rattle.document.specs.Areas.{bytesAt}
 use Rattle.recorder.specs.declared.state.Run.{Run}
-use Rattle.blocks.specs.Layout.{decodedReceiver, decodedBody, decodedDefinitions, decodedVariables, decodedScope, decodedPlan, decodedRecorder, decodedInstruments, decoded, decodedReader, encodedReceiver, encodedDefinitions, encodedVariables, encodedScope, encodedNumbers, encodedRun, encodedRecorder, encodedInstruments, encoded, encodedReader}
+use Rattle.blocks.specs.Layout.{decodedReceiver, decodedDefinitions, decodedVariables, decodedScope, decodedPlan, decodedRecorder, decodedInstruments, decoded, decodedReader, encodedReceiver, encodedVariables, encodedScope, encodedNumbers, encodedRun, encodedRecorder, encodedInstruments, encoded, encodedReader}
 use Rattle.blocks.proofs.Ranges.{bytes-cons, bytes-append}
 use Rattle.blocks.proofs.Numbers.{number-kept}
 use Rattle.blocks.proofs.Definitions.{definitions-kept}

@@ -4,3 +4,4 @@ pub mod Definitions
 pub mod Within
 pub mod Parts
 pub mod Kept
+pub mod Back

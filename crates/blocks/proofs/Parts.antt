@@ -1,12 +1,13 @@
 -- The parts of a state one behind the other: how long each is, and that stores of the parts are a store of the whole.
 use mathlib.Core.Path.{_≡_, refl, sym, ap, _∙_}
 use mathlib.Core.List.{List, [], _∷_, _++_}
-use Prim.Native.Nat.{ℕ, suc, _+_, _*_, _≤_}
+use Prim.Native.Nat.{ℕ, _+_, _*_}
 use native.Mathlib.Omega.{arith}
 use lib.ListN.{length, set, replicate}
 use lib.Seq.{sets}
 use Rattle.document.specs.declared.Variable.{Variable}
 use Rattle.variables.specs.declared.Variables.{Variables}
+use Rattle.link.specs.declared.Receiver.{Receiver}
 use Rattle.scope.specs.declared.Scope.{Scope}
 use Rattle.recorder.specs.declared.state.Recorder.{Recorder}
 use Rattle.target.specs.Bounds.{fresh}
@@ -19,6 +20,14 @@ definitions-length (v ∷ vs) = omega (arith, definitions-length vs)
 
 pub variables-length : (v : Variables) → length (v .list) ≡ 8 → length (encodedVariables v) ≡ 41
 variables-length v e = omega (arith, definitions-length (v .list))
+
+pub scope-length : (s : Scope) → length (s .variables .list) ≡ 8 → length (encodedScope s) ≡ 41
+unfolding encodedScope
+scope-length s e = variables-length (s .variables) e
+
+pub receiver-length : (r : Receiver) → length (encodedReceiver r) ≡ 6
+unfolding encodedReceiver
+receiver-length r = refl
 
 -- two stores, the second where the first ends
 pub sets-two : (l xs ys : List ℕ) (i n j : ℕ) → length xs ≡ n → i + n ≡ j → sets l i (xs ++ ys) ≡ sets (sets l i xs) j ys

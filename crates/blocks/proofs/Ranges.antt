@@ -2,10 +2,10 @@
 use mathlib.Core.Path.{_≡_, refl, sym, ap, _∙_}
 use mathlib.Core.List.{List, [], _∷_, _++_, append-nil}
 use Prim.Native.Nat.{ℕ, zero, suc, _+_, _<_, _≤_, _-_}
-use native.Mathlib.Nat.{add-zero, add-suc, suc-add}
+use native.Mathlib.Nat.{add-zero}
 use native.Mathlib.Numerals.{add-one}
 use native.Mathlib.Omega.{arith}
-use lib.ListN.{length, getD, set, take, drop, replicate, length-append, length-take, length-drop, drop-of-length-le, length-set}
+use lib.ListN.{length, getD, set, take, drop, replicate, length-take, length-drop, drop-of-length-le, length-set}
 use lib.Seq.{sets, sets-eq, drop-set-lt, drop-cons, drop-drop, take-add, set-getD}
 use Rattle.document.specs.Areas.{bytesAt}
 

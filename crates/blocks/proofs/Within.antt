@@ -1,24 +1,20 @@
 -- The bounds of a state, test by test in the order of the code.
-use mathlib.Core.Path.{_≡_, refl, sym, ap, _∙_}
+use mathlib.Core.Path.{_≡_, refl, sym}
 use mathlib.Core.Bool.{Bool, true, false, not, _&&_}
-use mathlib.Core.List.{List, [], _∷_}
-use Prim.Native.Nat.{ℕ, _+_, _*_, _<_, _≤_}
-use native.Mathlib.Omega.{arith}
+use mathlib.Core.List.{List}
+use Prim.Native.Nat.{ℕ, _*_, _<_, _≤_}
 use lib.ListN.{getD, take, drop}
-use lib.Dec.{eqb, leb}
+use lib.Dec.{leb}
 use borrow.Author.Tests.{eq-eqb, ne-eqb, lt-leb, le-leb, lt-ltb, le-ltb}
-use Rattle.document.specs.declared.Variable.{Variable}
 use Rattle.document.specs.Areas.{mayBeRecorded}
 use Rattle.document.specs.Variables.{anySizeZero, allMay, definitionsIn, setSize}
-use Rattle.scope.specs.State as scope
 use Rattle.recorder.specs.declared.state.Plan.{Plan}
 use Rattle.recorder.specs.declared.state.Run.{Run}
 use Rattle.recorder.specs.Bounds.{triggerSound, variablesSound, planSound, watchSound, runSound}
+use Rattle.scope.specs.State as scope
 use Rattle.recorder.specs.Bounds as recorder
-use Rattle.variables.specs.declared.Variables.{Variables}
-use Rattle.blocks.specs.declared.bounds.Measured.{Measured}
 use Rattle.blocks.specs.Layout.{decodedDefinitions, decodedVariables, decodedScope, decodedPlan, decodedRun, decodedRecorder}
-use Rattle.blocks.specs.Measured.{areWithin, measured}
+use Rattle.blocks.specs.Measured.{areWithin}
 use Rattle.blocks.proofs.Definitions.{definitions-take}
 
 -- ---- the run

@@ -2,3 +2,4 @@ pub mod Stored
 pub mod Turns
 pub mod Settled
 pub mod Readings
+pub mod Outcomes

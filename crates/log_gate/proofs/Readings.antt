@@ -1,26 +1,24 @@
 -- The answer reader's calls, refused and taken.
-use mathlib.Core.Path.{_≡_, refl, sym, ap, subst, _∙_}
-use mathlib.Core.Bool.{Bool, true, false, true≢false}
+use mathlib.Core.Path.{_≡_, refl, sym, ap, _∙_}
+use mathlib.Core.Bool.{false, true≢false}
 use mathlib.Core.List.{List}
 use Prim.Native.Nat.{ℕ, _<_, _≤_}
 use native.Mathlib.Omega.{arith}
-use lib.Dec.{eqb, leb, ltb}
+use lib.Dec.{eqb, ltb}
 use lib.ListN.{length}
 use lib.Seq.{sets}
 use borrow.Author.Tests.{eq-eqb, ne-eqb, eqb-true, le-leb, lt-leb, lt-ltb, le-ltb}
 use Rattle.document.specs.Numbers.{taken, stateRefused, roomRefused, expectedRefused}
-use Rattle.document.specs.AnswerReader.{Brought, readRefusal, readBuffer, readRoomRefusal}
+use Rattle.document.specs.AnswerReader.{Brought, readRefusal, readRoomRefusal}
 use Rattle.document.specs.AnswerReader.Brought.{nothing, answer, wrong}
 use Rattle.line.proofs.Cases.{split}
 use Rattle.host.specs.declared.reader.AnswerReader.{AnswerReader}
-use Rattle.host.specs.declared.reader.Event.{Event}
-use Rattle.host.specs.declared.reader.Event.the-variants as event
 use Rattle.host.specs.declared.reader.Read.{Read}
-use Rattle.host.specs.Reader as host
 use Rattle.host.specs.Promises.{gives, readerRefusal, readResult, bufferLeft}
 use Rattle.blocks.specs.Layout.{decodedReader, encodedReader}
-use Rattle.log_gate.specs.declared.reader_calls.ReadByte.{ReadByte}
-use Rattle.log_gate.specs.Promises.{beginNumber, BeginDone, readNumber, readOf, ReadDone}
+use Rattle.host.specs.declared.reader.Event.the-variants as event
+use Rattle.host.specs.Reader as host
+use Rattle.log_gate.specs.Promises.{BeginDone, readOf, ReadDone}
 
 -- ---- the beginning
 

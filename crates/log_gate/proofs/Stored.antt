@@ -3,7 +3,7 @@ use mathlib.Core.Path.{_≡_, refl, sym, ap, _∙_}
 use mathlib.Core.List.{List, _++_, append-assoc}
 use Prim.Native.Nat.{ℕ, _+_, _<_, _≤_}
 use native.Mathlib.Omega.{arith}
-use lib.ListN.{length, getD, set, take, drop, length-set}
+use lib.ListN.{length, getD, set, take, length-set}
 use lib.Seq.{sets, length-sets, drop-set-lt}
 use Rattle.document.specs.Areas.{bytesAt}
 use Rattle.link.specs.declared.Receiver.{Receiver}
@@ -12,12 +12,8 @@ use Rattle.target.specs.declared.answering.Instruments.{Instruments}
 use Rattle.recorder.proofs.Bytes.{bytes-behind}
 use Rattle.blocks.specs.Layout.{decodedReceiver, decodedBody, decodedScope, decodedRecorder, decodedInstruments, encodedReceiver, encodedRun, encodedInstruments, encoded}
 use Rattle.blocks.proofs.Ranges.{bytes-length, bytes-append, sets-same, sets-set}
-use Rattle.blocks.proofs.Parts.{sets-two}
+use Rattle.blocks.proofs.Parts.{receiver-length, sets-two}
 use Rattle.blocks.proofs.Kept.{receiver-kept, scope-kept, recorder-kept, instruments-kept}
-
-receiver-length : (r : Receiver) → length (encodedReceiver r) ≡ 6
-unfolding encodedReceiver
-receiver-length r = refl
 
 module _ (block : List ℕ) (long : 181 ≤ length block) where
   parts-stored : (r : Receiver) (body rest : List ℕ) → length body ≡ 64

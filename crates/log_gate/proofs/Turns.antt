@@ -1,6 +1,5 @@
 -- A byte that nothing refuses, by the event that the receiver makes of it; and a tick.
 use mathlib.Core.Path.{_≡_, refl, sym, ap, subst, _∙_}
-use mathlib.Core.Bool.{Bool, true, false}
 use mathlib.Core.List.{List}
 use Prim.Native.Nat.{ℕ, _+_, _<_, _≤_}
 use lib.Dec.{eqb}
@@ -23,7 +22,7 @@ use Rattle.target.specs.declared.operating.Responded.{Responded}
 use Rattle.target.specs.State.{gateOf}
 use Rattle.target.specs.AnsweredHeld.{answeredHeld, instrumentsHeld}
 use Rattle.target.specs.Next.{Responds}
-use Rattle.target.specs.Calls.{Turn, withReceiver, silent, keeping, turn, tickedTarget}
+use Rattle.target.specs.Calls.{Turn, silent, turn, tickedTarget}
 use Rattle.target.proofs.TurnLaws.{nextOf, by-event}
 use Rattle.blocks.specs.Layout.{decodedReceiver, decodedBody, decodedRecorder, decodedInstruments, decoded, encodedReceiver, encodedRun, encodedInstruments, encoded}
 use Rattle.log_gate.specs.Turned.{answering, Turned}

@@ -20,8 +20,8 @@ use Rattle.host.specs.declared.reader.Read.{Read}
 use Rattle.host.specs.Reader as host
 use Rattle.host.specs.Promises.{gives, readerRefusal}
 use Rattle.blocks.specs.Layout.{stateLength, readerLength, decoded, encoded, decodedReader, encodedReader}
-use Rattle.log_gate.specs.declared.target_calls.Taken.{Taken}
-use Rattle.log_gate.specs.declared.reader_calls.ReadByte.{ReadByte}
+use Rattle.log_gate.specs.declared.byte.Taken.{Taken}
+use Rattle.log_gate.specs.declared.reader.ReadByte.{ReadByte}
 
 -- ---- the target
 

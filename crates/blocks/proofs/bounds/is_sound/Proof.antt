@@ -1,18 +1,12 @@
+-- Receiver, scope, recorder in turn.
+use mathlib.Core.Path.{sym, ap, _∙_}
+use borrow.Author.Tests.{not-true, not-false}
+use borrow.Author.Needs.{needs}
 use Rattle.target.proofs.TargetBounds.{receiver-outside, scope-outside, recorder-decides}
 use Rattle.link.specs.Bounds as link
 use Rattle.blocks.specs.Layout.{decoded}
-use borrow.Author.Tests.{not-true, not-false}
-use mathlib.Core.Path.{_≡_, refl, sym, ap, subst, _∙_}
-use native.Mathlib.Omega.{arith}
-use borrow.Author.Needs.{needs}
 use Rattle.blocks.proofs.bounds.is_sound.Statement.{statement}
 use Rattle.blocks.proofs.bounds.is_sound.Tie as tie
-use Rattle.blocks.proofs.bounds.is_sound.Reads as reads
-use Rattle.blocks.proofs.bounds.is_sound.Lts as lts
-use Rattle.blocks.proofs.bounds.is_recorder_sound.Reads as is-recorder-sound-reads
-use Rattle.blocks.proofs.bounds.is_scope_sound.Reads as is-scope-sound-reads
-use Rattle.blocks.proofs.reading.receiver_in.Reads as receiver-in-reads
-use Rattle.link.proofs.Receiver.is_sound.Reads as is-sound-reads
 
 receiver-in-requires : tie.Need-receiver-in-requires
 receiver-in-requires c κs = search needs
@@ -21,19 +15,30 @@ is-sound-requires : tie.Need-is-sound-requires
 is-sound-requires c κs = search needs
 
 returns : tie.Need-returns
-returns c = receiver-outside (decoded ((c .before .before .before .before .args) .block .now)) (sym (ap link.sound ((c .before .before .receiver-in) .ensures)) ∙ sym ((c .before .is-sound) .ensures) ∙ not-true _ ((c .if1) .taken))
+returns c =
+    let args = c .before .before .before .before .args in
+    receiver-outside (decoded (args .block .now)) (sym (ap link.sound (c .before .before .receiver-in .ensures)) ∙ sym (c .before .is-sound .ensures) ∙ not-true _ (c .if1 .taken))
 
 is-scope-sound-requires : tie.Need-is-scope-sound-requires
 is-scope-sound-requires c κs = search needs
 
 returns-2 : tie.Need-returns-2
-returns-2 c = scope-outside (decoded ((c .before .before .before .before .before .before .args) .block .now)) (sym (ap link.sound ((c .before .before .before .before .receiver-in) .ensures)) ∙ sym ((c .before .before .before .is-sound) .ensures) ∙ not-false _ ((c .before .before .if1) .left)) (sym ((c .before .is-scope-sound) .ensures) ∙ not-true _ ((c .if2) .taken))
+returns-2 c =
+    let args = c .before .before .before .before .before .before .args in
+    let receiver-in = c .before .before .before .before .receiver-in in
+    let is-sound = c .before .before .before .is-sound in
+    scope-outside (decoded (args .block .now)) (sym (ap link.sound (receiver-in .ensures)) ∙ sym (is-sound .ensures) ∙ not-false _ (c .before .before .if1 .left)) (sym (c .before .is-scope-sound .ensures) ∙ not-true _ (c .if2 .taken))
 
 is-recorder-sound-requires : tie.Need-is-recorder-sound-requires
 is-recorder-sound-requires c κs = search needs
 
 returns-3 : tie.Need-returns-3
-returns-3 c = (c .is-recorder-sound) .ensures ∙ recorder-decides (decoded ((c .before .before .before .before .before .before .before .args) .block .now)) (sym (ap link.sound ((c .before .before .before .before .before .receiver-in) .ensures)) ∙ sym ((c .before .before .before .before .is-sound) .ensures) ∙ not-false _ ((c .before .before .before .if1) .left)) (sym ((c .before .before .is-scope-sound) .ensures) ∙ not-false _ ((c .before .if2) .left))
+returns-3 c =
+    let args = c .before .before .before .before .before .before .before .args in
+    let receiver-in = c .before .before .before .before .before .receiver-in in
+    let is-sound = c .before .before .before .before .is-sound in
+    let if1 = c .before .before .before .if1 in
+    c .is-recorder-sound .ensures ∙ recorder-decides (decoded (args .block .now)) (sym (ap link.sound (receiver-in .ensures)) ∙ sym (is-sound .ensures) ∙ not-false _ (if1 .left)) (sym (c .before .before .is-scope-sound .ensures) ∙ not-false _ (c .before .if2 .left))
 
 pub is-sound-spec : {M : Type 1} → statement M
 is-sound-spec =

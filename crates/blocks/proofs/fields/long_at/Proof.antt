@@ -1,11 +1,9 @@
-use Rattle.blocks.proofs.Numbers.{number-four}
+-- Four bytes, each worth 256 of the one before it.
 use native.Mathlib.Omega.{arith}
 use borrow.Author.Needs.{needs}
+use Rattle.blocks.proofs.Numbers.{number-four}
 use Rattle.blocks.proofs.fields.long_at.Statement.{statement}
 use Rattle.blocks.proofs.fields.long_at.Tie as tie
-use Rattle.blocks.proofs.fields.long_at.Reads as reads
-use Rattle.blocks.proofs.fields.long_at.Lts as lts
-use Rattle.blocks.proofs.fields.wide_long.Reads as wide-long-reads
 
 shared-slice-read-wide-long : tie.Need-shared-slice-read-wide-long
 shared-slice-read-wide-long c = search needs
@@ -59,7 +57,11 @@ add-result-3 : tie.Need-add-result-3
 add-result-3 c = search needs
 
 returns : tie.Need-returns
-returns c = let a = c .before .before .before .before .before .before .before .before .before .args in omega (arith, number-four (a .block .now) (a .at) (omega arith), c .before .before .before .before .before .before .wide-long .ensures .0, c .before .before .before .before .wide-long2 .ensures .0, c .before .before .wide-long3 .ensures .0, c .wide-long4 .ensures .0)
+returns c =
+    let args = c .before .before .before .before .before .before .before .before .before .args in
+    let wide-long = c .before .before .before .before .before .before .wide-long in
+    let wide-long2 = c .before .before .before .before .wide-long2 in
+    let a = args in omega (arith, number-four (a .block .now) (a .at) (omega arith), wide-long .ensures .0, wide-long2 .ensures .0, c .before .before .wide-long3 .ensures .0, c .wide-long4 .ensures .0)
 
 pub long-at-spec : {M : Type 1} → statement M
 long-at-spec =

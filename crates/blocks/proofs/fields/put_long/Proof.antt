@@ -1,12 +1,11 @@
+-- Four stores, one behind the other.
 use Prim.Native.Nat.{_/_, _%_}
-use Rattle.blocks.proofs.Ranges.{four-set}
-use lib.ListN.{length-set}
 use native.Mathlib.Omega.{arith}
+use lib.ListN.{length-set}
 use borrow.Author.Needs.{needs}
+use Rattle.blocks.proofs.Ranges.{four-set}
 use Rattle.blocks.proofs.fields.put_long.Statement.{statement}
 use Rattle.blocks.proofs.fields.put_long.Tie as tie
-use Rattle.blocks.proofs.fields.put_long.Reads as reads
-use Rattle.blocks.proofs.fields.put_long.Lts as lts
 
 cast-block : tie.Need-cast-block
 cast-block c = search needs

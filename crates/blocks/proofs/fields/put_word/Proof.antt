@@ -1,12 +1,11 @@
+-- Two stores, one behind the other.
 use Prim.Native.Nat.{_/_, _%_}
-use Rattle.blocks.proofs.Ranges.{two-set}
-use lib.ListN.{length-set}
 use native.Mathlib.Omega.{arith}
+use lib.ListN.{length-set}
 use borrow.Author.Needs.{needs}
+use Rattle.blocks.proofs.Ranges.{two-set}
 use Rattle.blocks.proofs.fields.put_word.Statement.{statement}
 use Rattle.blocks.proofs.fields.put_word.Tie as tie
-use Rattle.blocks.proofs.fields.put_word.Reads as reads
-use Rattle.blocks.proofs.fields.put_word.Lts as lts
 
 cast-block : tie.Need-cast-block
 cast-block c = search needs

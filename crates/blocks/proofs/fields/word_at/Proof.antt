@@ -1,11 +1,9 @@
-use Rattle.blocks.proofs.Numbers.{number-two}
+-- Two bytes, the second worth 256 of the first.
 use native.Mathlib.Omega.{arith}
 use borrow.Author.Needs.{needs}
+use Rattle.blocks.proofs.Numbers.{number-two}
 use Rattle.blocks.proofs.fields.word_at.Statement.{statement}
 use Rattle.blocks.proofs.fields.word_at.Tie as tie
-use Rattle.blocks.proofs.fields.word_at.Reads as reads
-use Rattle.blocks.proofs.fields.word_at.Lts as lts
-use Rattle.blocks.proofs.fields.wide_word.Reads as wide-word-reads
 
 shared-slice-read-wide-word : tie.Need-shared-slice-read-wide-word
 shared-slice-read-wide-word c = search needs
@@ -29,7 +27,9 @@ add-result : tie.Need-add-result
 add-result c = search needs
 
 returns : tie.Need-returns
-returns c = let a = c .before .before .before .before .before .args in omega (arith, number-two (a .block .now) (a .at) (omega arith), c .before .before .wide-word .ensures .0, c .wide-word2 .ensures .0)
+returns c =
+    let args = c .before .before .before .before .before .args in
+    let a = args in omega (arith, number-two (a .block .now) (a .at) (omega arith), c .before .before .wide-word .ensures .0, c .wide-word2 .ensures .0)
 
 pub word-at-spec : {M : Type 1} → statement M
 word-at-spec =

@@ -1,16 +1,14 @@
-use lib.ListN.{replicate, length-set}
-use Rattle.blocks.proofs.Ranges.{sets-whole, bytes-length, range-read}
+-- What is left to read gives the whole.
+use mathlib.Core.Path.{_≡_, refl, _∙_}
+use Prim.Native.Nat.{_+_, _-_, _≤_}
+use native.Mathlib.Omega.{arith}
+use lib.ListN.{replicate, length-set, length}
+use lib.Seq.{sets}
 use borrow.Author.Needs.{needs}
 use Rattle.document.specs.Areas.{bytesAt}
-use lib.Seq.{sets}
-use lib.ListN.{length, drop}
-use Prim.Native.Nat.{_+_, _-_, _*_, _≤_}
-use mathlib.Core.Path.{_≡_, refl, sym, ap, _∙_}
-use native.Mathlib.Omega.{arith}
+use Rattle.blocks.proofs.Ranges.{sets-whole, bytes-length, range-read}
 use Rattle.blocks.proofs.reading.body_in.Statement.{statement}
 use Rattle.blocks.proofs.reading.body_in.Tie as tie
-use Rattle.blocks.proofs.reading.body_in.Reads as reads
-use Rattle.blocks.proofs.reading.body_in.Lts as lts
 
 abbrev Inv-loop : tie.InvT-loop
 Inv-loop block body₀ k₀ body k = (k ≤ 64) × (length body ≡ 64) × (sets body k (bytesAt block (6 + k) (64 - k)) ≡ bytesAt block 6 64)
@@ -37,7 +35,9 @@ loop-less : tie.Need-loop-less Inv-loop μ-loop
 loop-less c = search needs
 
 loop-again : tie.Need-loop-again Inv-loop μ-loop
-loop-again c = let a = c .before .before .before .args in let l = c .before .before .loop in (omega arith, simp length-set (omega arith), range-read (a .block .now) (l .body) 6 64 (l .k) (omega arith) (omega arith) ∙ l .inv .2)
+loop-again c =
+    let args = c .before .before .before .args in
+    let a = args in let l = c .before .before .loop in (omega arith, simp length-set (omega arith), range-read (a .block .now) (l .body) 6 64 (l .k) (omega arith) (omega arith) ∙ l .inv .2)
 
 returns : tie.Need-returns Inv-loop μ-loop
 returns c = let z : 64 - c .before .loop .k ≡ 0 = omega arith in rw z at (c .before .loop .inv .2)

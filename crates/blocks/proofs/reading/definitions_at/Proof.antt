@@ -1,18 +1,16 @@
-use Rattle.blocks.specs.Layout.{decodedDefinitions}
-use Rattle.blocks.proofs.Definitions.{definitions-read}
-use borrow.Author.Needs.{needs}
-use Rattle.document.specs.Variables.{definitionsIn}
-use lib.Seq.{sets}
-use lib.ListN.{length, drop, length-set}
-use Prim.Native.Nat.{_+_, _-_, _*_, _≤_}
+-- What is left to read gives the whole.
 use mathlib.Core.Bool.{true}
 use mathlib.Core.Path.{_≡_, refl, _∙_}
+use Prim.Native.Nat.{_+_, _-_, _*_, _≤_}
 use native.Mathlib.Omega.{arith}
+use lib.Seq.{sets}
+use lib.ListN.{length, drop, length-set}
+use borrow.Author.Needs.{needs}
+use Rattle.document.specs.Variables.{definitionsIn}
+use Rattle.blocks.specs.Layout.{decodedDefinitions}
+use Rattle.blocks.proofs.Definitions.{definitions-read}
 use Rattle.blocks.proofs.reading.definitions_at.Statement.{statement}
 use Rattle.blocks.proofs.reading.definitions_at.Tie as tie
-use Rattle.blocks.proofs.reading.definitions_at.Reads as reads
-use Rattle.blocks.proofs.reading.definitions_at.Lts as lts
-use Rattle.blocks.proofs.reading.definition_at.Reads as definition-at-reads
 
 abbrev Inv-loop : tie.InvT-loop
 Inv-loop block from list₀ at₀ k₀ list at k = (k ≤ 8) × (length list ≡ 8) × (at ≡ from + 5 * k) × (sets list k (definitionsIn true (8 - k) (drop at block)) ≡ decodedDefinitions block from)
@@ -43,7 +41,9 @@ loop-less : tie.Need-loop-less Inv-loop μ-loop
 loop-less c = search needs
 
 loop-again : tie.Need-loop-again Inv-loop μ-loop
-loop-again c = let l = c .before .before .loop in (omega arith, simp length-set (omega arith), omega arith, definitions-read (c .before .before .before .before .args .block .now) (l .at) (l .k) (l .list) (c .definition-at .result) (omega arith) (c .definition-at .ensures) ∙ l .inv .3)
+loop-again c =
+    let args = c .before .before .before .before .args in
+    let l = c .before .before .loop in (omega arith, simp length-set (omega arith), omega arith, definitions-read (args .block .now) (l .at) (l .k) (l .list) (c .definition-at .result) (omega arith) (c .definition-at .ensures) ∙ l .inv .3)
 
 returns : tie.Need-returns Inv-loop μ-loop
 returns c = let z : 8 - c .before .loop .k ≡ 0 = omega arith in rw z at (c .before .loop .inv .3)

@@ -1,13 +1,8 @@
+-- Each field as it was read.
 use lib.ListN.{getD}
-use native.Mathlib.Omega.{arith}
 use borrow.Author.Needs.{needs}
 use Rattle.blocks.proofs.reading.plan_in.Statement.{statement}
 use Rattle.blocks.proofs.reading.plan_in.Tie as tie
-use Rattle.blocks.proofs.reading.plan_in.Reads as reads
-use Rattle.blocks.proofs.reading.plan_in.Lts as lts
-use Rattle.blocks.proofs.fields.long_at.Reads as long-at-reads
-use Rattle.blocks.proofs.fields.word_at.Reads as word-at-reads
-use Rattle.blocks.proofs.reading.variables_at.Reads as variables-at-reads
 
 variables-at-requires : tie.Need-variables-at-requires
 variables-at-requires c κs = search needs
@@ -37,7 +32,13 @@ long-at-requires-2 : tie.Need-long-at-requires-2
 long-at-requires-2 c κs = search needs
 
 returns : tie.Need-returns
-returns c = let l = ((c .before .before .before .before .before .before .before .before .before .before .args) .block .now) in λ i. record { samples = (c .before .before .before .before .before .before .before .word-at) .ensures i; «post_trigger» = (c .before .before .before .before .before .before .word-at2) .ensures i; divider = (c .before .before .before .before .before .word-at3) .ensures i; mode = getD l 112 0; size = getD l 123 0; sign = getD l 124 0; address = (c .before .long-at) .ensures i; threshold = (c .long-at2) .ensures i; variables = (c .before .before .before .before .before .before .before .before .variables-at) .ensures i }
+returns c =
+    let args = c .before .before .before .before .before .before .before .before .before .before .args in
+    let variables-at = c .before .before .before .before .before .before .before .before .variables-at in
+    let word-at = c .before .before .before .before .before .before .before .word-at in
+    let word-at2 = c .before .before .before .before .before .before .word-at2 in
+    let word-at3 = c .before .before .before .before .before .word-at3 in
+    let l = (args .block .now) in λ i. record { samples = word-at .ensures i; «post_trigger» = word-at2 .ensures i; divider = word-at3 .ensures i; mode = getD l 112 0; size = getD l 123 0; sign = getD l 124 0; address = c .before .long-at .ensures i; threshold = c .long-at2 .ensures i; variables = variables-at .ensures i }
 
 pub plan-in-spec : {M : Type 1} → statement M
 plan-in-spec =

@@ -1,12 +1,9 @@
+-- Each field as it was read.
 use lib.ListN.{getD}
-use Rattle.blocks.specs.Layout.{decodedReader}
-use native.Mathlib.Omega.{arith}
 use borrow.Author.Needs.{needs}
+use Rattle.blocks.specs.Layout.{decodedReader}
 use Rattle.blocks.proofs.reading.reader_in.Statement.{statement}
 use Rattle.blocks.proofs.reading.reader_in.Tie as tie
-use Rattle.blocks.proofs.reading.reader_in.Reads as reads
-use Rattle.blocks.proofs.reading.reader_in.Lts as lts
-use Rattle.blocks.proofs.reading.body_in.Reads as body-in-reads
 
 body-in-requires : tie.Need-body-in-requires
 body-in-requires c κs = search needs
@@ -31,7 +28,10 @@ shared-slice-read-t14 c = search needs
 
 returns : tie.Need-returns
 unfolding decodedReader
-returns c = let l = ((c .before .before .before .before .before .before .before .before .args) .block .now) in λ i. record { waiting = getD l 0 0; phase = getD l 1 0; status = getD l 2 0; expected = getD l 3 0; have = getD l 4 0; sum = getD l 5 0; body = (c .before .before .before .before .before .before .body-in) .ensures i }
+returns c =
+    let args = c .before .before .before .before .before .before .before .before .args in
+    let body-in = c .before .before .before .before .before .before .body-in in
+    let l = (args .block .now) in λ i. record { waiting = getD l 0 0; phase = getD l 1 0; status = getD l 2 0; expected = getD l 3 0; have = getD l 4 0; sum = getD l 5 0; body = body-in .ensures i }
 
 pub reader-in-spec : {M : Type 1} → statement M
 reader-in-spec =

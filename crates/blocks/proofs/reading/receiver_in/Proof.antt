@@ -1,11 +1,9 @@
+-- Each field as it was read.
 use mathlib.Core.Path.{refl}
-use Rattle.blocks.specs.Layout.{decodedReceiver}
-use native.Mathlib.Omega.{arith}
 use borrow.Author.Needs.{needs}
+use Rattle.blocks.specs.Layout.{decodedReceiver}
 use Rattle.blocks.proofs.reading.receiver_in.Statement.{statement}
 use Rattle.blocks.proofs.reading.receiver_in.Tie as tie
-use Rattle.blocks.proofs.reading.receiver_in.Reads as reads
-use Rattle.blocks.proofs.reading.receiver_in.Lts as lts
 
 shared-slice-read-t3 : tie.Need-shared-slice-read-t3
 shared-slice-read-t3 c = search needs

@@ -1,12 +1,8 @@
+-- Each field as it was read.
 use lib.ListN.{getD}
-use native.Mathlib.Omega.{arith}
 use borrow.Author.Needs.{needs}
 use Rattle.blocks.proofs.reading.run_in.Statement.{statement}
 use Rattle.blocks.proofs.reading.run_in.Tie as tie
-use Rattle.blocks.proofs.reading.run_in.Reads as reads
-use Rattle.blocks.proofs.reading.run_in.Lts as lts
-use Rattle.blocks.proofs.fields.long_at.Reads as long-at-reads
-use Rattle.blocks.proofs.fields.word_at.Reads as word-at-reads
 
 shared-slice-read-t3 : tie.Need-shared-slice-read-t3
 shared-slice-read-t3 c = search needs
@@ -27,7 +23,9 @@ long-at-requires : tie.Need-long-at-requires
 long-at-requires c κs = search needs
 
 returns : tie.Need-returns
-returns c = let l = c .before .before .before .before .before .before .before .args .block .now in λ i. record { running = getD l 170 0; full = getD l 171 0; watch = getD l 172 0; wait = c .before .before .word-at .ensures i; place = c .before .word-at2 .ensures i; value = c .long-at .ensures i }
+returns c =
+    let args = c .before .before .before .before .before .before .before .args in
+    let l = args .block .now in λ i. record { running = getD l 170 0; full = getD l 171 0; watch = getD l 172 0; wait = c .before .before .word-at .ensures i; place = c .before .word-at2 .ensures i; value = c .long-at .ensures i }
 
 pub run-in-spec : {M : Type 1} → statement M
 run-in-spec =

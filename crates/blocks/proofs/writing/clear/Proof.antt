@@ -1,15 +1,14 @@
+-- What is left to clear gives the whole.
+use mathlib.Core.Path.{_≡_, refl, _∙_}
+use Prim.Native.Nat.{_+_, _-_, _≤_}
 use native.Mathlib.Nat.{add-zero, sub-zero}
-use Rattle.blocks.proofs.Ranges.{clear-next}
-use borrow.Author.Needs.{needs}
+use native.Mathlib.Omega.{arith}
 use lib.Seq.{sets}
 use lib.ListN.{length, replicate, length-set}
-use Prim.Native.Nat.{_+_, _-_, _≤_}
-use mathlib.Core.Path.{_≡_, refl, ap, _∙_}
-use native.Mathlib.Omega.{arith}
+use borrow.Author.Needs.{needs}
+use Rattle.blocks.proofs.Ranges.{clear-next}
 use Rattle.blocks.proofs.writing.clear.Statement.{statement}
 use Rattle.blocks.proofs.writing.clear.Tie as tie
-use Rattle.blocks.proofs.writing.clear.Reads as reads
-use Rattle.blocks.proofs.writing.clear.Lts as lts
 
 abbrev Inv-loop : tie.InvT-loop
 Inv-loop block₀ from n k₀ block k = (k ≤ n) × (length block ≡ length block₀) × (sets block (from + k) (replicate (n - k) 0) ≡ sets block₀ from (replicate n 0))
@@ -39,7 +38,7 @@ same-length : tie.Need-same-length Inv-loop μ-loop
 same-length c = search needs
 
 returns : tie.Need-returns Inv-loop μ-loop
-returns c = let z : (c .before .before .args) .n - (c .before .loop) .k ≡ 0 = omega arith in rw z at ((c .before .loop) .inv .2)
+returns c = let z : c .before .before .args .n - c .before .loop .k ≡ 0 = omega arith in rw z at (c .before .loop .inv .2)
 
 pub clear-spec : {M : Type 1} → statement M
 clear-spec =

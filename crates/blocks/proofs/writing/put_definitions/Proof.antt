@@ -1,19 +1,15 @@
-use lib.ListN.{length-map, drop-of-length-le}
-use Prim.Native.Nat.{ℕ}
+-- What is left to write gives the whole.
 use mathlib.Core.List.{List}
-use Rattle.blocks.proofs.Definitions.{definitions-put}
-use borrow.Author.Needs.{needs}
-use Rattle.blocks.specs.Layout.{encodedDefinitions}
-use lib.Seq.{sets}
-use lib.ListN.{length, drop, length-set}
-use Prim.Native.Nat.{_+_, _-_, _*_, _≤_}
 use mathlib.Core.Path.{_≡_, refl, ap, _∙_}
+use Prim.Native.Nat.{ℕ, _+_, _-_, _*_, _≤_}
 use native.Mathlib.Omega.{arith}
+use lib.ListN.{length-map, drop-of-length-le, length, drop, length-set}
+use lib.Seq.{sets}
+use borrow.Author.Needs.{needs}
+use Rattle.blocks.proofs.Definitions.{definitions-put}
+use Rattle.blocks.specs.Layout.{encodedDefinitions}
 use Rattle.blocks.proofs.writing.put_definitions.Statement.{statement}
 use Rattle.blocks.proofs.writing.put_definitions.Tie as tie
-use Rattle.blocks.proofs.writing.put_definitions.Reads as reads
-use Rattle.blocks.proofs.writing.put_definitions.Lts as lts
-use Rattle.blocks.proofs.fields.put_long.Reads as put-long-reads
 
 abbrev Inv-loop : tie.InvT-loop
 Inv-loop block₀ from v at₀ k₀ block at k = (k ≤ 8) × (length block ≡ length block₀) × (at ≡ from + 5 * k) × (sets block at (encodedDefinitions (drop k (v .list))) ≡ sets block₀ from (encodedDefinitions (v .list)))
@@ -53,7 +49,10 @@ loop-less : tie.Need-loop-less Inv-loop μ-loop
 loop-less c = search needs
 
 loop-again : tie.Need-loop-again Inv-loop μ-loop
-loop-again c = let s = c .before .before .before .before .before .before .before .before in let l = c .before .before .before .before .before .before .loop in (omega arith, c .before .before .put-long .kept .0 ∙ simp length-set (l .inv .1), omega arith, ap (λ (b : List ℕ). sets b (l .at + 5) (encodedDefinitions (drop (l .k + 1) (s .args .t3 .list)))) (c .before .before .put-long .ensures) ∙ definitions-put (s .args .t3 .list) (l .block) (l .at) (l .k) _ (omega (arith, eight s)) refl ∙ l .inv .3)
+loop-again c =
+    let loop = c .before .before .before .before .before .before .loop in
+    let put-long = c .before .before .put-long in
+    let s = c .before .before .before .before .before .before .before .before in let l = loop in (omega arith, put-long .kept .0 ∙ simp length-set (l .inv .1), omega arith, ap (λ (b : List ℕ). sets b (l .at + 5) (encodedDefinitions (drop (l .k + 1) (s .args .t3 .list)))) (put-long .ensures) ∙ definitions-put (s .args .t3 .list) (l .block) (l .at) (l .k) _ (omega (arith, eight s)) refl ∙ l .inv .3)
 
 same-length : tie.Need-same-length Inv-loop μ-loop
 same-length c = search needs

@@ -1,11 +1,10 @@
-use lib.ListN.{length-set}
+-- Six stores, one behind the other.
 use mathlib.Core.Path.{refl}
 use native.Mathlib.Omega.{arith}
+use lib.ListN.{length-set}
 use borrow.Author.Needs.{needs}
 use Rattle.blocks.proofs.writing.put_head.Statement.{statement}
 use Rattle.blocks.proofs.writing.put_head.Tie as tie
-use Rattle.blocks.proofs.writing.put_head.Reads as reads
-use Rattle.blocks.proofs.writing.put_head.Lts as lts
 
 slice-write-block : tie.Need-slice-write-block
 slice-write-block c = search needs

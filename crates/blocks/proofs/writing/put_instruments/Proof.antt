@@ -1,18 +1,14 @@
-use Rattle.blocks.proofs.Parts.{sets-two, variables-length}
-use lib.Seq.{sets}
-use lib.ListN.{length-map}
-use Prim.Native.Nat.{ℕ}
+-- Two stores, the second where the first ends.
 use mathlib.Core.List.{List}
 use mathlib.Core.Path.{refl, sym, ap, _∙_}
-use Rattle.blocks.specs.Layout.{encodedScope, encodedRecorder}
-use native.Mathlib.Omega.{arith}
+use Prim.Native.Nat.{ℕ}
+use lib.Seq.{sets}
+use lib.ListN.{length-map}
 use borrow.Author.Needs.{needs}
+use Rattle.blocks.proofs.Parts.{sets-two, variables-length}
+use Rattle.blocks.specs.Layout.{encodedScope, encodedRecorder}
 use Rattle.blocks.proofs.writing.put_instruments.Statement.{statement}
 use Rattle.blocks.proofs.writing.put_instruments.Tie as tie
-use Rattle.blocks.proofs.writing.put_instruments.Reads as reads
-use Rattle.blocks.proofs.writing.put_instruments.Lts as lts
-use Rattle.blocks.proofs.writing.put_recorder.Reads as put-recorder-reads
-use Rattle.blocks.proofs.writing.put_variables.Reads as put-variables-reads
 
 put-variables-requires : tie.Need-put-variables-requires
 put-variables-requires c κs = search needs
@@ -25,7 +21,11 @@ same-length c = search needs
 
 returns : tie.Need-returns
 unfolding encodedScope
-returns c = let i = (c .before .before .before .before .before .before .before .before .before .before .before .before .args) .instruments in (c .before .before .put-recorder) .ensures ∙ ap (λ (k : List ℕ). sets k 111 (encodedRecorder (i .recorder))) ((c .before .before .before .before .before .before .put-variables) .ensures) ∙ sym (sets-two ((c .before .before .before .before .before .before .before .before .before .before .before .before .args) .block .now) (encodedScope (i .scope)) (encodedRecorder (i .recorder)) 70 41 111 (variables-length (i .scope .variables) (rw length-map at ((c .before .before .before .before .before .before .before .before .before .before .before .before .good) .1 .0 .1 .1 .0 .1 .1 .0 .1 .1 .1 .0 .1 .0 .1))) refl)
+returns c =
+    let args = c .before .before .before .before .before .before .before .before .before .before .before .before .args in
+    let good = c .before .before .before .before .before .before .before .before .before .before .before .before .good in
+    let put-variables = c .before .before .before .before .before .before .put-variables in
+    let i = args .instruments in c .before .before .put-recorder .ensures ∙ ap (λ (k : List ℕ). sets k 111 (encodedRecorder (i .recorder))) (put-variables .ensures) ∙ sym (sets-two (args .block .now) (encodedScope (i .scope)) (encodedRecorder (i .recorder)) 70 41 111 (variables-length (i .scope .variables) (rw length-map at (good .1 .0 .1 .1 .0 .1 .1 .0 .1 .1 .1 .0 .1 .0 .1))) refl)
 
 pub put-instruments-spec : {M : Type 1} → statement M
 put-instruments-spec =

@@ -1,11 +1,8 @@
-use Rattle.blocks.specs.Layout.{encodedReceiver}
-use native.Mathlib.Omega.{arith}
+-- The head is the receiver.
 use borrow.Author.Needs.{needs}
+use Rattle.blocks.specs.Layout.{encodedReceiver}
 use Rattle.blocks.proofs.writing.put_receiver.Statement.{statement}
 use Rattle.blocks.proofs.writing.put_receiver.Tie as tie
-use Rattle.blocks.proofs.writing.put_receiver.Reads as reads
-use Rattle.blocks.proofs.writing.put_receiver.Lts as lts
-use Rattle.blocks.proofs.writing.put_head.Reads as put-head-reads
 
 put-head-requires : tie.Need-put-head-requires
 put-head-requires c κs = search needs
@@ -15,7 +12,7 @@ same-length c = search needs
 
 returns : tie.Need-returns
 unfolding encodedReceiver
-returns c = (c .before .before .put-head) .ensures
+returns c = c .before .before .put-head .ensures
 
 pub put-receiver-spec : {M : Type 1} → statement M
 put-receiver-spec = tie.close (tie.spec put-head-requires same-length returns)

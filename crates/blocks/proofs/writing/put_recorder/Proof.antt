@@ -1,20 +1,14 @@
-use Rattle.blocks.proofs.Parts.{recorder-put}
-use lib.Seq.{sets}
-use lib.ListN.{length-map}
-use Prim.Native.Nat.{ℕ}
+-- Stores that meet are one store.
 use mathlib.Core.List.{List}
 use mathlib.Core.Path.{ap, _∙_}
-use Rattle.blocks.specs.Layout.{encodedRun, encodedVariables, encodedNumbers}
-use native.Mathlib.Omega.{arith}
+use Prim.Native.Nat.{ℕ}
+use lib.Seq.{sets}
+use lib.ListN.{length-map}
 use borrow.Author.Needs.{needs}
+use Rattle.blocks.proofs.Parts.{recorder-put}
+use Rattle.blocks.specs.Layout.{encodedRun, encodedVariables, encodedNumbers}
 use Rattle.blocks.proofs.writing.put_recorder.Statement.{statement}
 use Rattle.blocks.proofs.writing.put_recorder.Tie as tie
-use Rattle.blocks.proofs.writing.put_recorder.Reads as reads
-use Rattle.blocks.proofs.writing.put_recorder.Lts as lts
-use Rattle.blocks.proofs.fields.put_byte.Reads as put-byte-reads
-use Rattle.blocks.proofs.writing.put_numbers.Reads as put-numbers-reads
-use Rattle.blocks.proofs.writing.put_run.Reads as put-run-reads
-use Rattle.blocks.proofs.writing.put_variables.Reads as put-variables-reads
 
 put-byte-requires : tie.Need-put-byte-requires
 put-byte-requires c κs = search needs
@@ -32,7 +26,13 @@ same-length : tie.Need-same-length
 same-length c = search needs
 
 returns : tie.Need-returns
-returns c = let r = (c .before .before .before .before .before .before .before .before .before .before .before .before .before .before .before .before .before .before .before .before .args) .recorder in (c .before .before .put-run) .ensures ∙ ap (λ (k : List ℕ). sets k 170 (encodedRun (r .run))) ((c .before .before .before .before .before .before .put-variables) .ensures ∙ ap (λ (k : List ℕ). sets k 129 (encodedVariables (r .plan .variables))) ((c .before .before .before .before .before .before .before .before .before .before .put-numbers) .ensures ∙ ap (λ (k : List ℕ). sets k 112 (encodedNumbers (r .plan))) ((c .before .before .before .before .before .before .before .before .before .before .before .before .before .before .put-byte) .ensures))) ∙ recorder-put ((c .before .before .before .before .before .before .before .before .before .before .before .before .before .before .before .before .before .before .before .before .args) .block .now) r (rw length-map at ((c .before .before .before .before .before .before .before .before .before .before .before .before .before .before .before .before .before .before .before .before .good) .1 .0 .1 .1 .1 .0 .1 .1 .1 .1 .1 .1 .1 .1 .1 .1 .0 .1 .1 .1 .0 .1 .0 .1))
+returns c =
+    let args = c .before .before .before .before .before .before .before .before .before .before .before .before .before .before .before .before .before .before .before .before .args in
+    let good = c .before .before .before .before .before .before .before .before .before .before .before .before .before .before .before .before .before .before .before .before .good in
+    let put-byte = c .before .before .before .before .before .before .before .before .before .before .before .before .before .before .put-byte in
+    let put-numbers = c .before .before .before .before .before .before .before .before .before .before .put-numbers in
+    let put-variables = c .before .before .before .before .before .before .put-variables in
+    let r = args .recorder in c .before .before .put-run .ensures ∙ ap (λ (k : List ℕ). sets k 170 (encodedRun (r .run))) (put-variables .ensures ∙ ap (λ (k : List ℕ). sets k 129 (encodedVariables (r .plan .variables))) (put-numbers .ensures ∙ ap (λ (k : List ℕ). sets k 112 (encodedNumbers (r .plan))) (put-byte .ensures))) ∙ recorder-put (args .block .now) r (rw length-map at (good .1 .0 .1 .1 .1 .0 .1 .1 .1 .1 .1 .1 .1 .1 .1 .1 .0 .1 .1 .1 .0 .1 .0 .1))
 
 pub put-recorder-spec : {M : Type 1} → statement M
 put-recorder-spec =

@@ -1,19 +1,14 @@
-use Rattle.document.specs.Values.{littleEndian}
+-- Stores that meet are one store.
+use mathlib.Core.List.{List}
+use mathlib.Core.Path.{ap, _∙_}
+use Prim.Native.Nat.{ℕ}
 use lib.Seq.{sets}
 use lib.ListN.{set}
-use Prim.Native.Nat.{ℕ}
-use mathlib.Core.List.{List}
-use mathlib.Core.Path.{_≡_, refl, sym, ap, subst, _∙_}
-use Rattle.blocks.specs.Layout.{encodedRun}
-use native.Mathlib.Omega.{arith}
 use borrow.Author.Needs.{needs}
+use Rattle.document.specs.Values.{littleEndian}
+use Rattle.blocks.specs.Layout.{encodedRun}
 use Rattle.blocks.proofs.writing.put_run.Statement.{statement}
 use Rattle.blocks.proofs.writing.put_run.Tie as tie
-use Rattle.blocks.proofs.writing.put_run.Reads as reads
-use Rattle.blocks.proofs.writing.put_run.Lts as lts
-use Rattle.blocks.proofs.fields.put_byte.Reads as put-byte-reads
-use Rattle.blocks.proofs.fields.put_long.Reads as put-long-reads
-use Rattle.blocks.proofs.fields.put_word.Reads as put-word-reads
 
 put-byte-requires : tie.Need-put-byte-requires
 put-byte-requires c κs = search needs
@@ -38,7 +33,14 @@ same-length c = search needs
 
 returns : tie.Need-returns
 unfolding encodedRun
-returns c = let r = (c .before .before .before .before .before .before .before .before .before .before .before .before .before .before .before .before .before .before .before .before .before .before .before .before .before .args) .run in (c .before .before .put-long) .ensures ∙ ap (λ (k : List ℕ). sets k 177 (littleEndian 4 (r .value))) ((c .before .before .before .before .before .before .put-word2) .ensures ∙ ap (λ (k : List ℕ). sets k 175 (littleEndian 2 (r .place))) ((c .before .before .before .before .before .before .before .before .before .before .put-word) .ensures ∙ ap (λ (k : List ℕ). sets k 173 (littleEndian 2 (r .wait))) ((c .before .before .before .before .before .before .before .before .before .before .before .before .before .before .put-byte3) .ensures ∙ ap (λ (k : List ℕ). set k 172 (r .watch)) ((c .before .before .before .before .before .before .before .before .before .before .before .before .before .before .before .before .before .before .put-byte2) .ensures ∙ ap (λ (k : List ℕ). set k 171 (r .full)) ((c .before .before .before .before .before .before .before .before .before .before .before .before .before .before .before .before .before .before .before .before .before .before .put-byte) .ensures)))))
+returns c =
+    let args = c .before .before .before .before .before .before .before .before .before .before .before .before .before .before .before .before .before .before .before .before .before .before .before .before .before .args in
+    let put-byte = c .before .before .before .before .before .before .before .before .before .before .before .before .before .before .before .before .before .before .before .before .before .before .put-byte in
+    let put-byte2 = c .before .before .before .before .before .before .before .before .before .before .before .before .before .before .before .before .before .before .put-byte2 in
+    let put-byte3 = c .before .before .before .before .before .before .before .before .before .before .before .before .before .before .put-byte3 in
+    let put-word = c .before .before .before .before .before .before .before .before .before .before .put-word in
+    let put-word2 = c .before .before .before .before .before .before .put-word2 in
+    let r = args .run in c .before .before .put-long .ensures ∙ ap (λ (k : List ℕ). sets k 177 (littleEndian 4 (r .value))) (put-word2 .ensures ∙ ap (λ (k : List ℕ). sets k 175 (littleEndian 2 (r .place))) (put-word .ensures ∙ ap (λ (k : List ℕ). sets k 173 (littleEndian 2 (r .wait))) (put-byte3 .ensures ∙ ap (λ (k : List ℕ). set k 172 (r .watch)) (put-byte2 .ensures ∙ ap (λ (k : List ℕ). set k 171 (r .full)) (put-byte .ensures)))))
 
 pub put-run-spec : {M : Type 1} → statement M
 put-run-spec =
