@@ -5,6 +5,7 @@ build scene_test tests/scene_test.c gate/scene.c
 $RUN_X86 $built/scene_test || fail "the scene"
 
 # It ends by itself after a minute of ticks, whatever becomes of this script.
+: >$built/gate.out
 $RUN_X86 $built/virtual_gate --seed 1 --ticks 60000 >$built/gate.out &
 gate=$!
 trap 'kill $gate 2>/dev/null || true' EXIT

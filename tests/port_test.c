@@ -16,7 +16,7 @@
 #include <time.h>
 #include <unistd.h>
 
-enum { PATIENCE = 2000 /* milliseconds for an answer */, TRIES = 2000 /* of ten milliseconds each, for the scene */ };
+enum { PATIENCE = 10000 /* milliseconds for an answer */, TRIES = 2000 /* of ten milliseconds each, for the scene */ };
 
 static int port;
 
