@@ -10,6 +10,8 @@
 #include <stdio.h>
 #include <stdlib.h>
 
+enum { SWEEPS = 8 };
+
 static uint64_t seed = 1, rounds = 400000, current;
 
 static void fail(const char *what)
@@ -146,6 +148,20 @@ static void throw_check(void)
     expect(refusal <= LOG_GATE_STATE_REFUSED, "check: another refusal");
     expect(state.length >= LOG_GATE_STATE || refusal == LOG_GATE_STATE_REFUSED, "check: takes a short state");
     expect(kept(&state), "check: a changed byte");
+}
+
+/* The live state with each byte at each value. */
+static void sweep(void)
+{
+    for (size_t at = 0; at < sizeof live; at++)
+        for (unsigned value = 0; value < 256; value++) {
+            uint8_t kept_byte = live[at];
+            live[at] = (uint8_t)value;
+            uint8_t refusal = log_gate_check(live, sizeof live);
+            count(CHECK, refusal);
+            live[at] = kept_byte;
+            expect(refusal == LOG_GATE_TAKEN || value != kept_byte, "check: refuses a state that a call left");
+        }
 }
 
 static void look_at_unfinished(void)
@@ -392,7 +408,7 @@ static void report(void)
     for (int status = 0; status < 256; status++)
         if (answers[status] > 0)
             printf(", %02X %llu", (unsigned)status, (unsigned long long)answers[status]);
-    printf("\nfuzz: seed %llu, %llu calls, none wrong, digest %016llx\n", (unsigned long long)seed,
+    printf("\nfuzz: seed %llu, %llu rounds, none wrong, digest %016llx\n", (unsigned long long)seed,
            (unsigned long long)rounds, (unsigned long long)digest);
 }
 
@@ -405,8 +421,11 @@ int main(int argc, char **argv)
     random_seed(seed);
     log_gate_reset(live, sizeof live);
     log_gate_reader_begin(live_reader, sizeof live_reader, 8);
-    for (current = 0; current < rounds; current++)
+    for (current = 0; current < rounds; current++) {
         throw_one();
+        if (current % (rounds / SWEEPS + 1) == 0)
+            sweep();
+    }
     report();
     return 0;
 }
