@@ -1,9 +1,9 @@
 -- The top bit of the status decides.
 use borrow.Author.Tests.{le-leb, lt-leb}
-use Rattle.host.proofs.step.data_length.Statement.{statement}
-use Rattle.host.proofs.step.data_length.Tie as tie
-use Rattle.host.proofs.step.data_length.Reads as reads
-use Rattle.host.proofs.step.data_length.Lts as lts
+use Rattle.host.proofs.head.data_length.Statement.{statement}
+use Rattle.host.proofs.head.data_length.Tie as tie
+use Rattle.host.proofs.head.data_length.Reads as reads
+use Rattle.host.proofs.head.data_length.Lts as lts
 
 returns : tie.Need-returns
 returns c = simp (le-leb _ _ (c .if1 .taken))

@@ -1,9 +1,9 @@
 -- One arm for each phase.
 use borrow.Author.Tests.{ne-eqb}
-use Rattle.host.proofs.step.is_at.Statement.{statement}
-use Rattle.host.proofs.step.is_at.Tie as tie
-use Rattle.host.proofs.step.is_at.Reads as reads
-use Rattle.host.proofs.step.is_at.Lts as lts
+use Rattle.host.proofs.head.is_at.Statement.{statement}
+use Rattle.host.proofs.head.is_at.Tie as tie
+use Rattle.host.proofs.head.is_at.Reads as reads
+use Rattle.host.proofs.head.is_at.Lts as lts
 
 returns : tie.Need-returns
 returns c = rw (c .match .keys1)

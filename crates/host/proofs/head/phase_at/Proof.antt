@@ -1,9 +1,9 @@
 -- Data where some are left, else the sum byte.
 use borrow.Author.Tests.{lt-ltb, le-ltb}
-use Rattle.host.proofs.step.phase_at.Statement.{statement}
-use Rattle.host.proofs.step.phase_at.Tie as tie
-use Rattle.host.proofs.step.phase_at.Reads as reads
-use Rattle.host.proofs.step.phase_at.Lts as lts
+use Rattle.host.proofs.head.phase_at.Statement.{statement}
+use Rattle.host.proofs.head.phase_at.Tie as tie
+use Rattle.host.proofs.head.phase_at.Reads as reads
+use Rattle.host.proofs.head.phase_at.Lts as lts
 
 returns : tie.Need-returns
 returns c = simp (lt-ltb _ _ (c .if1 .taken))
