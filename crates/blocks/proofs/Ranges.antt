@@ -1,12 +1,11 @@
 -- Bytes of a block by their places: one in front of others, two ranges that meet, and stores of what is there.
 use mathlib.Core.Path.{_≡_, refl, sym, ap, _∙_}
-use mathlib.Core.List.{List, [], _∷_, _++_, append-nil}
+use mathlib.Core.List.{List, [], _∷_, _++_}
 use Prim.Native.Nat.{ℕ, zero, suc, _+_, _<_, _≤_, _-_}
 use native.Mathlib.Nat.{add-zero}
-use native.Mathlib.Numerals.{add-one}
 use native.Mathlib.Omega.{arith}
-use lib.ListN.{length, getD, set, take, drop, replicate, length-take, length-drop, drop-of-length-le, length-set}
-use lib.Seq.{sets, sets-eq, drop-set-lt, drop-cons, drop-drop, take-add, set-getD}
+use lib.ListN.{length, getD, set, take, drop, replicate, length-take, length-drop, length-set}
+use lib.Seq.{sets, drop-set-lt, drop-cons, drop-drop, take-add, set-getD}
 use Rattle.document.specs.Areas.{bytesAt}
 
 module _ (l : List ℕ) where
@@ -28,21 +27,6 @@ sets-same (suc n) l i h =
     ap (sets l i) (sym (bytes-cons l i n (omega arith)))
     ∙ ap (λ (k : List ℕ). sets k (suc i) (bytesAt l (suc i) n)) (set-getD l i 0)
     ∙ sets-same n l (suc i) (omega arith)
-
--- a store over all there is
-pub sets-whole : (vs l : List ℕ) → length vs ≡ length l → sets l 0 vs ≡ vs
-sets-whole vs l e =
-    sets-eq vs l 0 (omega arith)
-    ∙ ap (λ (k : List ℕ). vs ++ k) (drop-of-length-le l {i = 0 + length vs} (omega arith))
-    ∙ append-nil vs
-
--- a turn of reading a range into a list
-pub range-read : (l list : List ℕ) (from n k : ℕ) → k < n → from + n ≤ length l
-    → sets (set list k (getD l (from + k) 0)) (k + 1) (bytesAt l (from + (k + 1)) (n - (k + 1))) ≡ sets list k (bytesAt l (from + k) (n - k))
-range-read l list from n k h fits =
-    let m : n - k ≡ suc (n - (k + 1)) = omega arith in
-    let f : from + (k + 1) ≡ suc (from + k) = omega arith in
-    rw (m, f, add-one k, drop-cons l (from + k) 0 (omega arith))
 
 -- stores of single bytes, one behind the other
 module _ (l : List ℕ) (at : ℕ) where

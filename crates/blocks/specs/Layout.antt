@@ -15,6 +15,7 @@ use Rattle.recorder.specs.declared.state.Run.{Run}
 use Rattle.recorder.specs.declared.state.Recorder.{Recorder}
 use Rattle.target.specs.declared.answering.Instruments.{Instruments}
 use Rattle.target.specs.declared.state.Target.{Target}
+use Rattle.host.specs.declared.head.Head.{Head}
 use Rattle.host.specs.declared.reader.AnswerReader.{AnswerReader}
 
 -- how many bytes a target's state takes, and an answer reader's
@@ -138,6 +139,9 @@ encodedInstruments i = encodedScope (i .scope) ++ encodedRecorder (i .recorder)
 
 abbrev pub encoded : Target → List ℕ
 encoded t = encodedReceiver (t .receiver) ++ (t .body ++ encodedInstruments (t .instruments))
+
+abbrev pub encodedHead : Head → List ℕ
+encodedHead h = h .waiting ∷ h .phase ∷ h .status ∷ h .expected ∷ h .have ∷ h .sum ∷ []
 
 unfoldable pub encodedReader : AnswerReader → List ℕ
 encodedReader r =

@@ -2,9 +2,10 @@
 ghost use mathlib.Core.Path.{_≡_};
 ghost use mathlib.Core.Bool.{true};
 ghost use Prim.Native.Nat.{_+_, _≤_};
-ghost use lib.ListN.{length, getD, drop};
+ghost use lib.ListN.{length, drop};
 ghost use Rattle.document.specs.Areas.{bytesAt};
 ghost use Rattle.document.specs.Variables.{definitionIn};
+ghost use Rattle.host.specs.Head.{withBody};
 ghost use Rattle.blocks.specs.Layout.{decodedReceiver, decodedDefinitions, decodedVariables, decodedScope, decodedPlan, decodedRun, decodedRecorder, decodedReader};
 use crate::fields::long_at;
 use crate::fields::word_at;
@@ -119,32 +120,17 @@ pub fn instruments_in(block: &[u8]) -> target::Instruments
     }
 }
 
-// The 64 bytes behind a head of six.
-fn body_in(block: &[u8]) -> [u8; 64]
+// The head of a reader; its data stay where they lie.
+pub fn head_in(block: &[u8]) -> host::Head
     requires { ⌜ 70 ≤ length (now block) ⌝ }
-    ensures { λ r. ⌜ r ≡ bytesAt (now (block .entry)) 6 64 ⌝ }
+    ensures { λ r. ⌜ withBody r (bytesAt (now (block .entry)) 6 64) ≡ decodedReader (now (block .entry)) ⌝ }
 {
-    let mut body = [0u8; 64];
-    let mut k = 0;
-    while k < 64 {
-        body[k] = block[6 + k];
-        k += 1;
-    }
-    body
-}
-
-pub fn reader_in(block: &[u8]) -> host::AnswerReader
-    requires { ⌜ 70 ≤ length (now block) ⌝ }
-    ensures { λ r. ⌜ r ≡ decodedReader (now (block .entry)) ⌝ }
-{
-    let body = body_in(block);
-    host::AnswerReader {
+    host::Head {
         waiting: block[0],
         phase: block[1],
         status: block[2],
         expected: block[3],
         have: block[4],
         sum: block[5],
-        body,
     }
 }

@@ -1,12 +1,12 @@
 // From a state to its block. Who asks has seen that the block is long enough; bytes of other fields keep their values.
 ghost use mathlib.Core.Path.{_≡_};
 ghost use mathlib.Core.List.{[], _∷_};
-ghost use Prim.Native.Nat.{_+_, _*_, _≤_};
+ghost use Prim.Native.Nat.{_+_, _≤_};
 ghost use lib.ListN.{length, replicate};
 ghost use lib.Seq.{sets};
 ghost use Rattle.target.specs.Bounds.{fresh};
 ghost use Rattle.host.specs.Reader as reader;
-ghost use Rattle.blocks.specs.Layout.{encodedReceiver, encodedDefinitions, encodedVariables, encodedNumbers, encodedRun, encodedRecorder, encodedInstruments, encoded, encodedReader};
+ghost use Rattle.blocks.specs.Layout.{encodedReceiver, encodedDefinitions, encodedVariables, encodedNumbers, encodedRun, encodedRecorder, encodedInstruments, encoded, encodedHead, encodedReader};
 use crate::fields::put_byte;
 use crate::fields::put_long;
 use crate::fields::put_word;
@@ -141,19 +141,18 @@ pub fn begin_reader(block: &mut [u8], expected: u8)
     clear(block, 6, 64);
 }
 
-pub fn put_reader(block: &mut [u8], r: host::AnswerReader)
+// The head of a reader; its data stay as they are.
+pub fn put_reader_head(block: &mut [u8], h: host::Head)
     requires { ⌜ 70 ≤ length (now block) ⌝ }
-    ensures { λ _. ⌜ now (block .exit) ≡ sets (now (block .entry)) 0 (encodedReader r) ⌝ }
+    ensures { λ _. ⌜ now (block .exit) ≡ sets (now (block .entry)) 0 (encodedHead h) ⌝ }
 {
     put_head(
         block,
-        r.waiting,
-        r.phase,
-        r.status,
-        r.expected,
-        r.have,
-        r.sum,
+        h.waiting,
+        h.phase,
+        h.status,
+        h.expected,
+        h.have,
+        h.sum,
     );
-    let body = r.body;
-    memory::copy_in(block, 6, &body);
 }
