@@ -4,3 +4,4 @@ pub mod Bounds
 pub mod Reading
 pub mod Calls
 pub mod RoundTrip
+pub mod Heads

@@ -2,6 +2,7 @@
 ghost use mathlib.Core.Path.{_≡_};
 ghost use Rattle.host.specs.Reader.{sound, fresh};
 ghost use Rattle.host.specs.Promises.{BeginDone, ReadDone};
+use crate::head::IDLE;
 use crate::step;
 use codes::EXPECTED_REFUSED;
 use codes::ROOM_REFUSED;
@@ -45,7 +46,7 @@ fn fresh(expected: u8) -> AnswerReader
 {
     AnswerReader {
         waiting: 0,
-        phase: step::IDLE,
+        phase: IDLE,
         status: 0,
         expected: expected,
         have: 0,
@@ -81,14 +82,7 @@ impl AnswerReader {
     pub fn is_sound(self) -> bool
         ensures { λ r. ⌜ r ≡ sound self ⌝ }
     {
-        if self.waiting > 1 {
-            return false;
-        }
-        if self.expected > 64 {
-            return false;
-        }
-        let n = step::data_length(self.status, self.expected);
-        step::is_at(self.phase, self.have, n)
+        self.head().is_sound()
     }
 
     // A byte of the line. Data go into `out` with a whole right answer alone.

@@ -6,6 +6,7 @@ pub mod sum;
 pub use answer::write_answer;
 
 // What a writer did: with which number it refused, or how many bytes it wrote.
+#[repr(C)]
 pub struct Written {
     pub refusal: u8,
     pub length: usize,

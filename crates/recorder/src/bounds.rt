@@ -66,7 +66,7 @@ fn is_size_sound(mode: u8, size: u8) -> bool
     is_trigger_size(size)
 }
 
-fn is_trigger_sound(mode: u8, size: u8, sign: u8, address: u32, threshold: u32) -> bool
+pub fn is_trigger_sound(mode: u8, size: u8, sign: u8, address: u32, threshold: u32) -> bool
     ensures { λ r. ⌜ r ≡ triggerSound mode size sign address threshold ⌝ }
 {
     if mode > 2 {
@@ -103,7 +103,7 @@ fn are_variables_sound(samples: u16, v: Variables) -> bool
     wide_count(samples) * set_size(v) <= BUFFER_SIZE
 }
 
-fn is_watch_sound(size: u8, post: u16, running: u8, watch: u8, value: u32) -> bool
+pub fn is_watch_sound(size: u8, post: u16, running: u8, watch: u8, value: u32) -> bool
     requires { ⌜ size ≤ 4 ⌝ }
     ensures { λ r. ⌜ r ≡ watchSound size post running watch value ⌝ }
 {

@@ -8,6 +8,8 @@ mod tick;
 mod trigger;
 mod wide;
 
+pub use bounds::is_trigger_sound;
+pub use bounds::is_watch_sound;
 pub use calls::Answered;
 pub use calls::Queried;
 pub use setup::SetUp;

@@ -1,37 +1,20 @@
--- The bounds, one after the other.
+-- The bounds do not look at the data.
+use mathlib.Core.List.{[]}
 use mathlib.Core.Path.{ap, _∙_}
-use Prim.Native.Nat.{ℕ}
-use borrow.Author.Tests.{lt-leb, le-leb}
-use Rattle.host.specs.Reader.{sound, soundAt}
 use borrow.Author.Needs.{needs}
+use Rattle.host.proofs.Heads.{sound-head}
+use Rattle.host.specs.Reader.{sound}
 use Rattle.host.proofs.reader.AnswerReader.is_sound.Statement.{statement}
 use Rattle.host.proofs.reader.AnswerReader.is_sound.Tie as tie
-use Rattle.host.proofs.reader.AnswerReader.is_sound.Reads as reads
-use Rattle.host.proofs.reader.AnswerReader.is_sound.Lts as lts
-use Rattle.host.proofs.step.data_length.Reads as data-length-reads
-use Rattle.host.proofs.step.is_at.Reads as is-at-reads
+
+head-requires : tie.Need-head-requires
+head-requires c κs = search needs
+
+is-sound-requires : tie.Need-is-sound-requires
+is-sound-requires c κs = search needs
 
 returns : tie.Need-returns
-unfolding sound
-returns c = simp (lt-leb _ _ (c .if1 .taken))
-
-returns-2 : tie.Need-returns-2
-unfolding sound
-returns-2 c = simp (le-leb _ _ (c .before .before .if1 .left), lt-leb _ _ (c .if2 .taken))
-
-data-length-requires : tie.Need-data-length-requires
-data-length-requires c κs = search needs
-
-is-at-requires : tie.Need-is-at-requires
-is-at-requires c κs = search needs
-
-returns-3 : tie.Need-returns-3
-unfolding sound
-returns-3 c =
-    let r = c .before .before .before .before .before .before .args .self in
-    rw (le-leb (r .waiting) 1 (c .before .before .before .before .if1 .left), le-leb (r .expected) 64 (c .before .before .if2 .left))
-    (c .is-at .ensures ∙ ap (λ (n : ℕ). soundAt (r .phase) (r .have) n) (c .before .data-length .ensures))
+returns c = c .is-sound .ensures ∙ sound-head (c .before .head .result) [] (c .before .before .args .self .body) ∙ ap sound (c .before .head .ensures)
 
 pub is-sound-spec : {M : Type 1} → statement M
-is-sound-spec =
-    tie.close (tie.spec returns returns-2 data-length-requires is-at-requires returns-3)
+is-sound-spec = tie.close (tie.spec head-requires is-sound-requires returns)

@@ -1,0 +1,319 @@
+/*
+ * What is counted: each case repeats one thing at the C boundary. The counting is done from outside, as the difference between
+ * two numbers of repeats, so that the preparation does not count. It knows the header alone.
+ *
+ *     count cases           each case's name, the calls in one repeat, and what it is
+ *     count run CASE N      repeats it N times
+ *     count stack CASE      prints how deep one repeat goes into the stack, in bytes
+ */
+#define _XOPEN_SOURCE 700
+#include "../include/log_gate.h"
+
+#include <stdio.h>
+#include <stdlib.h>
+#include <string.h>
+#include <ucontext.h>
+
+static uint8_t state[LOG_GATE_STATE], memory[LOG_GATE_MEMORY], answer[LOG_GATE_ANSWER_ROOM];
+static uint8_t reader[LOG_GATE_READER], data[LOG_GATE_DATA_ROOM];
+
+struct message {
+    uint8_t wire[LOG_GATE_COMMAND_ROOM];
+    size_t length;
+};
+
+static struct message message, second;
+
+/* ---- what a case repeats */
+
+static size_t send(const struct message *m, size_t length)
+{
+    log_gate_taken taken = {0, 0};
+    for (size_t i = 0; i < length; i++)
+        taken = log_gate_byte(state, sizeof state, m->wire[i], memory, sizeof memory, answer, sizeof answer);
+    return taken.length;
+}
+
+/* All but the sum byte: the next start drops it, and only bytes are counted. */
+static void send_unfinished(void)
+{
+    send(&message, message.length - 1);
+}
+
+static void send_whole(void)
+{
+    send(&message, message.length);
+}
+
+static void send_both(void)
+{
+    send(&message, message.length);
+    send(&second, second.length);
+}
+
+static void tick(void)
+{
+    log_gate_tick(state, sizeof state, memory, sizeof memory);
+}
+
+static void write_command(void)
+{
+    log_gate_write_command(0x02, memory, 64, message.wire, sizeof message.wire);
+}
+
+static void write_answer(void)
+{
+    log_gate_write_answer(LOG_GATE_DONE, memory, 64, answer, sizeof answer);
+}
+
+static void read_answer(void)
+{
+    for (size_t i = 0; i < 67; i++)
+        log_gate_reader_byte(reader, sizeof reader, answer[i], data, sizeof data);
+}
+
+static void nothing(void) {}
+
+/* ---- what stands before: messages that the gate takes */
+
+static void form(struct message *m, uint8_t command, const uint8_t *bytes, size_t length)
+{
+    log_gate_taken written = log_gate_write_command(command, bytes, length, m->wire, sizeof m->wire);
+    if (written.refusal != LOG_GATE_TAKEN)
+        exit(1);
+    m->length = written.length;
+}
+
+/* The gate takes it: a case must not measure a refusal. */
+static void expect_done(const struct message *m)
+{
+    if (send(m, m->length) == 0 || answer[1] > LOG_GATE_RECORDER_STOPPED) {
+        fprintf(stderr, "count: the gate refuses a message\n");
+        exit(1);
+    }
+}
+
+static size_t add_variables(uint8_t *bytes, unsigned count)
+{
+    bytes[0] = (uint8_t)count;
+    for (unsigned i = 0; i < count; i++)
+        memcpy(bytes + 1 + 3 * i, (uint8_t[]){2, (uint8_t)(16 + 2 * i), 0}, 3);
+    return 1 + 3 * count;
+}
+
+/* Sixteen sets; rising over 0x7000 at address 16, which never comes. */
+static void form_recorder(struct message *m, unsigned variables, uint16_t divider)
+{
+    uint8_t bytes[64] = {1, 16, 0, 0, 0, (uint8_t)divider, (uint8_t)(divider >> 8), 16, 0, 2, 0, 0, 0x70, 0, 0};
+    form(m, 0x09, bytes, 15 + add_variables(bytes + 15, variables));
+}
+
+static void form_scope(struct message *m)
+{
+    uint8_t bytes[64];
+    form(m, 0x08, bytes, add_variables(bytes, 8));
+}
+
+static void start_recorder(unsigned variables, uint16_t divider)
+{
+    struct message m;
+    form_recorder(&m, variables, divider);
+    expect_done(&m);
+}
+
+static void set_up_all(void)
+{
+    struct message m;
+    form_scope(&m);
+    expect_done(&m);
+    start_recorder(8, 0);
+    form(&m, 0xC2, data, 0);
+    expect_done(&m);
+}
+
+static void prepare_long(void)
+{
+    uint8_t bytes[64] = {61, 64, 0};
+    form(&message, 0x02, bytes, 64);
+    expect_done(&message);
+}
+
+static void prepare_long_set_up(void)
+{
+    set_up_all();
+    prepare_long();
+}
+
+static void prepare_read(void)
+{
+    form(&message, 0xD0, (uint8_t[]){16, 0}, 2);
+    expect_done(&message);
+}
+
+static void prepare_read_set_up(void)
+{
+    set_up_all();
+    prepare_read();
+}
+
+static void prepare_describe(void)
+{
+    form(&message, 0xC8, data, 0);
+    expect_done(&message);
+}
+
+static void prepare_masked(void)
+{
+    form(&message, 0xE5, (uint8_t[]){16, 0, 0xF0, 0x3C}, 4);
+    expect_done(&message);
+}
+
+static void prepare_block_read(void)
+{
+    form(&message, 0x01, (uint8_t[]){64, 64, 0}, 3);
+    expect_done(&message);
+}
+
+static void prepare_block_write(void)
+{
+    uint8_t bytes[62] = {59, 64, 0};
+    form(&message, 0x02, bytes, 62);
+    expect_done(&message);
+}
+
+static void prepare_scope(void)
+{
+    set_up_all();
+    form(&message, 0xC5, data, 0);
+    expect_done(&message);
+}
+
+static void prepare_status(void)
+{
+    set_up_all();
+    form(&message, 0xC3, data, 0);
+    expect_done(&message);
+}
+
+static void prepare_setup(void)
+{
+    form_recorder(&message, 8, 0);
+    form(&second, 0xC2, data, 0);
+    expect_done(&message);
+    expect_done(&second);
+}
+
+static void prepare_waiting(void)
+{
+    start_recorder(8, 0xFFFF);
+    tick();
+}
+
+static void prepare_one(void)
+{
+    start_recorder(1, 0);
+}
+
+static void prepare_eight(void)
+{
+    start_recorder(8, 0);
+}
+
+static void prepare_answer(void)
+{
+    write_answer();
+    log_gate_reader_begin(reader, sizeof reader, 64);
+}
+
+/* ---- the cases */
+
+static const struct bench_case {
+    const char *name;
+    unsigned calls; /* in one repeat, per which the count is given */
+    const char *what;
+    void (*prepare)(void), (*repeat)(void);
+} cases[] = {
+    {"byte-long", 67, "a byte of a long message (64 data)", prepare_long, send_unfinished},
+    {"byte-long-8", 67, "the same, all set up", prepare_long_set_up, send_unfinished},
+    {"byte-short", 4, "a byte of a short message (2 data)", prepare_read, send_unfinished},
+    {"byte-short-8", 4, "the same, all set up", prepare_read_set_up, send_unfinished},
+    {"describe", 1, "0xC8, short description (3 bytes)", prepare_describe, send_whole},
+    {"read", 1, "0xD0, read of 1 (5 bytes)", prepare_read, send_whole},
+    {"read-8", 1, "the same, all set up", prepare_read_set_up, send_whole},
+    {"masked", 1, "0xE5, masked write of 1 (7 bytes)", prepare_masked, send_whole},
+    {"block-read", 1, "0x01, read of 64 (7 bytes)", prepare_block_read, send_whole},
+    {"block-write", 1, "0x02, write of 59 (66 bytes)", prepare_block_write, send_whole},
+    {"scope", 1, "0xC5, scope of 8, all set up (3 bytes)", prepare_scope, send_whole},
+    {"status", 1, "0xC3, status, all set up (3 bytes)", prepare_status, send_whole},
+    {"setup", 1, "0x09 of 8, then 0xC2 (46 bytes)", prepare_setup, send_both},
+    {"tick", 1, "a tick, nothing set up", nothing, tick},
+    {"tick-8", 1, "a tick, all set up and stopped", set_up_all, tick},
+    {"tick-wait", 1, "a tick that waits, recorder of 8", prepare_waiting, tick},
+    {"tick-set-1", 1, "a tick with a set of 1 and trigger", prepare_one, tick},
+    {"tick-set-8", 1, "a tick with a set of 8 and trigger", prepare_eight, tick},
+    {"write-command", 1, "command writer, 64 data", nothing, write_command},
+    {"write-answer", 1, "answer writer, 64 data", nothing, write_answer},
+    {"read-answer", 67, "answer reader, a byte of 64 data", prepare_answer, read_answer},
+};
+
+enum { CASES = sizeof cases / sizeof cases[0] };
+
+static const struct bench_case *find(const char *name)
+{
+    for (size_t i = 0; i < CASES; i++)
+        if (strcmp(cases[i].name, name) == 0)
+            return &cases[i];
+    fprintf(stderr, "count: there is no case '%s'\n", name);
+    exit(2);
+}
+
+static void print_cases(void)
+{
+    for (size_t i = 0; i < CASES; i++)
+        printf("%s %u %s\n", cases[i].name, cases[i].calls, cases[i].what);
+}
+
+static void run(const struct bench_case *c, unsigned long repeats)
+{
+    for (unsigned long i = 0; i < repeats; i++)
+        c->repeat();
+}
+
+/* ---- the stack: one of our own, filled with a pattern, on which the repeat runs once */
+
+enum { STACK = 65536, PATTERN = 0xA5 };
+
+static size_t depth_of(void (*repeat)(void))
+{
+    static uint8_t stack[STACK];
+    ucontext_t here, there;
+    size_t untouched = 0;
+    memset(stack, PATTERN, sizeof stack);
+    getcontext(&there);
+    there.uc_stack.ss_sp = stack;
+    there.uc_stack.ss_size = sizeof stack;
+    there.uc_link = &here;
+    makecontext(&there, repeat, 0);
+    swapcontext(&here, &there);
+    while (untouched < STACK && stack[untouched] == PATTERN)
+        untouched++;
+    return STACK - untouched;
+}
+
+int main(int argc, char **argv)
+{
+    log_gate_reset(state, sizeof state);
+    if (argc == 2 && strcmp(argv[1], "cases") == 0) {
+        print_cases();
+    } else if (argc == 4 && strcmp(argv[1], "run") == 0) {
+        find(argv[2])->prepare();
+        run(find(argv[2]), strtoul(argv[3], NULL, 10));
+    } else if (argc == 3 && strcmp(argv[1], "stack") == 0) {
+        find(argv[2])->prepare();
+        printf("%zu\n", depth_of(find(argv[2])->repeat) - depth_of(nothing));
+    } else {
+        fprintf(stderr, "count: cases, run CASE N, or stack CASE\n");
+        return 2;
+    }
+    return 0;
+}

@@ -1,0 +1,222 @@
+/* The commands: one table of what each does, and what it refuses, in the document's order. */
+#ifndef PLAIN_COMMANDS_H
+#define PLAIN_COMMANDS_H
+
+#include "recorder.h"
+
+enum operation {
+    NOT_SERVED,
+    DESCRIBE,
+    READ,
+    WRITE,
+    WRITE_MASKED,
+    SET_UP_SCOPE,
+    READ_SCOPE,
+    SET_UP_RECORDER,
+    START_RECORDER,
+    STOP_RECORDER,
+    RECORDER_STATUS,
+    QUERY_BUFFER
+};
+
+struct command {
+    uint8_t operation;
+    uint8_t width; /* of an address */
+    uint8_t size;  /* of what is read or written; 0 where the data begin with it */
+};
+
+static const struct command commands[256] = {
+    [0x01] = {READ, 2, 0},
+    [0x02] = {WRITE, 2, 0},
+    [0x03] = {WRITE_MASKED, 2, 0},
+    [0x04] = {READ, 4, 0},
+    [0x05] = {WRITE, 4, 0},
+    [0x06] = {WRITE_MASKED, 4, 0},
+    [0x08] = {SET_UP_SCOPE, 2, 0},
+    [0x09] = {SET_UP_RECORDER, 2, 0},
+    [0x0A] = {SET_UP_SCOPE, 4, 0},
+    [0x0B] = {SET_UP_RECORDER, 4, 0},
+    [0xC0] = {DESCRIBE, 0, 35},
+    [0xC1] = {START_RECORDER, 0, 0},
+    [0xC2] = {STOP_RECORDER, 0, 0},
+    [0xC3] = {RECORDER_STATUS, 0, 0},
+    [0xC4] = {QUERY_BUFFER, 2, 0},
+    [0xC5] = {READ_SCOPE, 0, 0},
+    [0xC8] = {DESCRIBE, 0, 6},
+    [0xC9] = {QUERY_BUFFER, 4, 0},
+    [0xD0] = {READ, 2, 1},
+    [0xD1] = {READ, 2, 2},
+    [0xD2] = {READ, 2, 4},
+    [0xE0] = {READ, 4, 1},
+    [0xE1] = {READ, 4, 2},
+    [0xE2] = {READ, 4, 4},
+    [0xE3] = {WRITE, 2, 1},
+    [0xE4] = {WRITE, 2, 2},
+    [0xE5] = {WRITE_MASKED, 2, 1},
+    [0xF0] = {WRITE, 2, 4},
+    [0xF1] = {WRITE_MASKED, 2, 2},
+};
+
+static const uint8_t description[35] = {0x03, 0x00, 0x01, 0x01, 0x00, 0x40, 0x00, 0x10, 0x01,
+                                        0x40, 'L',  'O',  'G',  ' ',  'G',  'A',  'T',  'E'};
+
+/* A status and its data, which stand in the memory, in the description, or in `gathered`. */
+struct answer {
+    uint8_t status;
+    uint8_t length;
+    const uint8_t *data;
+    uint8_t gathered[MOST_DATA];
+};
+
+static void say(struct answer *a, const uint8_t *data, unsigned length)
+{
+    a->status = LOG_GATE_DONE;
+    a->data = data;
+    a->length = (uint8_t)length;
+}
+
+/* Where a command goes, and what stands behind the address. */
+struct range {
+    uint32_t address;
+    unsigned size;
+    const uint8_t *behind;
+};
+
+/* `parts` is how many parts of the range's size stand behind the address; a fast command's length is always right. */
+static uint8_t find_range(const struct command *c, const uint8_t *body, unsigned length, unsigned parts, struct range *r)
+{
+    bool block = c->size == 0;
+    if (block && (length < 1u + c->width || length != 1u + c->width + parts * body[0]))
+        return LOG_GATE_LAYOUT_WRONG;
+    r->size = block ? *body++ : c->size;
+    r->address = number_at(body, c->width);
+    r->behind = body + c->width;
+    return r->size == 0 ? LOG_GATE_SIZE_WRONG : LOG_GATE_DONE;
+}
+
+static void read_memory(const struct command *c, const uint8_t *body, unsigned length, const uint8_t *memory, struct answer *a)
+{
+    struct range r;
+    a->status = find_range(c, body, length, 0, &r);
+    if (a->status != LOG_GATE_DONE)
+        return;
+    if (r.size > MOST_DATA)
+        a->status = LOG_GATE_ANSWER_TOO_LONG;
+    else if (!ends_by(r.address, r.size, MEMORY_END))
+        a->status = LOG_GATE_RANGE_WRONG;
+    else
+        say(a, memory + r.address, r.size);
+}
+
+static uint8_t write_memory(const struct command *c, const uint8_t *body, unsigned length, uint8_t *memory)
+{
+    struct range r;
+    bool masked = c->operation == WRITE_MASKED;
+    uint8_t status = find_range(c, body, length, masked ? 2 : 1, &r);
+    if (status != LOG_GATE_DONE)
+        return status;
+    if (!ends_by(r.address, r.size, VARIABLES_END))
+        return LOG_GATE_RANGE_WRONG;
+    if (masked)
+        store_masked(memory + r.address, r.behind, r.behind + r.size, r.size);
+    else
+        memcpy(memory + r.address, r.behind, r.size);
+    return LOG_GATE_DONE;
+}
+
+static uint8_t set_up_scope(struct variables *scope, const uint8_t *body, unsigned length, unsigned width)
+{
+    struct variables v = {0};
+    uint8_t status = read_variables(body, length, width, &v);
+    if (status != LOG_GATE_DONE)
+        return status;
+    if (!all_end_by(&v, MEMORY_END))
+        return LOG_GATE_RANGE_WRONG;
+    *scope = v;
+    return LOG_GATE_DONE;
+}
+
+static void read_scope(const struct variables *scope, const uint8_t *memory, struct answer *a)
+{
+    if (scope->count == 0) {
+        a->status = LOG_GATE_NOT_SET_UP;
+    } else if (set_size(scope) > MOST_DATA) {
+        a->status = LOG_GATE_ANSWER_TOO_LONG;
+    } else {
+        copy_set(scope, memory, a->gathered);
+        say(a, a->gathered, set_size(scope));
+    }
+}
+
+static void query_buffer(const struct recorder *r, unsigned width, struct answer *a)
+{
+    a->status = recorder_status(r);
+    if (a->status == LOG_GATE_RECORDER_RUNS)
+        a->status = LOG_GATE_BUSY;
+    if (a->status != LOG_GATE_RECORDER_STOPPED)
+        return;
+    put_number(a->gathered, width, CALIBRATION_END);
+    put_number(a->gathered + width, 2, start_index(&r->run));
+    say(a, a->gathered, width + 2);
+}
+
+static void carry_out(struct target *t, uint8_t *memory, struct answer *a)
+{
+    const struct command *c = &commands[t->receiver.command];
+    const uint8_t *body = t->body;
+    unsigned length = t->receiver.length;
+    switch (c->operation) {
+    case DESCRIBE:
+        say(a, description, c->size);
+        break;
+    case READ:
+        read_memory(c, body, length, memory, a);
+        break;
+    case WRITE:
+    case WRITE_MASKED:
+        a->status = write_memory(c, body, length, memory);
+        break;
+    case SET_UP_SCOPE:
+        a->status = set_up_scope(&t->scope, body, length, c->width);
+        break;
+    case READ_SCOPE:
+        read_scope(&t->scope, memory, a);
+        break;
+    case SET_UP_RECORDER:
+        a->status = set_up_recorder(&t->recorder, body, length, c->width);
+        break;
+    case START_RECORDER:
+        a->status = start_recorder(&t->recorder);
+        break;
+    case STOP_RECORDER:
+        a->status = stop_recorder(&t->recorder);
+        break;
+    case RECORDER_STATUS:
+        a->status = recorder_status(&t->recorder);
+        break;
+    case QUERY_BUFFER:
+        query_buffer(&t->recorder, c->width, a);
+        break;
+    default:
+        a->status = LOG_GATE_NOT_SERVED;
+    }
+}
+
+/* The answer to the message that the receiver has whole: how many bytes of it were written. */
+static size_t answer_message(struct target *t, uint8_t *memory, uint8_t *out)
+{
+    struct answer a;
+    a.length = 0;
+    if (t->receiver.sum != 0)
+        a.status = LOG_GATE_SUM_WRONG;
+    else if (t->receiver.length > MOST_DATA)
+        a.status = LOG_GATE_MESSAGE_TOO_LONG;
+    else
+        carry_out(t, memory, &a);
+    struct writer w = begin_writing(out, a.status);
+    if (a.length > 0)
+        put_all(&w, a.data, a.length);
+    return finish_writing(&w);
+}
+
+#endif

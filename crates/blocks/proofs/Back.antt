@@ -1,0 +1,216 @@
+-- What is encoded and decoded again is the state that it was, whatever stands behind it: each part is found at its place, and a
+-- number that fits its width is read back.
+use mathlib.Core.Path.{_≡_, refl, sym, ap, _∙_}
+use mathlib.Core.Bool.{true}
+use mathlib.Core.List.{List, [], _∷_, _++_, append-assoc}
+use Prim.Native.Nat.{ℕ, zero, suc, _+_, _/_, _^_, _<_}
+use native.Mathlib.Nat.{pow-suc}
+use native.Mathlib.Omega.{arith}
+use lib.ListN.{length, getD, take, drop}
+use lib.Seq.{drop-at, take-at, drop-drop, getD-drop}
+use Rattle.document.specs.Areas.{bytesAt}
+use Rattle.document.specs.Values.{number, littleEndian}
+use Rattle.document.specs.declared.Variable.{Variable}
+use Rattle.document.specs.Variables.{definitionsIn}
+use Rattle.variables.specs.declared.Variables.{Variables}
+use Rattle.link.specs.declared.Receiver.{Receiver}
+use Rattle.scope.specs.declared.Scope.{Scope}
+use Rattle.recorder.specs.declared.state.Plan.{Plan}
+use Rattle.recorder.specs.declared.state.Run.{Run}
+use Rattle.recorder.specs.declared.state.Recorder.{Recorder}
+use Rattle.target.specs.declared.state.Target.{Target}
+use Rattle.host.specs.declared.reader.AnswerReader.{AnswerReader}
+use Rattle.blocks.specs.Layout.{decodedReceiver, decodedDefinitions, decodedScope, decodedPlan, decodedRun, decodedRecorder, decoded, decodedReader, encodedReceiver, encodedDefinitions, encodedScope, encodedRun, encodedRecorder, encoded, encodedReader}
+use Rattle.blocks.proofs.Parts.{receiver-length, definitions-length, scope-length}
+
+-- ---- the states that fit: numbers of their widths, lists of their lengths
+
+pub record VariablesFit (v : Variables) : Type 0 where
+  pub eight : length (v .list) ≡ 8
+  pub addresses : (i : ℕ) → getD (v .list) i (record { address = 0; size = 0 }) .address < 256 ^ 4
+
+pub record PlanFits (p : Plan) : Type 0 where
+  pub samples : p .samples < 256 ^ 2
+  pub after : p .«post_trigger» < 256 ^ 2
+  pub divider : p .divider < 256 ^ 2
+  pub address : p .address < 256 ^ 4
+  pub threshold : p .threshold < 256 ^ 4
+  pub variables : VariablesFit (p .variables)
+
+pub record RunFits (r : Run) : Type 0 where
+  pub wait : r .wait < 256 ^ 2
+  pub place : r .place < 256 ^ 2
+  pub value : r .value < 256 ^ 4
+
+pub record TargetFits (t : Target) : Type 0 where
+  pub body : length (t .body) ≡ 64
+  pub scope : VariablesFit (t .instruments .scope .variables)
+  pub plan : PlanFits (t .instruments .recorder .plan)
+  pub run : RunFits (t .instruments .recorder .run)
+
+-- ---- numbers and definitions
+
+pub number-back : (n x : ℕ) → x < 256 ^ n → number (littleEndian n x) ≡ x
+number-back zero x h = omega arith
+number-back (suc n) x h =
+    let small : x / 256 < 256 ^ n = omega (arith, pow-suc 256 n) in
+    omega (arith, number-back n (x / 256) small)
+
+definitions-back : (vs : List Variable) (rest : List ℕ) → ((i : ℕ) → getD vs i (record { address = 0; size = 0 }) .address < 256 ^ 4)
+    → definitionsIn true (length vs) (encodedDefinitions vs ++ rest) ≡ vs
+definitions-back [] rest fits = refl
+definitions-back (v ∷ vs) rest fits =
+    λ i. record { size = v .size; address = number-back 4 (v .address) (fits 0) i } ∷ definitions-back vs rest (λ j. fits (suc j)) i
+
+eight-back : (vs : List Variable) (rest : List ℕ) → length vs ≡ 8 → ((i : ℕ) → getD vs i (record { address = 0; size = 0 }) .address < 256 ^ 4)
+    → definitionsIn true 8 (encodedDefinitions vs ++ rest) ≡ vs
+eight-back vs rest e fits = ap (λ (n : ℕ). definitionsIn true n (encodedDefinitions vs ++ rest)) (sym e) ∙ definitions-back vs rest fits
+
+-- ---- the parts, from where each begins
+
+receiver-back : (r : Receiver) (rest : List ℕ) → decodedReceiver (encodedReceiver r ++ rest) ≡ r
+unfolding decodedReceiver encodedReceiver
+receiver-back r rest = refl
+
+pub reader-back : (r : AnswerReader) (rest : List ℕ) → length (r .body) ≡ 64 → decodedReader (encodedReader r ++ rest) ≡ r
+unfolding decodedReader encodedReader
+reader-back r rest e =
+    λ i.
+    record {
+      waiting = r .waiting;
+      phase = r .phase;
+      status = r .status;
+      expected = r .expected;
+      have = r .have;
+      sum = r .sum;
+      body = take-at (r .body) rest 64 e i;
+    }
+
+scope-back : (l rest : List ℕ) (s : Scope) → VariablesFit (s .variables) → drop 70 l ≡ encodedScope s ++ rest → decodedScope l ≡ s
+unfolding decodedScope encodedScope decodedDefinitions
+scope-back l rest s fits e = λ i. record { variables = record { count = counted i; list = listed i } }
+  where
+    counted : getD l 70 0 ≡ s .variables .count
+    counted = sym (getD-drop 70 l 0 0) ∙ ap (λ (k : List ℕ). getD k 0 0) e
+
+    listed : definitionsIn true 8 (drop 71 l) ≡ s .variables .list
+    listed =
+        ap (definitionsIn true 8) (sym (drop-drop 1 70 l) ∙ ap (drop 1) e)
+        ∙ eight-back (s .variables .list) rest (fits .eight) (fits .addresses)
+
+-- a byte and a number behind a place from which the block is known
+byte-there : (l q : List ℕ) (base k x : ℕ) → drop base l ≡ q → getD q k 0 ≡ x → getD l (base + k) 0 ≡ x
+byte-there l q base k x e h = sym (getD-drop base l k 0) ∙ ap (λ (m : List ℕ). getD m k 0) e ∙ h
+
+number-there : (l q : List ℕ) (base k n x : ℕ) → drop base l ≡ q → number (bytesAt q k n) ≡ x → number (bytesAt l (base + k) n) ≡ x
+number-there l q base k n x e h = ap (λ (m : List ℕ). number (take n m)) (sym (drop-drop k base l) ∙ ap (drop k) e) ∙ h
+
+module _ (l rest : List ℕ) (r : Run) (e : drop 170 l ≡ encodedRun r ++ rest) where
+  byte-of-run : (k x : ℕ) → getD (encodedRun r ++ rest) k 0 ≡ x → getD l (170 + k) 0 ≡ x
+  byte-of-run k x h = byte-there l (encodedRun r ++ rest) 170 k x e h
+
+  number-of-run : (k n x : ℕ) → number (bytesAt (encodedRun r ++ rest) k n) ≡ x → number (bytesAt l (170 + k) n) ≡ x
+  number-of-run k n x h = number-there l (encodedRun r ++ rest) 170 k n x e h
+
+  run-back : RunFits r → decodedRun l ≡ r
+  unfolding encodedRun
+  run-back fits =
+      λ i.
+      record {
+        running = byte-of-run 0 (r .running) refl i;
+        full = byte-of-run 1 (r .full) refl i;
+        watch = byte-of-run 2 (r .watch) refl i;
+        wait = number-of-run 3 2 (r .wait) (number-back 2 (r .wait) (fits .wait)) i;
+        place = number-of-run 5 2 (r .place) (number-back 2 (r .place) (fits .place)) i;
+        value = number-of-run 7 4 (r .value) (number-back 4 (r .value) (fits .value)) i;
+      }
+
+module _ (l rest : List ℕ) (r : Recorder) (e : drop 111 l ≡ encodedRecorder r ++ rest) where
+  byte-of-plan : (k x : ℕ) → getD (encodedRecorder r ++ rest) k 0 ≡ x → getD l (111 + k) 0 ≡ x
+  byte-of-plan k x h = byte-there l (encodedRecorder r ++ rest) 111 k x e h
+
+  number-of-plan : (k n x : ℕ) → number (bytesAt (encodedRecorder r ++ rest) k n) ≡ x → number (bytesAt l (111 + k) n) ≡ x
+  number-of-plan k n x h = number-there l (encodedRecorder r ++ rest) 111 k n x e h
+
+  module _ (fits : PlanFits (r .plan)) where
+    listed : decodedDefinitions l 130 ≡ r .plan .variables .list
+    unfolding decodedDefinitions encodedRecorder
+    listed =
+        ap (definitionsIn true 8)
+        (sym (drop-drop 19 111 l)
+        ∙ ap (drop 19) e
+        ∙ append-assoc (encodedDefinitions (r .plan .variables .list)) (encodedRun (r .run)) rest)
+        ∙ eight-back (r .plan .variables .list) (encodedRun (r .run) ++ rest) (fits .variables .eight) (fits .variables .addresses)
+
+    -- what stands behind the definitions
+    behind : drop 170 l ≡ encodedRun (r .run) ++ rest
+    unfolding encodedRecorder
+    behind =
+        sym (drop-drop 59 111 l)
+        ∙ ap (drop 59) e
+        ∙ ap (drop 40) (append-assoc (encodedDefinitions (r .plan .variables .list)) (encodedRun (r .run)) rest)
+        ∙ drop-at (encodedDefinitions (r .plan .variables .list)) (encodedRun (r .run) ++ rest) 40 (omega (arith, definitions-length (r .plan .variables .list), fits .variables .eight))
+
+    plan-back : decodedPlan l ≡ r .plan
+    unfolding encodedRecorder
+    plan-back =
+        let p = r .plan in
+        λ i.
+        record {
+          mode = byte-of-plan 1 (p .mode) refl i;
+          samples = number-of-plan 2 2 (p .samples) (number-back 2 (p .samples) (fits .samples)) i;
+          «post_trigger» = number-of-plan 4 2 (p .«post_trigger») (number-back 2 (p .«post_trigger») (fits .after)) i;
+          divider = number-of-plan 6 2 (p .divider) (number-back 2 (p .divider) (fits .divider)) i;
+          address = number-of-plan 8 4 (p .address) (number-back 4 (p .address) (fits .address)) i;
+          size = byte-of-plan 12 (p .size) refl i;
+          sign = byte-of-plan 13 (p .sign) refl i;
+          threshold = number-of-plan 14 4 (p .threshold) (number-back 4 (p .threshold) (fits .threshold)) i;
+          variables = record { count = byte-of-plan 18 (p .variables .count) refl i; list = listed i };
+        }
+
+    recorder-back : RunFits (r .run) → decodedRecorder l ≡ r
+    unfolding decodedRecorder encodedRecorder
+    recorder-back run =
+        λ i. record { ready = byte-of-plan 0 (r .ready) refl i; plan = plan-back i; run = run-back l rest (r .run) behind run i }
+
+-- ---- the whole
+
+pub decoded-encoded : (t : Target) (rest : List ℕ) → TargetFits t → decoded (encoded t ++ rest) ≡ t
+decoded-encoded t rest fits =
+    λ i.
+    record {
+      receiver = receiver-there i;
+      body = body-there i;
+      instruments =
+          record {
+            scope = scope-back l (encodedRecorder (t .instruments .recorder) ++ rest) (t .instruments .scope) (fits .scope) behind-body i;
+            recorder = recorder-back l rest (t .instruments .recorder) behind-scope (fits .plan) (fits .run) i;
+          };
+    }
+  where
+    l : List ℕ
+    l = encoded t ++ rest
+
+    instruments : List ℕ
+    instruments = encodedScope (t .instruments .scope) ++ (encodedRecorder (t .instruments .recorder) ++ rest)
+
+    parts : l ≡ encodedReceiver (t .receiver) ++ (t .body ++ instruments)
+    parts = simp append-assoc
+
+    behind-receiver : drop 6 l ≡ t .body ++ instruments
+    behind-receiver = ap (drop 6) parts ∙ drop-at (encodedReceiver (t .receiver)) (t .body ++ instruments) 6 (receiver-length (t .receiver))
+
+    behind-body : drop 70 l ≡ instruments
+    behind-body = sym (drop-drop 64 6 l) ∙ ap (drop 64) behind-receiver ∙ drop-at (t .body) instruments 64 (fits .body)
+
+    behind-scope : drop 111 l ≡ encodedRecorder (t .instruments .recorder) ++ rest
+    behind-scope =
+        sym (drop-drop 41 70 l)
+        ∙ ap (drop 41) behind-body
+        ∙ drop-at (encodedScope (t .instruments .scope)) (encodedRecorder (t .instruments .recorder) ++ rest) 41 (scope-length (t .instruments .scope) (fits .scope .eight))
+
+    receiver-there : decodedReceiver l ≡ t .receiver
+    receiver-there = ap decodedReceiver parts ∙ receiver-back (t .receiver) (t .body ++ instruments)
+
+    body-there : bytesAt l 6 64 ≡ t .body
+    body-there = ap (take 64) behind-receiver ∙ take-at (t .body) instruments 64 (fits .body)

@@ -1,0 +1,137 @@
+-- Definitions in a block, one behind the other: read, kept, and looked at in one pass.
+use mathlib.Core.Path.{_≡_, refl, sym, ap, _∙_}
+use mathlib.Core.Bool.{Bool, true, false, not, _&&_, _||_}
+use mathlib.Core.List.{List, [], _∷_, _++_}
+use Prim.Native.Nat.{ℕ, zero, suc, _+_, _-_, _*_, _<_, _≤_}
+use native.Mathlib.Nat.{add-zero}
+use native.Mathlib.Numerals.{add-one}
+use native.Mathlib.Omega.{arith}
+use lib.ListN.{length, getD, set, take, drop}
+use lib.Seq.{sets, drop-cons, drop-drop, getD-drop}
+use lib.Dec.{eqb}
+use borrow.Author.Tests.{eq-eqb, ne-eqb}
+use Rattle.document.specs.Areas.{bytesAt}
+use Rattle.document.specs.Values.{number, littleEndian}
+use Rattle.document.specs.declared.Variable.{Variable}
+use Rattle.document.specs.Variables.{anySizeZero, setSize, definitionIn, definitionsIn}
+use Rattle.variables.specs.State.{upTo}
+use Rattle.blocks.specs.Layout.{encodedDefinitions}
+use Rattle.blocks.specs.Measured.{areWithin, measured}
+use Rattle.blocks.proofs.Ranges.{bytes-cons, bytes-append}
+use Rattle.blocks.proofs.Numbers.{number-kept}
+
+-- ---- read
+
+pub definition-here : (part : List ℕ) (at : ℕ)
+    → definitionIn true (drop at part) ≡ record { size = getD part at 0; address = number (bytesAt part (at + 1) 4) }
+definition-here part at = rw (getD-drop at part 0 0, add-zero at, drop-drop 1 at part)
+
+module _ (part : List ℕ) (at k : ℕ) where
+  -- the first, and those behind it
+  pub definitions-first : (left : ℕ) → 0 < left
+      → definitionsIn true left (drop at part) ≡ definitionIn true (drop at part) ∷ definitionsIn true (left - 1) (drop (at + 5) part)
+  definitions-first left h =
+      let m : left ≡ suc (left - 1) = omega arith in
+      ap (λ (n : ℕ). definitionsIn true n (drop at part)) m
+      ∙ ap (λ (l : List ℕ). definitionIn true (drop at part) ∷ definitionsIn true (left - 1) l) (drop-drop 5 at part)
+
+  -- a turn of the reading
+  pub definitions-read : (list : List Variable) (v : Variable) → k < 8 → v ≡ definitionIn true (drop at part)
+      → sets (set list k v) (k + 1) (definitionsIn true (8 - (k + 1)) (drop (at + 5) part)) ≡ sets list k (definitionsIn true (8 - k) (drop at part))
+  definitions-read list v h e =
+      let m : 8 - k ≡ suc (8 - (k + 1)) = omega arith in
+      rw (e, m, add-one k, drop-drop 5 at part)
+
+-- the first few of eight
+pub definitions-take : (count n : ℕ) (part : List ℕ) → count ≤ n → take count (definitionsIn true n part) ≡ definitionsIn true count part
+definitions-take zero n part h = refl
+definitions-take (suc count) zero part h = let z : ⊥ = omega arith in absurd z
+definitions-take (suc count) (suc n) part h =
+    ap (λ (vs : List Variable). definitionIn true part ∷ vs) (definitions-take count n (drop 5 part) (omega arith))
+
+-- ---- kept
+
+-- a turn of the writing: the first is stored, those behind it are left
+pub definitions-put : (list : List Variable) (block : List ℕ) (at k : ℕ) (d : Variable) → k < length list → d ≡ getD list k (record { address = 0; size = 0 })
+    → sets (sets (set block at (d .size)) (at + 1) (littleEndian 4 (d .address))) (at + 5) (encodedDefinitions (drop (k + 1) list)) ≡ sets block at (encodedDefinitions (drop k list))
+definitions-put list block at k d h e =
+    let f : at + 1 ≡ suc at = omega arith in
+    let g : at + 5 ≡ suc (suc (suc (suc (suc at)))) = omega arith in
+    rw (f, g, add-one k, drop-cons list k (record { address = 0; size = 0 }) h, ← e)
+
+-- what was read is kept in the bytes that it was read from
+pub definitions-kept : (n : ℕ) (l : List ℕ) (at : ℕ) → ((i : ℕ) → getD l i 0 < 256) → at + n * 5 ≤ length l
+    → encodedDefinitions (definitionsIn true n (drop at l)) ≡ bytesAt l at (n * 5)
+definitions-kept zero l at small h = refl
+definitions-kept (suc n) l at small h =
+    (λ i. encodedDefinitions (definition-here l at i ∷ definitionsIn true n (drop-drop 5 at l i)))
+    ∙ (λ i. getD l at 0 ∷ number-kept l small (at + 1) 4 (omega arith) i ++ definitions-kept n l (at + 5) small (omega arith) i)
+    ∙ ap (λ (r : List ℕ). getD l at 0 ∷ r) (joined ∙ ap (λ (k : ℕ). bytesAt l k (4 + n * 5)) next)
+    ∙ bytes-cons l at (4 + n * 5) (omega arith)
+    ∙ ap (bytesAt l at) whole
+  where
+    next : at + 1 ≡ suc at
+    next = omega arith
+
+    joined : bytesAt l (at + 1) 4 ++ bytesAt l (at + 5) (n * 5) ≡ bytesAt l (at + 1) (4 + n * 5)
+    joined =
+        let e : at + 5 ≡ at + 1 + 4 = omega arith in
+        ap (λ (k : ℕ). bytesAt l (at + 1) 4 ++ bytesAt l k (n * 5)) e ∙ bytes-append l (at + 1) 4 (n * 5)
+
+    whole : suc (4 + n * 5) ≡ suc n * 5
+    whole = omega arith
+
+-- ---- looked at
+
+-- a definition in front of others
+module _ (limit address size : ℕ) (vs : List Variable) where
+  pub within-zero : size ≡ 0 → areWithin limit (record { address = address; size = size } ∷ vs) ≡ false
+  unfolding areWithin
+  within-zero e = rw (eq-eqb size 0 e)
+
+  pub within-outside : upTo limit address size ≡ false → areWithin limit (record { address = address; size = size } ∷ vs) ≡ false
+  unfolding areWithin
+  within-outside e = rw e (never (not (eqb size 0 || anySizeZero vs)))
+    where
+      never : (t : Bool) → t && false ≡ false
+      never true = refl
+      never false = refl
+
+  pub within-more : (size ≡ 0 → ⊥) → upTo limit address size ≡ true
+      → areWithin limit (record { address = address; size = size } ∷ vs) ≡ areWithin limit vs
+  unfolding areWithin
+  within-more n e = rw (ne-eqb size 0 n, e)
+
+-- a turn: the definition at this place is outside, or the rest decides
+module _ (part : List ℕ) (limit at left : ℕ) (some : 0 < left) (size address : ℕ)
+    (es : size ≡ getD part at 0) (ea : address ≡ number (bytesAt part (at + 1) 4)) where
+  first : definitionsIn true left (drop at part) ≡ record { address = address; size = size } ∷ definitionsIn true (left - 1) (drop (at + 5) part)
+  first =
+      definitions-first part at 0 left some
+      ∙ (λ i. (definition-here part at ∙ (λ j. record { size = sym es j; address = sym ea j })) i ∷ definitionsIn true (left - 1) (drop (at + 5) part))
+
+  pub turn-zero : size ≡ 0 → areWithin limit (definitionsIn true left (drop at part)) ≡ false
+  turn-zero e = ap (areWithin limit) first ∙ within-zero limit address size (definitionsIn true (left - 1) (drop (at + 5) part)) e
+
+  pub turn-outside : upTo limit address size ≡ false → areWithin limit (definitionsIn true left (drop at part)) ≡ false
+  turn-outside e = ap (areWithin limit) first ∙ within-outside limit address size (definitionsIn true (left - 1) (drop (at + 5) part)) e
+
+  pub turn-within : (size ≡ 0 → ⊥) → upTo limit address size ≡ true
+      → areWithin limit (definitionsIn true (left - 1) (drop (at + 5) part)) ≡ areWithin limit (definitionsIn true left (drop at part))
+  turn-within n e =
+      sym (ap (areWithin limit) first ∙ within-more limit address size (definitionsIn true (left - 1) (drop (at + 5) part)) n e)
+
+  pub turn-size : setSize (definitionsIn true left (drop at part)) ≡ size + setSize (definitionsIn true (left - 1) (drop (at + 5) part))
+  turn-size = ap setSize first
+
+-- the end
+module _ (limit : ℕ) (vs : List Variable) where
+  pub measured-outside : areWithin limit vs ≡ false → record { within = false; size = 0 } ≡ measured limit vs
+  measured-outside e = sym (rw e refl)
+
+  pub measured-within : (size : ℕ) → areWithin limit vs ≡ true → size ≡ setSize vs → record { within = true; size = size } ≡ measured limit vs
+  measured-within size e s = sym (rw (e, ← s) refl)
+
+pub none-within : (limit : ℕ) → areWithin limit [] ≡ true
+unfolding areWithin
+none-within limit = refl

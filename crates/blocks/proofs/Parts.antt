@@ -1,0 +1,48 @@
+-- The parts of a state one behind the other: how long each is, and that stores of the parts are a store of the whole.
+use mathlib.Core.Path.{_≡_, refl, sym, ap, _∙_}
+use mathlib.Core.List.{List, [], _∷_, _++_}
+use Prim.Native.Nat.{ℕ, _+_, _*_}
+use native.Mathlib.Omega.{arith}
+use lib.ListN.{length, set, replicate}
+use lib.Seq.{sets}
+use Rattle.document.specs.declared.Variable.{Variable}
+use Rattle.variables.specs.declared.Variables.{Variables}
+use Rattle.link.specs.declared.Receiver.{Receiver}
+use Rattle.scope.specs.declared.Scope.{Scope}
+use Rattle.recorder.specs.declared.state.Recorder.{Recorder}
+use Rattle.target.specs.Bounds.{fresh}
+use Rattle.memory.proofs.Copies.{stored-append}
+use Rattle.blocks.specs.Layout.{encodedDefinitions, encodedVariables, encodedNumbers, encodedRun, encodedReceiver, encodedScope, encodedRecorder, encoded}
+
+pub definitions-length : (vs : List Variable) → length (encodedDefinitions vs) ≡ length vs * 5
+definitions-length [] = refl
+definitions-length (v ∷ vs) = omega (arith, definitions-length vs)
+
+pub variables-length : (v : Variables) → length (v .list) ≡ 8 → length (encodedVariables v) ≡ 41
+variables-length v e = omega (arith, definitions-length (v .list))
+
+pub scope-length : (s : Scope) → length (s .variables .list) ≡ 8 → length (encodedScope s) ≡ 41
+unfolding encodedScope
+scope-length s e = variables-length (s .variables) e
+
+pub receiver-length : (r : Receiver) → length (encodedReceiver r) ≡ 6
+unfolding encodedReceiver
+receiver-length r = refl
+
+-- two stores, the second where the first ends
+pub sets-two : (l xs ys : List ℕ) (i n j : ℕ) → length xs ≡ n → i + n ≡ j → sets l i (xs ++ ys) ≡ sets (sets l i xs) j ys
+sets-two l xs ys i n j e f = stored-append xs ys l i ∙ ap (λ (k : ℕ). sets (sets l i xs) k ys) (omega arith)
+
+pub recorder-put : (l : List ℕ) (r : Recorder) → length (r .plan .variables .list) ≡ 8
+    → sets (sets (sets (set l 111 (r .ready)) 112 (encodedNumbers (r .plan))) 129 (encodedVariables (r .plan .variables))) 170 (encodedRun (r .run))
+    ≡ sets l 111 (encodedRecorder r)
+unfolding encodedRecorder
+recorder-put l r e =
+    sym
+    (sets-two (set l 111 (r .ready)) (encodedNumbers (r .plan)) (encodedVariables (r .plan .variables) ++ encodedRun (r .run)) 112 17 129 refl refl
+    ∙ sets-two (sets (set l 111 (r .ready)) 112 (encodedNumbers (r .plan))) (encodedVariables (r .plan .variables)) (encodedRun (r .run)) 129 41 170 (variables-length (r .plan .variables) e) refl)
+
+-- reset is all zeros
+pub fresh-zeros : replicate 181 0 ≡ encoded fresh
+unfolding encodedReceiver encodedScope encodedRecorder encodedRun
+fresh-zeros = refl

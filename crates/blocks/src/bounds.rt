@@ -1,0 +1,173 @@
+// The bounds of a target's state, checked where it lies: of the definitions only those that are set up are looked at.
+ghost use mathlib.Core.Path.{_≡_};
+ghost use mathlib.Core.Bool.{true, false};
+ghost use Prim.Native.Nat.{_+_, _*_, _≤_};
+ghost use lib.ListN.{length, getD, drop};
+ghost use Rattle.document.specs.Variables.{definitionsIn};
+ghost use Rattle.scope.specs.State as scope;
+ghost use Rattle.recorder.specs.Bounds as recorder;
+ghost use Rattle.target.specs.Bounds as target;
+ghost use Rattle.blocks.specs.Layout.{decoded, decodedScope, decodedPlan, decodedRun, decodedRecorder};
+ghost use Rattle.blocks.specs.Measured.{measured};
+use crate::fields::long_at;
+use crate::fields::wide;
+use crate::fields::word_at;
+use crate::reading::receiver_in;
+use crate::reading::run_in;
+use memory::CALIBRATION_END;
+use memory::MEMORY_END;
+
+// What the sets may fill: the recorder's buffer.
+const BUFFER_SIZE: usize = 4096;
+
+const MOST_VARIABLES: usize = 8;
+
+pub struct Measured {
+    pub within: bool,
+    pub size: usize,
+}
+
+fn outside() -> Measured
+    ensures { λ r. ⌜ r ≡ record { within = false; size = 0 } ⌝ }
+{
+    Measured {
+        within: false,
+        size: 0,
+    }
+}
+
+fn measure(block: &[u8], from: usize, count: usize, limit: usize) -> Measured
+    requires { ⌜ (count ≤ 8) × (from + 40 ≤ length (now block)) ⌝ }
+    ensures { λ r. ⌜ (r ≡ measured limit (definitionsIn true count (drop from (now (block .entry))))) × (r .size ≤ 2040) ⌝ }
+{
+    let mut at = from;
+    let mut left = count;
+    let mut size = 0;
+    while 0 < left {
+        let n = wide(block[at]);
+        if n == 0 {
+            return outside();
+        }
+        if !memory::within(long_at(block, at + 1), n, limit) {
+            return outside();
+        }
+        size += n;
+        at += 5;
+        left -= 1;
+    }
+    Measured { within: true, size }
+}
+
+fn is_scope_sound(block: &[u8]) -> bool
+    requires { ⌜ 181 ≤ length (now block) ⌝ }
+    ensures { λ r. ⌜ r ≡ scope.sound (decodedScope (now (block .entry))) ⌝ }
+{
+    let count = wide(block[70]);
+    if count > MOST_VARIABLES {
+        return false;
+    }
+    measure(block, 71, count, MEMORY_END).within
+}
+
+fn wide_count(count: u16) -> usize
+    ensures { λ r. ⌜ (r ≡ count) × (r ≤ 65535) ⌝ }
+{
+    count as usize
+}
+
+// The recorded variables, and that so many sets of them go into the buffer.
+fn are_recorded_sound(block: &[u8]) -> bool
+    requires { ⌜ 181 ≤ length (now block) ⌝ }
+    ensures { λ r. ⌜ r ≡ recorder.variablesSound (decodedPlan (now (block .entry)) .samples) (decodedPlan (now (block .entry)) .variables) ⌝ }
+{
+    let count = wide(block[129]);
+    if count == 0 {
+        return false;
+    }
+    if count > MOST_VARIABLES {
+        return false;
+    }
+    let recorded = measure(block, 130, count, CALIBRATION_END);
+    if !recorded.within {
+        return false;
+    }
+    wide_count(word_at(block, 113)) * recorded.size <= BUFFER_SIZE
+}
+
+fn is_plan_sound(block: &[u8]) -> bool
+    requires { ⌜ 181 ≤ length (now block) ⌝ }
+    ensures { λ r. ⌜ r ≡ recorder.planSound (decodedPlan (now (block .entry))) ⌝ }
+{
+    if word_at(block, 113) == 0 {
+        return false;
+    }
+    if !recorder::is_trigger_sound(
+        block[112],
+        block[123],
+        block[124],
+        long_at(block, 119),
+        long_at(block, 125),
+    ) {
+        return false;
+    }
+    are_recorded_sound(block)
+}
+
+fn is_run_sound(block: &[u8]) -> bool
+    requires { ⌜ (181 ≤ length (now block)) × (getD (now block) 123 0 ≤ 4) ⌝ }
+    ensures { λ r. ⌜ r ≡ recorder.runSound (decodedPlan (now (block .entry))) (decodedRun (now (block .entry))) ⌝ }
+{
+    let run = run_in(block);
+    if run.running > 1 {
+        return false;
+    }
+    if run.full > 1 {
+        return false;
+    }
+    if run.wait > word_at(block, 117) {
+        return false;
+    }
+    if run.place >= word_at(block, 113) {
+        return false;
+    }
+    recorder::is_watch_sound(
+        block[123],
+        word_at(block, 115),
+        run.running,
+        run.watch,
+        run.value,
+    )
+}
+
+// While nothing is set up, nothing else is looked at.
+fn is_recorder_sound(block: &[u8]) -> bool
+    requires { ⌜ 181 ≤ length (now block) ⌝ }
+    ensures { λ r. ⌜ r ≡ recorder.sound (decodedRecorder (now (block .entry))) ⌝ }
+{
+    let ready = block[111];
+    if ready == 0 {
+        return true;
+    }
+    if ready != 1 {
+        return false;
+    }
+    if !is_plan_sound(block) {
+        return false;
+    }
+    is_run_sound(block)
+}
+
+// Whether every part of the state is within its bounds.
+pub fn is_sound(block: &[u8]) -> bool
+    requires { ⌜ 181 ≤ length (now block) ⌝ }
+    ensures { λ r. ⌜ r ≡ target.sound (decoded (now (block .entry))) ⌝ }
+{
+    let receiver = receiver_in(block);
+    if !receiver.is_sound() {
+        return false;
+    }
+    if !is_scope_sound(block) {
+        return false;
+    }
+    is_recorder_sound(block)
+}

@@ -1,0 +1,136 @@
+// From a block to the state that it is. Who asks has seen that the block is long enough.
+ghost use mathlib.Core.Path.{_≡_};
+ghost use mathlib.Core.Bool.{true};
+ghost use Prim.Native.Nat.{_+_, _≤_};
+ghost use lib.ListN.{length, drop};
+ghost use Rattle.document.specs.Areas.{bytesAt};
+ghost use Rattle.document.specs.Variables.{definitionIn};
+ghost use Rattle.host.specs.Head.{withBody};
+ghost use Rattle.blocks.specs.Layout.{decodedReceiver, decodedDefinitions, decodedVariables, decodedScope, decodedPlan, decodedRun, decodedRecorder, decodedReader};
+use crate::fields::long_at;
+use crate::fields::word_at;
+
+pub fn receiver_in(block: &[u8]) -> link::Receiver
+    requires { ⌜ 181 ≤ length (now block) ⌝ }
+    ensures { λ r. ⌜ r ≡ decodedReceiver (now (block .entry)) ⌝ }
+{
+    link::Receiver {
+        waiting: block[0],
+        phase: block[1],
+        command: block[2],
+        length: block[3],
+        have: block[4],
+        sum: block[5],
+    }
+}
+
+fn definition_at(block: &[u8], at: usize) -> document::Variable
+    requires { ⌜ at + 5 ≤ length (now block) ⌝ }
+    ensures { λ r. ⌜ r ≡ definitionIn true (drop at (now (block .entry))) ⌝ }
+{
+    document::Variable {
+        address: long_at(block, at + 1),
+        size: block[at],
+    }
+}
+
+fn definitions_at(block: &[u8], from: usize) -> [document::Variable; 8]
+    requires { ⌜ from + 40 ≤ length (now block) ⌝ }
+    ensures { λ r. ⌜ r ≡ decodedDefinitions (now (block .entry)) from ⌝ }
+{
+    let mut list = [document::Variable {
+        address: 0,
+        size: 0,
+    }; 8];
+    let mut at = from;
+    let mut k = 0;
+    while k < 8 {
+        list[k] = definition_at(block, at);
+        at += 5;
+        k += 1;
+    }
+    list
+}
+
+fn variables_at(block: &[u8], at: usize) -> variables::Variables
+    requires { ⌜ at + 41 ≤ length (now block) ⌝ }
+    ensures { λ r. ⌜ r ≡ decodedVariables (now (block .entry)) at ⌝ }
+{
+    let list = definitions_at(block, at + 1);
+    variables::Variables {
+        count: block[at],
+        list,
+    }
+}
+
+fn plan_in(block: &[u8]) -> recorder::Plan
+    requires { ⌜ 181 ≤ length (now block) ⌝ }
+    ensures { λ r. ⌜ r ≡ decodedPlan (now (block .entry)) ⌝ }
+{
+    let variables = variables_at(block, 129);
+    recorder::Plan {
+        samples: word_at(block, 113),
+        post_trigger: word_at(block, 115),
+        divider: word_at(block, 117),
+        mode: block[112],
+        size: block[123],
+        sign: block[124],
+        address: long_at(block, 119),
+        threshold: long_at(block, 125),
+        variables,
+    }
+}
+
+pub fn run_in(block: &[u8]) -> recorder::Run
+    requires { ⌜ 181 ≤ length (now block) ⌝ }
+    ensures { λ r. ⌜ r ≡ decodedRun (now (block .entry)) ⌝ }
+{
+    recorder::Run {
+        running: block[170],
+        full: block[171],
+        watch: block[172],
+        wait: word_at(block, 173),
+        place: word_at(block, 175),
+        value: long_at(block, 177),
+    }
+}
+
+pub fn recorder_in(block: &[u8]) -> recorder::Recorder
+    requires { ⌜ 181 ≤ length (now block) ⌝ }
+    ensures { λ r. ⌜ r ≡ decodedRecorder (now (block .entry)) ⌝ }
+{
+    let plan = plan_in(block);
+    let run = run_in(block);
+    recorder::Recorder {
+        ready: block[111],
+        plan,
+        run,
+    }
+}
+
+pub fn instruments_in(block: &[u8]) -> operations::Instruments
+    requires { ⌜ 181 ≤ length (now block) ⌝ }
+    ensures { λ r. ⌜ r ≡ record { scope = decodedScope (now (block .entry)); recorder = decodedRecorder (now (block .entry)) } ⌝ }
+{
+    let variables = variables_at(block, 70);
+    let recorder = recorder_in(block);
+    operations::Instruments {
+        scope: scope::Scope { variables },
+        recorder,
+    }
+}
+
+// The head of a reader; its data stay where they lie.
+pub fn head_in(block: &[u8]) -> host::Head
+    requires { ⌜ 70 ≤ length (now block) ⌝ }
+    ensures { λ r. ⌜ withBody r (bytesAt (now (block .entry)) 6 64) ≡ decodedReader (now (block .entry)) ⌝ }
+{
+    host::Head {
+        waiting: block[0],
+        phase: block[1],
+        status: block[2],
+        expected: block[3],
+        have: block[4],
+        sum: block[5],
+    }
+}

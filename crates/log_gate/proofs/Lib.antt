@@ -1,0 +1,5 @@
+pub mod Stored
+pub mod Turns
+pub mod Settled
+pub mod Readings
+pub mod Outcomes

@@ -1,0 +1,42 @@
+-- One promise, one outcome: two outcomes that a call's promise allows are equal, result and every lent byte.
+use mathlib.Core.Path.{_≡_, sym, _∙_}
+use mathlib.Core.List.{List}
+use Prim.Native.Nat.{ℕ}
+use Rattle.document.specs.Answer.{Answer}
+use Rattle.line.specs.declared.Written.{Written}
+use Rattle.line.specs.AnswerWritten.{AnswerWritten}
+use Rattle.host.specs.CommandWritten.{CommandWritten}
+use Rattle.log_gate.specs.declared.byte.Taken.{Taken}
+use Rattle.log_gate.specs.declared.reader.ReadByte.{ReadByte}
+use Rattle.log_gate.specs.Promises.{ResetDone, Checked, ByteTaken, TickTaken, BeginDone, ReadDone}
+
+module _ (block : List ℕ) (r s : ℕ) (x y : List ℕ) where
+  pub reset-one-outcome : ResetDone block r x → ResetDone block s y → (r ≡ s) × (x ≡ y)
+  reset-one-outcome p q = (p .result ∙ sym (q .result), p .state ∙ sym (q .state))
+
+  pub check-one-outcome : Checked block r → Checked block s → r ≡ s
+  check-one-outcome p q = p .result ∙ sym (q .result)
+
+  pub tick-one-outcome : (memory m n : List ℕ) → TickTaken block memory r x m → TickTaken block memory s y n → (r ≡ s) × (x ≡ y) × (m ≡ n)
+  tick-one-outcome memory m n p q = (p .result ∙ sym (q .result), p .state ∙ sym (q .state), p .memory-left ∙ sym (q .memory-left))
+
+  pub begin-one-outcome : (expected : ℕ) → BeginDone block expected r x → BeginDone block expected s y → (r ≡ s) × (x ≡ y)
+  begin-one-outcome expected p q = (p .result ∙ sym (q .result), p .reader ∙ sym (q .reader))
+
+module _ (block : List ℕ) (b : ℕ) (memory buffer : List ℕ) (r s : Taken) (x y m n c d : List ℕ) where
+  pub byte-one-outcome : ByteTaken block b memory buffer r x m c → ByteTaken block b memory buffer s y n d
+      → (r ≡ s) × (x ≡ y) × (m ≡ n) × (c ≡ d)
+  byte-one-outcome p q =
+      (p .result ∙ sym (q .result), p .state ∙ sym (q .state), p .memory-left ∙ sym (q .memory-left), p .buffer-told ∙ sym (q .buffer-told))
+
+module _ (block : List ℕ) (b : ℕ) (buffer : List ℕ) (r s : ReadByte) (x y c d : List ℕ) where
+  pub read-one-outcome : ReadDone block b buffer r x c → ReadDone block b buffer s y d → (r ≡ s) × (x ≡ y) × (c ≡ d)
+  read-one-outcome p q = (p .result ∙ sym (q .result), p .reader ∙ sym (q .reader), p .buffer-told ∙ sym (q .buffer-told))
+
+module _ (before : List ℕ) (r s : Written) (x y : List ℕ) where
+  pub answer-one-outcome : (a : Answer) → AnswerWritten a before r x → AnswerWritten a before s y → (r ≡ s) × (x ≡ y)
+  answer-one-outcome a p q = (p .result ∙ sym (q .result), p .buffer ∙ sym (q .buffer))
+
+  pub command-one-outcome : (command : ℕ) (body : List ℕ) → CommandWritten command body before r x → CommandWritten command body before s y
+      → (r ≡ s) × (x ≡ y)
+  command-one-outcome command body p q = (p .result ∙ sym (q .result), p .buffer ∙ sym (q .buffer))

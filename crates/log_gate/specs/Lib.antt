@@ -1,0 +1,3 @@
+-- What the exported calls promise.
+pub mod Promises
+pub mod Turned

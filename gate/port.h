@@ -1,0 +1,31 @@
+/* The service port: a pseudo-terminal that carries raw bytes, opened by whoever takes the technician's part. */
+#ifndef GATE_PORT_H
+#define GATE_PORT_H
+
+#include <stddef.h>
+#include <stdint.h>
+
+struct port {
+    int ours;   /* the gate's end */
+    int theirs; /* the technician's end, kept open so that one may leave and another come */
+    uint8_t in[256];
+    size_t in_at, in_end;
+    uint8_t out[256];
+    size_t out_at, out_end;
+};
+
+/* Opens the port and gives its path, or NULL; errno says why. */
+const char *port_open(struct port *port);
+
+/* Waits so many milliseconds for bytes to come, or for room where an answer is still to be sent. Returns 0 when the port is lost. */
+int port_wait(struct port *port, int milliseconds);
+
+/* The next byte that came, or -1. While an answer is not fully sent, no further byte is taken. */
+int port_next(struct port *port);
+
+/* An answer to be sent; `port_wait` sends what does not go at once. */
+void port_send(struct port *port, const uint8_t *bytes, size_t length);
+
+void port_close(struct port *port);
+
+#endif

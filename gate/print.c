@@ -1,0 +1,67 @@
+#include "print.h"
+
+#include "map.h"
+#include "memory.h"
+
+#include <stdio.h>
+
+static void print_bytes(const char *what, const uint8_t *bytes, size_t length)
+{
+    printf("%s", what);
+    for (size_t i = 0; i < length; i++)
+        printf(" %02X", bytes[i]);
+    printf("\n");
+}
+
+/* A line for a shell that sends the bytes and shows the answer. */
+static void print_shell_line(const uint8_t *bytes, size_t length, size_t answer_length, const char *path)
+{
+    printf("  (sleep 1; printf '");
+    for (size_t i = 0; i < length; i++)
+        printf("\\%03o", bytes[i]);
+    printf("' >%s) & head -c %zu %s | od -A n -t x1\n", path, answer_length, path);
+}
+
+static void print_map(void)
+{
+#define GATE_LINE(name, address, bytes, what) printf("%7d  %5d  %s\n", address, bytes, what);
+    printf("Address  bytes  little-endian\n");
+    GATE_MAP(GATE_LINE)
+#undef GATE_LINE
+}
+
+/* A real exchange, with the gate as it is now. */
+static void print_example(struct gate *g, const char *path)
+{
+    const uint8_t address[] = {COIL_1, 0};
+    uint8_t wire[LOG_GATE_COMMAND_ROOM];
+    log_gate_taken written = log_gate_write_command(0xD1, address, sizeof address, wire, sizeof wire);
+    size_t length = 0;
+    for (size_t i = 0; i < written.length; i++)
+        length = gate_byte(g, wire[i]);
+    printf("For example, two bytes at address %d, which are coil 1:\n", COIL_1);
+    print_bytes("  send    ", wire, written.length);
+    print_bytes("  answer  ", g->answer, length);
+    printf("  so coil 1 reads %u\n", (unsigned)number_at(g->answer + 2, 2));
+    printf("From a shell, the same:\n");
+    print_shell_line(wire, written.length, length, path);
+}
+
+void print_welcome(struct gate *g, const char *path)
+{
+    printf("The service port is %s\n\n", path);
+    print_map();
+    printf("\n");
+    print_example(g, path);
+    printf("\nStop with Ctrl-C.\n");
+    fflush(stdout);
+}
+
+void print_farewell(const struct gate *g)
+{
+    printf("\nThe gate is closed: %llu ticks, %u logs, %u alarms; %llu bytes came, %llu answers went.\n",
+           (unsigned long long)g->ticks, (unsigned)number_at(g->memory + LOGS, 4),
+           (unsigned)number_at(g->memory + ALARMS, 4), (unsigned long long)g->bytes, (unsigned long long)g->answers);
+    if (g->lost > 0)
+        printf("The machine was late, and %llu ticks were lost.\n", (unsigned long long)g->lost);
+}

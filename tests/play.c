@@ -1,0 +1,177 @@
+/*
+ * Plays a script from standard input through the calls of the header, so that the archive can be compared with the
+ * independent implementation of second/, whose README says what a script is. It is for scripts that can be read.
+ */
+#include "../include/log_gate.h"
+
+#include <stdio.h>
+#include <stdlib.h>
+#include <string.h>
+
+enum { LINE = 16384, MOST_ROOM = 600, FILLING = 0xEE };
+
+static uint8_t state[LOG_GATE_STATE], memory[LOG_GATE_MEMORY], answer[LOG_GATE_ANSWER_ROOM];
+static uint8_t reader[LOG_GATE_READER], lent[MOST_ROOM], bytes[LINE];
+static unsigned long given, read;
+static int memory_used;
+
+static void fail(const char *what)
+{
+    fprintf(stderr, "play: %s\n", what);
+    exit(1);
+}
+
+static unsigned long next_number(char **text, int base)
+{
+    char *end;
+    unsigned long number = strtoul(*text, &end, base);
+    if (end == *text)
+        fail("a number is missing");
+    *text = end;
+    return number;
+}
+
+static size_t next_bytes(char *text)
+{
+    size_t count = 0;
+    while (text[strspn(text, " \t\r\n")] != '\0')
+        bytes[count++] = (uint8_t)next_number(&text, 16);
+    return count;
+}
+
+static void print_bytes(const uint8_t *shown, size_t length)
+{
+    for (size_t i = 0; i < length; i++)
+        printf(" %02X", shown[i]);
+    printf("\n");
+}
+
+/* ---- the gate */
+
+static void give(char *text)
+{
+    size_t count = next_bytes(text);
+    for (size_t i = 0; i < count; i++, given++) {
+        log_gate_taken taken =
+            log_gate_byte(state, sizeof state, bytes[i], memory, sizeof memory, answer, sizeof answer);
+        if (taken.refusal != LOG_GATE_TAKEN)
+            fail("the gate refuses a byte");
+        if (taken.length > 0) {
+            printf("A %lu", given);
+            print_bytes(answer, taken.length);
+        }
+    }
+}
+
+static void tick(char *text)
+{
+    for (unsigned long n = next_number(&text, 10); n > 0; n--)
+        if (log_gate_tick(state, sizeof state, memory, sizeof memory) != LOG_GATE_TAKEN)
+            fail("the gate refuses a tick");
+}
+
+static size_t next_range(char **text, size_t *length, int given_length)
+{
+    size_t address = next_number(text, 10);
+    *length = given_length ? next_number(text, 10) : next_bytes(*text);
+    if (address > sizeof memory || *length > sizeof memory - address)
+        fail("a range outside the memory");
+    return address;
+}
+
+static void poke(char *text)
+{
+    size_t length, address = next_range(&text, &length, 0);
+    memcpy(memory + address, bytes, length);
+}
+
+static void show(char *text)
+{
+    size_t length, address = next_range(&text, &length, 1);
+    printf("M %zu", address);
+    print_bytes(memory + address, length);
+}
+
+/* ---- the other end of the line */
+
+static size_t next_room(char **text)
+{
+    size_t room = next_number(text, 10);
+    if (room > MOST_ROOM)
+        fail("a room above 600");
+    return room;
+}
+
+static void write_message(char letter, char *text)
+{
+    uint8_t code = (uint8_t)next_number(&text, 16);
+    size_t room = next_room(&text), count = next_bytes(text);
+    memset(lent, FILLING, sizeof lent);
+    log_gate_taken written = letter == 'W' ? log_gate_write_command(code, bytes, count, lent, room)
+                                           : log_gate_write_answer(code, bytes, count, lent, room);
+    printf("%c %u %zu", letter, written.refusal, written.length);
+    print_bytes(lent, room);
+}
+
+static void begin(char *text)
+{
+    printf("E %u\n", log_gate_reader_begin(reader, sizeof reader, next_number(&text, 10)));
+}
+
+static void read_bytes(char *text)
+{
+    size_t room = next_room(&text), count = next_bytes(text);
+    for (size_t i = 0; i < count; i++, read++) {
+        memset(lent, FILLING, sizeof lent);
+        log_gate_read came = log_gate_reader_byte(reader, sizeof reader, bytes[i], lent, room);
+        if (came.refusal != LOG_GATE_TAKEN)
+            printf("R %lu %u\n", read, came.refusal);
+        if (came.whole) {
+            printf("R %lu 0 %02X %u", read, came.status, came.length);
+            print_bytes(lent, room);
+        }
+    }
+}
+
+/* ---- the lines */
+
+static void play(char *text)
+{
+    char letter = *text;
+    memory_used |= strchr("BTPM", letter) != NULL;
+    switch (letter) {
+    case 'B': give(text + 1); break;
+    case 'T': tick(text + 1); break;
+    case 'P': poke(text + 1); break;
+    case 'M': show(text + 1); break;
+    case 'W': case 'V': write_message(letter, text + 1); break;
+    case 'E': begin(text + 1); break;
+    case 'R': read_bytes(text + 1); break;
+    default: fail("no operation");
+    }
+}
+
+static unsigned adler32(void)
+{
+    unsigned low = 1, high = 0;
+    for (size_t i = 0; i < sizeof memory; i++) {
+        low = (low + memory[i]) % 65521;
+        high = (high + low) % 65521;
+    }
+    return high << 16 | low;
+}
+
+int main(void)
+{
+    static char line[LINE];
+    log_gate_reset(state, sizeof state);
+    log_gate_reader_begin(reader, sizeof reader, 0);
+    while (fgets(line, sizeof line, stdin) != NULL) {
+        char *text = line + strspn(line, " \t\r\n");
+        if (*text != '\0' && *text != '#')
+            play(text);
+    }
+    if (memory_used)
+        printf("D adler32 %08X\n", adler32());
+    return 0;
+}

@@ -1,0 +1,163 @@
+/*
+ * A technician at the virtual gate's service port: port_test PATH. Commands are written and answers read with the header's other
+ * end of the line. It looks that the coils are live, that a recorder triggers on one, and that a written threshold counts.
+ */
+#define _XOPEN_SOURCE 700
+#define _DEFAULT_SOURCE
+#include "../gate/map.h"
+#include "../include/log_gate.h"
+
+#include <fcntl.h>
+#include <poll.h>
+#include <stdio.h>
+#include <stdlib.h>
+#include <string.h>
+#include <termios.h>
+#include <time.h>
+#include <unistd.h>
+
+enum { PATIENCE = 10000 /* milliseconds for an answer */, TRIES = 2000 /* of ten milliseconds each, for the scene */ };
+
+static int port;
+
+static void expect(int holds, const char *what)
+{
+    if (holds)
+        return;
+    printf("port_test: not so: %s\n", what);
+    exit(1);
+}
+
+static void open_port(const char *path)
+{
+    struct termios settings;
+    port = open(path, O_RDWR | O_NOCTTY);
+    expect(port >= 0 && tcgetattr(port, &settings) == 0, "the port can be opened");
+    cfmakeraw(&settings);
+    expect(tcsetattr(port, TCSANOW, &settings) == 0, "the port is raw");
+}
+
+static void pause_a_little(void)
+{
+    nanosleep(&(struct timespec){.tv_nsec = 10 * 1000 * 1000}, NULL);
+}
+
+static uint8_t next_byte(void)
+{
+    uint8_t byte;
+    struct pollfd ready = {.fd = port, .events = POLLIN};
+    expect(poll(&ready, 1, PATIENCE) == 1 && read(port, &byte, 1) == 1, "an answer comes in time");
+    return byte;
+}
+
+static void test_staple(void)
+{
+    const uint8_t asked[] = {0x2B, 0xC8, 0x38}, due[] = {0x2B, 0x00, 0x03, 0x00, 0x01, 0x01, 0x00, 0x40, 0xBB};
+    expect(write(port, asked, sizeof asked) == sizeof asked, "bytes can be sent");
+    for (size_t i = 0; i < sizeof due; i++)
+        expect(next_byte() == due[i], "2B C8 38 gives 2B 00 03 00 01 01 00 40 BB");
+}
+
+/* ---- commands and answers */
+
+static uint8_t data[LOG_GATE_DATA_ROOM];
+
+/* The status of the answer to a command; its data, so many as are expected, stand in `data`. */
+static uint8_t ask(uint8_t command, const uint8_t *body, size_t length, size_t expected)
+{
+    uint8_t wire[LOG_GATE_COMMAND_ROOM], reader[LOG_GATE_READER];
+    log_gate_taken written = log_gate_write_command(command, body, length, wire, sizeof wire);
+    expect(written.refusal == LOG_GATE_TAKEN, "the command can be formed");
+    expect(write(port, wire, written.length) == (ssize_t)written.length, "the command can be sent");
+    expect(log_gate_reader_begin(reader, sizeof reader, expected) == LOG_GATE_TAKEN, "the reading begins");
+    for (;;) {
+        log_gate_read read = log_gate_reader_byte(reader, sizeof reader, next_byte(), data, sizeof data);
+        expect(read.refusal == LOG_GATE_TAKEN, "the answer's sum is right");
+        if (read.whole)
+            return read.status;
+    }
+}
+
+static unsigned word(const uint8_t *bytes)
+{
+    return bytes[0] + 256u * bytes[1];
+}
+
+static unsigned read_word(unsigned address)
+{
+    const uint8_t body[] = {(uint8_t)address, (uint8_t)(address >> 8)};
+    expect(ask(0xD1, body, sizeof body, 2) == LOG_GATE_DONE, "two bytes can be read");
+    return word(data);
+}
+
+static unsigned read_byte(unsigned address)
+{
+    return read_word(address) % 256;
+}
+
+static void write_word(unsigned address, unsigned value)
+{
+    const uint8_t body[] = {(uint8_t)address, (uint8_t)(address >> 8), (uint8_t)value, (uint8_t)(value >> 8)};
+    expect(ask(0xE4, body, sizeof body, 0) == LOG_GATE_DONE, "two bytes can be written");
+}
+
+/* ---- the scene */
+
+static void test_live(void)
+{
+    unsigned first = read_word(COIL_1);
+    for (int i = 0; i < TRIES; i++) {
+        if (read_word(COIL_1) != first)
+            return;
+        pause_a_little();
+    }
+    expect(0, "coil 1 is live");
+}
+
+static void test_alarm(void)
+{
+    write_word(THRESHOLD, 0);
+    for (int i = 0; i < TRIES && read_byte(ALARM) == 0; i++)
+        pause_a_little();
+    expect(read_byte(ALARM) == 1, "with a threshold of 0 there is an alarm");
+    write_word(THRESHOLD, 0xFFFF);
+    for (int i = 0; i < TRIES && read_byte(ALARM) == 1; i++)
+        pause_a_little();
+    expect(read_byte(ALARM) == 0, "with the highest threshold there is none once the log has left");
+    write_word(THRESHOLD, 1000);
+}
+
+/* ---- the recorder: coil 1 rising over EDGE, which metal alone reaches */
+
+enum { SAMPLES = 32, POST_TRIGGER = 10, EDGE = 1000, BUFFER = 12288 };
+
+static void test_recorder(void)
+{
+    const uint8_t setup[] = {1, SAMPLES, 0, POST_TRIGGER, 0, 0, 0, COIL_1, 0, 2, 0, EDGE % 256, EDGE / 256, 0, 0, 1, 2, COIL_1, 0};
+    const uint8_t whole_buffer[] = {SAMPLES * 2, BUFFER % 256, BUFFER / 256};
+    expect(ask(0x09, setup, sizeof setup, 0) == LOG_GATE_DONE, "the recorder can be set up");
+    int tries = 0;
+    while (ask(0xC3, setup, 0, 0) == LOG_GATE_RECORDER_RUNS && tries++ < TRIES)
+        pause_a_little();
+    expect(ask(0xC4, setup, 0, 4) == LOG_GATE_DONE && word(data) == BUFFER, "the recorder has stopped at metal");
+    unsigned start = word(data + 2);
+    expect(ask(0x01, whole_buffer, sizeof whole_buffer, SAMPLES * 2) == LOG_GATE_DONE, "the buffer can be read");
+    unsigned readings[SAMPLES];
+    for (unsigned i = 0; i < SAMPLES; i++)
+        readings[i] = word(data + 2 * ((start + i) % SAMPLES));
+    unsigned edge = SAMPLES - 1 - POST_TRIGGER;
+    expect(readings[edge - 1] < EDGE && EDGE <= readings[edge], "the trigger stands ten sets before the last");
+    printf("port_test: the trigger came between readings of %u and %u\n", readings[edge - 1], readings[edge]);
+}
+
+int main(int argc, char **argv)
+{
+    expect(argc == 2, "one word is given, the port's path");
+    open_port(argv[1]);
+    test_staple();
+    test_live();
+    test_recorder();
+    test_alarm();
+    printf("port_test: all as it should be\n");
+    return 0;
+}

@@ -1,0 +1,56 @@
+/* The scene of the virtual gate: the same seed gives the same, metal raises the alarm, and the threshold is the technician's. */
+#include "../gate/map.h"
+#include "../gate/memory.h"
+#include "../gate/scene.h"
+
+#include <stdio.h>
+#include <stdlib.h>
+#include <string.h>
+
+enum { SIZE = 64, TICKS = 60000 };
+
+static void expect(int holds, const char *what)
+{
+    if (holds)
+        return;
+    printf("scene_test: not so: %s\n", what);
+    exit(1);
+}
+
+/* A minute of a scene; what is in the memory then. */
+static void play(uint64_t seed, uint32_t threshold, uint8_t *memory)
+{
+    struct scene scene;
+    memset(memory, 0, SIZE);
+    scene_begin(&scene, seed, memory);
+    put_number(memory + THRESHOLD, 2, threshold);
+    for (int i = 0; i < TICKS; i++)
+        scene_tick(&scene, memory);
+    expect(number_at(memory + THRESHOLD, 2) == threshold, "the threshold stays as it was written");
+}
+
+static void expect_own_bytes(const uint8_t *memory)
+{
+    for (unsigned i = 0; i < SIZE; i++)
+        expect((COIL_1 <= i && i < ALARMS + 4) || memory[i] == 0, "the scene keeps to its map");
+}
+
+int main(void)
+{
+    uint8_t first[SIZE], again[SIZE], other[SIZE], deaf[SIZE], shy[SIZE];
+    play(1, 1000, first);
+    play(1, 1000, again);
+    play(2, 1000, other);
+    play(1, 0xFFFF, deaf);
+    play(1, 0, shy);
+    expect(memcmp(first, again, SIZE) == 0, "the same seed gives the same scene");
+    expect(memcmp(first, other, SIZE) != 0, "another seed gives another scene");
+    expect_own_bytes(first);
+    unsigned logs = number_at(first + LOGS, 4), alarms = number_at(first + ALARMS, 4);
+    expect(logs > 20 && 0 < alarms && alarms < logs, "some logs have metal in them, and some have none");
+    expect(number_at(deaf + ALARMS, 4) == 0 && deaf[ALARM] == 0, "no reading is at the highest threshold");
+    expect(number_at(shy + ALARMS, 4) == 1 && shy[ALARM] == 1, "every reading is at a threshold of 0");
+    expect(memcmp(first + COIL_1, deaf + COIL_1, 2 * COILS) == 0, "the threshold does not change the readings");
+    printf("scene_test: %u logs in a minute, %u with metal\n", logs, alarms);
+    return 0;
+}

@@ -1,0 +1,546 @@
+/*
+ * A smoke test of the calls as firmware sees them. It knows the header alone: the document's staples over the wire, every
+ * refusal of every call, blocks of every wrong length, and both ends of the line against each other.
+ */
+#include "../include/log_gate.h"
+
+#include <stdbool.h>
+#include <stdio.h>
+#include <stdlib.h>
+#include <string.h>
+
+static unsigned checks, failures;
+
+static void expect(bool holds, const char *what, int line)
+{
+    checks++;
+    if (holds)
+        return;
+    failures++;
+    printf("smoke.c:%d: not so: %s\n", line, what);
+}
+
+#define EXPECT(what) expect((what), #what, __LINE__)
+
+/* ---- a gate */
+
+struct gate {
+    uint8_t state[LOG_GATE_STATE];
+    uint8_t memory[LOG_GATE_MEMORY];
+    uint8_t answer[LOG_GATE_ANSWER_ROOM];
+};
+
+static struct gate gate;
+
+static void reset(void)
+{
+    memset(&gate, 0, sizeof gate);
+    memset(gate.state, 0xEE, sizeof gate.state);
+    EXPECT(log_gate_reset(gate.state, sizeof gate.state) == LOG_GATE_TAKEN);
+}
+
+static log_gate_taken give(uint8_t byte)
+{
+    return log_gate_byte(gate.state, sizeof gate.state, byte, gate.memory, sizeof gate.memory, gate.answer,
+                         sizeof gate.answer);
+}
+
+static void tick(void)
+{
+    EXPECT(log_gate_tick(gate.state, sizeof gate.state, gate.memory, sizeof gate.memory) == LOG_GATE_TAKEN);
+}
+
+/* ---- bytes as text: "2B C8 38" */
+
+static size_t bytes_of(const char *text, uint8_t *bytes)
+{
+    size_t n = 0;
+    for (char *end; *text != '\0'; text = end)
+        bytes[n++] = (uint8_t)strtoul(text, &end, 16);
+    return n;
+}
+
+static void append_text(char *text, const uint8_t *bytes, size_t length)
+{
+    text += strlen(text);
+    for (size_t i = 0; i < length; i++)
+        text += sprintf(text, i + 1 < length ? "%02X " : "%02X", bytes[i]);
+}
+
+/* What the gate answers to these wire bytes; several answers are parted by a semicolon. */
+static const char *answer_to(const char *wire)
+{
+    static char text[1024];
+    uint8_t bytes[512];
+    size_t n = bytes_of(wire, bytes);
+    text[0] = '\0';
+    for (size_t i = 0; i < n; i++) {
+        log_gate_taken taken = give(bytes[i]);
+        EXPECT(taken.refusal == LOG_GATE_TAKEN);
+        if (taken.length > 0 && text[0] != '\0')
+            strcat(text, "; ");
+        append_text(text, gate.answer, taken.length);
+    }
+    return text;
+}
+
+static void expect_answer(const char *wire, const char *answer)
+{
+    checks++;
+    const char *came = answer_to(wire);
+    if (strcmp(came, answer) == 0)
+        return;
+    failures++;
+    printf("smoke.c: %s gives '%s', not '%s'\n", wire, came, answer);
+}
+
+/* ---- the staples of the document */
+
+static const struct {
+    unsigned address; /* of the byte that the case names */
+    uint8_t before, after;
+    const char *wire, *answer;
+} staples[] = {
+    {16, 0x00, 0x00, "2B C8 38", "2B 00 03 00 01 01 00 40 BB"},
+    {16, 0x7F, 0x7F, "2B D0 10 00 20", "2B 00 7F 81"},
+    {16, 0x2B, 0x2B, "2B D0 10 00 20", "2B 00 2B 2B D5"},
+    {43, 0x7F, 0x7F, "2B D0 2B 2B 00 05", "2B 00 7F 81"},
+    {16, 0x5A, 0x72, "2B E5 10 00 F0 3C DF", "2B 00 00"},
+    {16, 0x7F, 0x7F, "2B D0 10 00 21", "2B 82 7E"},
+    {16, 0x7F, 0x7F, "2B 01 03 41 10 00 AB", "2B 84 7C"},
+    {16383, 0x7F, 0x7F, "2B D0 FF 3F F2", "2B 00 7F 81"},
+    {16383, 0x7F, 0x7F, "2B D0 00 40 F0", "2B 89 77"},
+    {8191, 0x00, 0x05, "2B E3 FF 1F 05 00 FA", "2B 00 00"},
+    {8192, 0x00, 0x00, "2B E3 00 20 05 00 F8", "2B 89 77"},
+    {16, 0x00, 0x00, "2B 2B 2B C8 38", "2B 00 03 00 01 01 00 40 BB"},
+    {16, 0x00, 0x00, "2B 2B C8 38", ""},
+    {16, 0x00, 0x00, "2B D0 10 2B C8 38", "2B 00 03 00 01 01 00 40 BB"},
+    {16, 0x00, 0x00, "2B 7F 00 81", "2B 81 7F"},
+    {16, 0x00, 0x00, "2B C1 3F", "2B 88 78"},
+};
+
+static void test_staples(void)
+{
+    for (size_t i = 0; i < sizeof staples / sizeof staples[0]; i++) {
+        reset();
+        gate.memory[staples[i].address] = staples[i].before;
+        expect_answer(staples[i].wire, staples[i].answer);
+        EXPECT(gate.memory[staples[i].address] == staples[i].after);
+    }
+}
+
+/* Staple 13: rising, size 2, threshold 0x7000, from 0x6000 to 0x8000. */
+static void test_sign(const char *setup, const char *status)
+{
+    reset();
+    gate.memory[17] = 0x60;
+    expect_answer(setup, "2B 00 00");
+    tick();
+    gate.memory[17] = 0x80;
+    tick();
+    expect_answer("2B C3 3D", status);
+    EXPECT(gate.memory[12289] == 0x60 && gate.memory[12291] == 0x80);
+}
+
+/* ---- both ends of the line: a command written, given to the gate, its answer read */
+
+struct reply {
+    bool whole;
+    uint8_t status, length;
+    uint8_t data[LOG_GATE_DATA_ROOM];
+};
+
+static void read_answer(struct reply *reply, size_t length, size_t expected)
+{
+    uint8_t reader[LOG_GATE_READER];
+    log_gate_read read = {0, 0, 0, 0};
+    EXPECT(log_gate_reader_begin(reader, sizeof reader, expected) == LOG_GATE_TAKEN);
+    for (size_t i = 0; i < length; i++) {
+        EXPECT(read.whole == 0);
+        read = log_gate_reader_byte(reader, sizeof reader, gate.answer[i], reply->data, sizeof reply->data);
+        EXPECT(read.refusal == LOG_GATE_TAKEN);
+    }
+    reply->whole = read.whole == 1;
+    reply->status = read.status;
+    reply->length = read.length;
+}
+
+static struct reply ask(uint8_t command, const char *data, size_t expected)
+{
+    uint8_t bytes[300], wire[LOG_GATE_COMMAND_ROOM];
+    struct reply reply = {0};
+    size_t n = bytes_of(data, bytes);
+    log_gate_taken written = log_gate_write_command(command, bytes, n, wire, sizeof wire);
+    EXPECT(written.refusal == LOG_GATE_TAKEN && written.length > 2);
+    for (size_t i = 0; i < written.length; i++) {
+        log_gate_taken taken = give(wire[i]);
+        EXPECT(taken.refusal == LOG_GATE_TAKEN);
+        EXPECT((taken.length > 0) == (i + 1 == written.length));
+        if (taken.length > 0)
+            read_answer(&reply, taken.length, expected);
+    }
+    EXPECT(reply.whole);
+    return reply;
+}
+
+static uint8_t status_of(uint8_t command, const char *data)
+{
+    return ask(command, data, 0).status;
+}
+
+static const char block_of_60[] =
+    "3C 2B 00"
+    " 2B 2B 2B 2B 2B 2B 2B 2B 2B 2B 2B 2B 2B 2B 2B 2B 2B 2B 2B 2B 2B 2B 2B 2B 2B 2B 2B 2B 2B 2B"
+    " 2B 2B 2B 2B 2B 2B 2B 2B 2B 2B 2B 2B 2B 2B 2B 2B 2B 2B 2B 2B 2B 2B 2B 2B 2B 2B 2B 2B 2B 2B";
+
+static void test_both_ends(void)
+{
+    reset();
+    EXPECT(status_of(0x02, block_of_60) == LOG_GATE_DONE);
+    struct reply reply = ask(0x01, "40 29 00", 64);
+    EXPECT(reply.status == LOG_GATE_DONE && reply.length == 64);
+    EXPECT(reply.data[1] == 0x00 && reply.data[2] == 0x2B && reply.data[61] == 0x2B && reply.data[62] == 0x00);
+    EXPECT(status_of(0x03, "01 10 00 F0 3C") == LOG_GATE_DONE && gate.memory[16] == 0x30);
+    EXPECT(status_of(0xF1, "12 00 34 12 FF 0F") == LOG_GATE_DONE && gate.memory[18] == 0x34 && gate.memory[19] == 0x02);
+    EXPECT(status_of(0xF0, "14 00 04 03 02 01") == LOG_GATE_DONE && gate.memory[23] == 0x01);
+    reply = ask(0xE2, "14 00 00 00", 4);
+    EXPECT(reply.length == 4 && memcmp(reply.data, gate.memory + 20, 4) == 0);
+    reply = ask(0xC0, "", 35);
+    EXPECT(reply.length == 35 && memcmp(reply.data + 10, "LOG GATE", 9) == 0);
+}
+
+static void test_instruments(void)
+{
+    reset();
+    for (unsigned i = 0; i < 64; i++)
+        gate.memory[i] = (uint8_t)i;
+    EXPECT(status_of(0x08, "02 02 10 00 01 2B 00") == LOG_GATE_DONE);
+    struct reply reply = ask(0xC5, "", 3);
+    EXPECT(reply.length == 3 && reply.data[0] == 16 && reply.data[1] == 17 && reply.data[2] == 43);
+    EXPECT(status_of(0x0B, "00 02 00 00 00 01 00 00 00 00 00 00 00 00 00 00 00 01 01 10 00 00 00") == LOG_GATE_DONE);
+    EXPECT(status_of(0xC1, "") == LOG_GATE_RECORDER_RUNS && status_of(0xC3, "") == LOG_GATE_RECORDER_RUNS);
+    for (uint8_t i = 0; i < 6; i++) { /* sets at ticks 1, 3 and 5 */
+        gate.memory[16] = (uint8_t)(0x50 + i);
+        tick();
+    }
+    EXPECT(gate.memory[12288] == 0x54 && gate.memory[12289] == 0x52 && gate.memory[12290] == 0);
+    EXPECT(status_of(0xC2, "") == LOG_GATE_DONE && status_of(0xC2, "") == LOG_GATE_RECORDER_STOPPED);
+    reply = ask(0xC9, "", 6);
+    EXPECT(reply.length == 6 && memcmp(reply.data, "\0\x30\0\0\x01", 6) == 0);
+    EXPECT(status_of(0xC1, "") == LOG_GATE_DONE && status_of(0xC3, "") == LOG_GATE_RECORDER_RUNS);
+}
+
+/* The edges of a trigger of one byte, threshold 0x80: mode, sign, the values at two sets, and whether it stops then. */
+static void test_edges(void)
+{
+    static const struct {
+        uint8_t mode, sign, from, to, stops;
+    } edges[] = {{1, 0, 0x7F, 0x80, 1}, {1, 0, 0x80, 0x81, 0}, {1, 0, 0x7E, 0x7F, 0}, {2, 0, 0x81, 0x80, 1},
+                 {2, 0, 0x80, 0x7F, 0}, {2, 0, 0x82, 0x81, 0}, {2, 1, 0x7F, 0x80, 1}, {2, 1, 0x81, 0x80, 1},
+                 {1, 1, 0x7F, 0x80, 0}, {1, 1, 0x80, 0x7F, 0}, {0, 0, 0x7F, 0x80, 0}, {0, 0, 0x81, 0x80, 0}};
+    for (size_t i = 0; i < sizeof edges / sizeof edges[0]; i++) {
+        char data[64];
+        reset();
+        sprintf(data, "%02X 02 00 00 00 00 00 10 00 01 %02X 80 00 00 00 01 01 10 00", edges[i].mode, edges[i].sign);
+        EXPECT(status_of(0x09, data) == LOG_GATE_DONE);
+        gate.memory[16] = edges[i].from;
+        tick();
+        gate.memory[16] = edges[i].to;
+        tick();
+        EXPECT(status_of(0xC3, "") == (edges[i].stops ? LOG_GATE_RECORDER_STOPPED : LOG_GATE_RECORDER_RUNS));
+    }
+}
+
+/* Post-trigger 2, divider 1: it stops 4 ticks after the trigger; the start index is the place that would be written next. */
+static void test_post_trigger(void)
+{
+    reset();
+    EXPECT(status_of(0x09, "01 03 00 02 00 01 00 10 00 01 00 80 00 00 00 01 01 10 00") == LOG_GATE_DONE);
+    for (uint8_t i = 0; i < 7; i++) { /* sets at ticks 1, 3 (the trigger), 5 and 7 */
+        EXPECT(status_of(0xC3, "") == LOG_GATE_RECORDER_RUNS);
+        gate.memory[16] = (uint8_t)(0x7E + i);
+        tick();
+    }
+    EXPECT(status_of(0xC3, "") == LOG_GATE_RECORDER_STOPPED);
+    tick();
+    EXPECT(gate.memory[12288] == 0x84 && gate.memory[12289] == 0x80 && gate.memory[12290] == 0x82 && gate.memory[12291] == 0);
+    struct reply reply = ask(0xC4, "", 4);
+    EXPECT(reply.length == 4 && memcmp(reply.data, "\0\x30\x01\0", 4) == 0);
+}
+
+/* ---- every status that refuses on the wire, with what stands below it in the order also wrong */
+
+static const struct {
+    uint8_t command;
+    const char *data;
+    uint8_t status;
+} wrong[] = {
+    {0x10, "", LOG_GATE_NOT_SERVED},
+    {0xC6, "", LOG_GATE_NOT_SERVED},
+    {0xC5, "", LOG_GATE_NOT_SET_UP},
+    {0xC4, "", LOG_GATE_NOT_SET_UP},
+    {0x01, "41 00", LOG_GATE_LAYOUT_WRONG},
+    {0x02, "02 00 40 01", LOG_GATE_LAYOUT_WRONG},
+    {0x08, "", LOG_GATE_LAYOUT_WRONG},
+    {0x08, "01 00 00", LOG_GATE_LAYOUT_WRONG},
+    {0x09, "03 00 00 00 00 00 00 00 40 00 00 00 00 00 00 01 00 00 40", LOG_GATE_LAYOUT_WRONG},
+    {0x09, "01 00 00 00 00 00 00 00 40 00 02 00 00 00 00 01 00 00 40", LOG_GATE_LAYOUT_WRONG},
+    {0x01, "00 00 40", LOG_GATE_SIZE_WRONG},
+    {0x08, "00", LOG_GATE_SIZE_WRONG},
+    {0x08, "01 00 00 40", LOG_GATE_SIZE_WRONG},
+    {0x09, "00 00 00 00 00 00 00 00 40 00 00 00 00 00 00 01 01 00 40", LOG_GATE_SIZE_WRONG},
+    {0x09, "00 01 10 00 00 00 00 00 00 00 00 00 00 00 00 01 02 00 00", LOG_GATE_SIZE_WRONG},
+    {0x09, "02 01 00 00 00 00 00 00 40 03 00 00 00 00 00 01 01 00 40", LOG_GATE_SIZE_WRONG},
+    {0x01, "41 00 40", LOG_GATE_ANSWER_TOO_LONG},
+    {0x01, "40 C1 3F", LOG_GATE_RANGE_WRONG},
+    {0x02, "02 FF 1F 01 02", LOG_GATE_RANGE_WRONG},
+    {0xE2, "FD FF FF FF", LOG_GATE_RANGE_WRONG},
+    {0x08, "01 02 FF 3F", LOG_GATE_RANGE_WRONG},
+    {0x09, "00 01 00 00 00 00 00 00 00 00 00 00 00 00 00 01 02 FF 2F", LOG_GATE_RANGE_WRONG},
+    {0x09, "01 01 00 00 00 00 00 FD 2F 04 00 00 00 00 00 01 01 00 00", LOG_GATE_RANGE_WRONG},
+};
+
+static void test_wrong_messages(void)
+{
+    for (size_t i = 0; i < sizeof wrong / sizeof wrong[0]; i++) {
+        uint8_t fresh[LOG_GATE_STATE];
+        reset();
+        checks++;
+        struct reply reply = ask(wrong[i].command, wrong[i].data, 64);
+        if (reply.status != wrong[i].status || reply.length != 0) {
+            failures++;
+            printf("smoke.c: %02X %s gives %02X, not %02X\n", wrong[i].command, wrong[i].data, reply.status, wrong[i].status);
+        }
+        log_gate_reset(fresh, sizeof fresh);
+        EXPECT(memcmp(gate.state + 70, fresh + 70, sizeof fresh - 70) == 0);
+        for (size_t a = 0; a < sizeof gate.memory; a++)
+            if (gate.memory[a] != 0)
+                EXPECT(!"a refused message changes memory");
+    }
+}
+
+/* A recorder that runs is busy, whatever the setup's data; a message above 64 is too long, whatever its command. */
+static void test_order(void)
+{
+    char long_data[3 * 65 + 1] = "";
+    for (unsigned i = 0; i < 65; i++)
+        strcat(long_data, "00 ");
+    long_data[3 * 65 - 1] = '\0';
+    reset();
+    EXPECT(status_of(0x09, "00 01 00 00 00 00 00 00 00 00 00 00 00 00 00 01 01 00 00") == LOG_GATE_DONE);
+    EXPECT(status_of(0x09, "07") == LOG_GATE_BUSY && status_of(0x0B, "") == LOG_GATE_BUSY);
+    EXPECT(status_of(0xC4, "") == LOG_GATE_BUSY && status_of(0xC9, "") == LOG_GATE_BUSY);
+    EXPECT(status_of(0x7F, long_data) == LOG_GATE_MESSAGE_TOO_LONG);
+    EXPECT(status_of(0x02, long_data) == LOG_GATE_MESSAGE_TOO_LONG);
+    expect_answer("2B 7F 00 80", "2B 82 7E");
+}
+
+/* Staple 14: a length byte of 0x40 is accepted, 0x41 is not. */
+static void test_longest(void)
+{
+    char data[3 * 66] = "3D 10 00";
+    reset();
+    for (unsigned i = 0; i < 61; i++)
+        strcat(data, " 11");
+    EXPECT(status_of(0x02, data) == LOG_GATE_DONE && gate.memory[76] == 0x11 && gate.memory[77] == 0);
+    data[1] = 'E';
+    strcat(data, " 11");
+    EXPECT(status_of(0x02, data) == LOG_GATE_MESSAGE_TOO_LONG && gate.memory[77] == 0);
+}
+
+/* ---- refusals of the calls: each number with all higher ones also due, and nothing lent is touched */
+
+static struct gate before;
+
+static bool untouched(void)
+{
+    return memcmp(&gate, &before, sizeof gate) == 0;
+}
+
+static uint8_t byte_refused(size_t state, size_t memory, size_t room)
+{
+    log_gate_taken taken = log_gate_byte(gate.state, state, 0x2B, gate.memory, memory, gate.answer, room);
+    EXPECT(taken.length == 0);
+    return taken.refusal;
+}
+
+static void test_target_refusals(void)
+{
+    size_t sound = LOG_GATE_STATE, whole = LOG_GATE_MEMORY, room = LOG_GATE_ANSWER_ROOM;
+    reset();
+    memset(gate.answer, 0xA5, sizeof gate.answer);
+    before = gate;
+    EXPECT(byte_refused(sound - 1, whole - 1, room - 1) == LOG_GATE_STATE_REFUSED);
+    EXPECT(byte_refused(sound, whole - 1, room - 1) == LOG_GATE_MEMORY_REFUSED);
+    EXPECT(byte_refused(sound, 0, room) == LOG_GATE_MEMORY_REFUSED);
+    EXPECT(byte_refused(sound, whole, room - 1) == LOG_GATE_ROOM_REFUSED);
+    EXPECT(byte_refused(sound, whole, 0) == LOG_GATE_ROOM_REFUSED);
+    EXPECT(log_gate_tick(gate.state, sound - 1, gate.memory, whole - 1) == LOG_GATE_STATE_REFUSED);
+    EXPECT(log_gate_tick(gate.state, sound, gate.memory, whole - 1) == LOG_GATE_MEMORY_REFUSED);
+    EXPECT(untouched());
+    EXPECT(byte_refused(sound, whole, room) == LOG_GATE_TAKEN && !untouched());
+}
+
+static uint8_t answer_refused(uint8_t status, size_t length, size_t room)
+{
+    uint8_t data[65] = {0}, out[LOG_GATE_ANSWER_ROOM], kept[LOG_GATE_ANSWER_ROOM];
+    memset(out, 0xA5, sizeof out);
+    memset(kept, 0xA5, sizeof kept);
+    log_gate_taken written = log_gate_write_answer(status, data, length, out, room);
+    if (written.refusal != LOG_GATE_TAKEN)
+        EXPECT(written.length == 0);
+    EXPECT(memcmp(out + written.length, kept, sizeof out - written.length) == 0);
+    return written.refusal;
+}
+
+static void test_answer_writer(void)
+{
+    size_t room = LOG_GATE_ANSWER_ROOM;
+    for (unsigned status = 0; status < 256; status++) {
+        bool known = status <= 0x02 || (0x81 <= status && status <= 0x89);
+        EXPECT(answer_refused((uint8_t)status, 0, room) == (known ? LOG_GATE_TAKEN : LOG_GATE_FORM_REFUSED));
+        EXPECT(answer_refused((uint8_t)status, 0, room - 1) == (known ? LOG_GATE_ROOM_REFUSED : LOG_GATE_FORM_REFUSED));
+        if (status >= 0x80)
+            EXPECT(answer_refused((uint8_t)status, 1, room) == LOG_GATE_FORM_REFUSED);
+    }
+    EXPECT(answer_refused(LOG_GATE_DONE, 64, room) == LOG_GATE_TAKEN);
+    EXPECT(answer_refused(LOG_GATE_DONE, 65, 0) == LOG_GATE_FORM_REFUSED);
+    EXPECT(answer_refused(LOG_GATE_RECORDER_RUNS, 64, 0) == LOG_GATE_ROOM_REFUSED);
+}
+
+static uint8_t command_refused(uint8_t command, size_t length, size_t room)
+{
+    uint8_t data[256], out[LOG_GATE_COMMAND_ROOM + 1], kept[sizeof out];
+    memset(data, 0x2B, sizeof data);
+    memset(out, 0xA5, sizeof out);
+    memset(kept, 0xA5, sizeof kept);
+    log_gate_taken written = log_gate_write_command(command, data, length, out, room);
+    EXPECT((written.refusal == LOG_GATE_TAKEN) == (written.length > 0) && written.length <= room);
+    EXPECT(memcmp(out + written.length, kept, sizeof out - written.length) == 0);
+    return written.refusal;
+}
+
+static void test_command_writer(void)
+{
+    EXPECT(command_refused(0x2B, 0, 0) == LOG_GATE_FORM_REFUSED);
+    EXPECT(command_refused(0xD0, 1, 0) == LOG_GATE_FORM_REFUSED);
+    EXPECT(command_refused(0xD0, 3, 516) == LOG_GATE_FORM_REFUSED);
+    EXPECT(command_refused(0x01, 256, 0) == LOG_GATE_FORM_REFUSED);
+    EXPECT(command_refused(0xC8, 0, 0) == LOG_GATE_ROOM_REFUSED);
+    EXPECT(command_refused(0xC8, 0, 2) == LOG_GATE_ROOM_REFUSED);
+    EXPECT(command_refused(0xC8, 0, 3) == LOG_GATE_TAKEN);
+    EXPECT(command_refused(0xD0, 2, 6) == LOG_GATE_ROOM_REFUSED);
+    EXPECT(command_refused(0xD0, 2, 7) == LOG_GATE_TAKEN);
+    EXPECT(command_refused(0x01, 255, 514) == LOG_GATE_ROOM_REFUSED);
+    EXPECT(command_refused(0x01, 255, 515) == LOG_GATE_TAKEN); /* its sum byte is 0x2B too */
+}
+
+static log_gate_read reader_byte(uint8_t *reader, size_t length, uint8_t byte, uint8_t *data, size_t room)
+{
+    log_gate_read read = log_gate_reader_byte(reader, length, byte, data, room);
+    if (read.refusal != LOG_GATE_TAKEN)
+        EXPECT(read.whole == 0 && read.status == 0 && read.length == 0);
+    return read;
+}
+
+static void test_reader_refusals(void)
+{
+    uint8_t reader[LOG_GATE_READER], kept[LOG_GATE_READER], data[64], filled[64];
+    memset(reader, 0xFF, sizeof reader);
+    memset(kept, 0xFF, sizeof kept);
+    memset(data, 0xA5, sizeof data);
+    memset(filled, 0xA5, sizeof filled);
+    for (size_t n = 0; n < LOG_GATE_READER; n++)
+        EXPECT(log_gate_reader_begin(reader, n, 65) == LOG_GATE_STATE_REFUSED);
+    EXPECT(log_gate_reader_begin(reader, sizeof reader, 65) == LOG_GATE_EXPECTED_REFUSED);
+    EXPECT(reader_byte(reader, sizeof reader, 0x2B, data, 63).refusal == LOG_GATE_STATE_REFUSED);
+    EXPECT(memcmp(reader, kept, sizeof kept) == 0);
+    EXPECT(log_gate_reader_begin(reader, sizeof reader, 1) == LOG_GATE_TAKEN);
+    memcpy(kept, reader, sizeof kept);
+    EXPECT(reader_byte(reader, sizeof reader - 1, 0x2B, data, 63).refusal == LOG_GATE_STATE_REFUSED);
+    EXPECT(reader_byte(reader, sizeof reader, 0x2B, data, 63).refusal == LOG_GATE_ROOM_REFUSED);
+    EXPECT(memcmp(reader, kept, sizeof kept) == 0);
+    for (size_t i = 0; i < 3; i++)
+        EXPECT(reader_byte(reader, sizeof reader, (uint8_t)"\x2B\x00\x7F"[i], data, 64).whole == 0);
+    EXPECT(reader_byte(reader, sizeof reader, 0x82, data, 64).refusal == LOG_GATE_SUM_REFUSED);
+    EXPECT(reader_byte(reader, sizeof reader, 0x81, data, 64).whole == 0);
+    EXPECT(memcmp(data, filled, sizeof data) == 0);
+}
+
+/* ---- blocks: short, long, garbage, at odd addresses */
+
+static void test_short_blocks(void)
+{
+    reset();
+    before = gate;
+    for (size_t n = 0; n < LOG_GATE_STATE; n++) {
+        EXPECT(log_gate_reset(gate.state, n) == LOG_GATE_STATE_REFUSED);
+        EXPECT(log_gate_check(gate.state, n) == LOG_GATE_STATE_REFUSED);
+        EXPECT(byte_refused(n, LOG_GATE_MEMORY, LOG_GATE_ANSWER_ROOM) == LOG_GATE_STATE_REFUSED);
+        EXPECT(log_gate_tick(gate.state, n, gate.memory, LOG_GATE_MEMORY) == LOG_GATE_STATE_REFUSED);
+    }
+    EXPECT(untouched());
+}
+
+static void test_garbage_blocks(void)
+{
+    static const struct {
+        unsigned at;
+        uint8_t value;
+    } garbage[] = {{0, 2}, {0, 255}, {1, 4}, {70, 9}, {70, 1}, {111, 2}, {111, 1}, {111, 255}};
+    for (size_t i = 0; i < sizeof garbage / sizeof garbage[0]; i++) {
+        reset();
+        gate.state[garbage[i].at] = garbage[i].value;
+        before = gate;
+        EXPECT(log_gate_check(gate.state, sizeof gate.state) == LOG_GATE_STATE_REFUSED);
+        EXPECT(byte_refused(LOG_GATE_STATE, LOG_GATE_MEMORY, LOG_GATE_ANSWER_ROOM) == LOG_GATE_STATE_REFUSED);
+        EXPECT(log_gate_tick(gate.state, LOG_GATE_STATE, gate.memory, LOG_GATE_MEMORY) == LOG_GATE_STATE_REFUSED);
+        EXPECT(untouched());
+    }
+}
+
+/* A staple with every block at an odd address and longer than it needs to be; what is behind stays. */
+static void test_odd_blocks(void)
+{
+    static uint8_t state[8 + LOG_GATE_STATE + 100], memory[8 + LOG_GATE_MEMORY], answer[8 + 200];
+    static const uint8_t expected[] = {0x2B, 0x00, 0x7F, 0x81, 0xA5};
+    const uint8_t wire[] = {0x2B, 0xD0, 0x10, 0x00, 0x20};
+    for (size_t odd = 1; odd < 8; odd++) {
+        memset(state, 0xA5, sizeof state);
+        memset(answer, 0xA5, sizeof answer);
+        memory[odd + 16] = 0x7F;
+        EXPECT(log_gate_reset(state + odd, LOG_GATE_STATE + 92) == LOG_GATE_TAKEN);
+        for (size_t i = 0; i < sizeof wire; i++) {
+            log_gate_taken taken =
+                log_gate_byte(state + odd, LOG_GATE_STATE + 92, wire[i], memory + odd, LOG_GATE_MEMORY, answer + odd, 200);
+            EXPECT(taken.refusal == LOG_GATE_TAKEN && taken.length == (i + 1 < sizeof wire ? 0u : 4u));
+        }
+        EXPECT(memcmp(answer + odd, expected, sizeof expected) == 0 && answer[odd - 1] == 0xA5);
+        EXPECT(log_gate_check(state + odd, LOG_GATE_STATE) == LOG_GATE_TAKEN);
+        for (size_t i = 0; i < 92; i++)
+            EXPECT(state[odd + LOG_GATE_STATE + i] == 0xA5);
+    }
+}
+
+int main(void)
+{
+    test_staples();
+    test_sign("2B 09 13 01 04 00 00 00 00 00 10 00 02 00 00 70 00 00 01 02 10 00 4A", "2B 02 FE");
+    test_sign("2B 09 13 01 04 00 00 00 00 00 10 00 02 01 00 70 00 00 01 02 10 00 49", "2B 01 FF");
+    test_longest();
+    test_both_ends();
+    test_instruments();
+    test_edges();
+    test_post_trigger();
+    test_wrong_messages();
+    test_order();
+    test_target_refusals();
+    test_answer_writer();
+    test_command_writer();
+    test_reader_refusals();
+    test_short_blocks();
+    test_garbage_blocks();
+    test_odd_blocks();
+    printf("smoke: %u checks, %u failed\n", checks, failures);
+    return failures > 0;
+}

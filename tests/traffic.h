@@ -1,0 +1,137 @@
+/* Random messages for the gate: mostly ones that it takes, and some of every kind that it refuses. */
+#ifndef TRAFFIC_H
+#define TRAFFIC_H
+
+#include "../include/log_gate.h"
+#include "random.h"
+
+#include <string.h>
+
+struct message {
+    uint8_t command;
+    uint8_t data[255];
+    size_t length;
+};
+
+static void add(struct message *m, uint32_t number, unsigned width)
+{
+    for (unsigned i = 0; i < width; i++)
+        m->data[m->length++] = (uint8_t)(number >> (8 * i));
+}
+
+/* Often in a few bytes that many messages touch, now and then at the edge of an area or anywhere. */
+static uint32_t random_address(void)
+{
+    static const uint32_t edges[] = {8192, 12288, 16384};
+    if (one_in(8))
+        return edges[below(3)] - below(9);
+    return one_in(8) ? random_number() & 0xFFFF : below(48);
+}
+
+/* Often one at which comparisons turn. */
+static uint8_t random_value(void)
+{
+    static const uint8_t turns[] = {0x00, 0x01, 0x7F, 0x80, 0xFF};
+    return one_in(3) ? random_byte() : turns[below(sizeof turns)];
+}
+
+static void add_values(struct message *m, unsigned count)
+{
+    for (unsigned i = 0; i < count; i++)
+        add(m, random_value(), 1);
+}
+
+static void add_block(struct message *m, unsigned width, unsigned parts)
+{
+    uint8_t size = (uint8_t)(one_in(6) ? below(70) : 1 + below(8));
+    add(m, size, 1);
+    add(m, random_address(), width);
+    add_values(m, parts * size);
+}
+
+static void add_variables(struct message *m, unsigned width)
+{
+    unsigned count = one_in(8) ? below(10) : 1 + below(8);
+    add(m, count, 1);
+    for (unsigned i = 0; i < count; i++) {
+        add(m, one_in(16) ? below(256) : 1 + below(6), 1);
+        add(m, random_address(), width);
+    }
+}
+
+static void add_plan(struct message *m, unsigned width)
+{
+    static const uint8_t sizes[] = {1, 2, 4};
+    add(m, one_in(16) ? below(256) : below(3), 1);
+    add(m, one_in(8) ? below(5000) : below(6), 2);
+    add(m, one_in(8) ? random_number() : below(5), 2);
+    add(m, one_in(8) ? random_number() : below(3), 2);
+    add(m, random_address(), width);
+    add(m, one_in(16) ? random_byte() : sizes[below(3)], 1);
+    add(m, one_in(16) ? random_byte() : below(2), 1);
+    add_values(m, 4);
+    add_variables(m, width);
+}
+
+static void fill_standard(struct message *m)
+{
+    unsigned width = m->command == 0x01 || m->command == 0x02 || m->command == 0x03 || m->command == 0x08 || m->command == 0x09
+                         ? 2
+                         : 4;
+    switch (m->command) {
+    case 0x01: case 0x04: add_block(m, width, 0); break;
+    case 0x02: case 0x05: add_block(m, width, 1); break;
+    case 0x03: case 0x06: add_block(m, width, 2); break;
+    case 0x08: case 0x0A: add_variables(m, width); break;
+    case 0x09: case 0x0B: add_plan(m, width); break;
+    default:
+        m->length = below(80);
+        random_fill(m->data, m->length);
+    }
+}
+
+static void fill_fast(struct message *m)
+{
+    unsigned length = (m->command >> 4 & 3) * 2;
+    if (length == 0)
+        return;
+    add(m, random_address(), length == 4 && m->command <= 0xE2 ? 4 : 2);
+    add_values(m, length - (unsigned)m->length);
+}
+
+static struct message random_message(void)
+{
+    static const uint8_t served[] = {0x01, 0x02, 0x03, 0x04, 0x05, 0x06, 0x08, 0x09, 0x0A, 0x0B, 0xC0, 0xC1, 0xC2, 0xC3, 0xC4,
+                                     0xC5, 0xC8, 0xC9, 0xD0, 0xD1, 0xD2, 0xE0, 0xE1, 0xE2, 0xE3, 0xE4, 0xE5, 0xF0, 0xF1};
+    struct message m = {.length = 0};
+    m.command = one_in(16) ? random_byte() : served[below(sizeof served)];
+    if (m.command == 0x2B)
+        m.command = 0xC8;
+    if (m.command < 0xC0)
+        fill_standard(&m);
+    else
+        fill_fast(&m);
+    if (m.command < 0xC0 && one_in(16) && m.length > 0)
+        m.length -= 1 + below(m.length > 3 ? 3 : 1);
+    return m;
+}
+
+/* ---- the bytes on the wire, of which some are lost, changed or made up */
+
+static uint8_t wire[LOG_GATE_COMMAND_ROOM];
+static size_t wire_at, wire_end;
+
+static uint8_t next_wire_byte(void)
+{
+    if (wire_at == wire_end) {
+        struct message m = random_message();
+        wire_at = 0;
+        wire_end = log_gate_write_command(m.command, m.data, m.length, wire, sizeof wire).length;
+    }
+    uint8_t byte = wire[wire_at++];
+    if (!one_in(200))
+        return byte;
+    return one_in(2) ? 0x2B : random_byte();
+}
+
+#endif

@@ -1,0 +1,20 @@
+# Wrong usage of ./run and ./bench gets one plain sentence on standard error, nothing on standard output, and a status that is not 0.
+refuses() {
+    if "$@" >$built/said 2>$built/complained; then fail "'$*' is taken"; fi
+    [ ! -s $built/said ] || fail "'$*' is refused and prints all the same"
+    [ "$(wc -l <$built/complained)" -eq 1 ] || fail "'$*' is refused with other than one line"
+}
+refuses ./run fly
+refuses ./run ""
+refuses ./run gate
+refuses ./run staples now
+refuses ./run --help me
+refuses ./run play
+refuses ./run play $built/no-such-file
+refuses ./run play tests
+refuses ./run play crates/play/stdin crates/play/stdin
+refuses ./bench $built/no-such-archive
+refuses ./bench one two
+refuses tests/run.sh
+./run --help | grep -q '^\./run play FILE ' || fail "./run --help does not list what it can do"
+echo "usage: wrong words are refused with a sentence"

@@ -1,0 +1,28 @@
+# Sourced by the scripts, from the repository's root. The proved archive and programs are x86-64: on another machine a cross compiler
+# links them and qemu runs them. It sets CC_X86 and CFLAGS_X86 (compiler), SIZE_X86 (code sizes) and RUN_X86 (what runs a program).
+
+# need COMMAND PACKAGE..: installs what is missing, or says plainly what is lacking.
+need() {
+    command -v "$1" >/dev/null && return
+    wanted=$1
+    shift
+    echo "$(basename "$0"): installing $*" >&2
+    { apt-get update && apt-get install -y "$@"; } >/dev/null 2>&1 || true
+    command -v "$wanted" >/dev/null && return
+    echo "$(basename "$0"): the command $wanted (Debian: $*) is missing and could not be installed" >&2
+    exit 1
+}
+
+case $(uname -m) in
+x86_64)
+    CC_X86=gcc SIZE_X86=size RUN_X86=
+    need gcc gcc libc6-dev
+    ;;
+*)
+    CC_X86=x86_64-linux-gnu-gcc SIZE_X86=x86_64-linux-gnu-size RUN_X86="qemu-x86_64 -L /usr/x86_64-linux-gnu"
+    need x86_64-linux-gnu-gcc gcc-x86-64-linux-gnu libc6-dev-amd64-cross
+    need qemu-x86_64 qemu-user
+    ;;
+esac
+
+CFLAGS_X86="-std=c11 -Wall -Wextra -Werror -O2"
