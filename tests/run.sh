@@ -1,9 +1,15 @@
 #!/bin/sh
-# tests/run.sh ARCHIVE: all tests of an archive with the calls of include/log_gate.h.
+# tests/run.sh ARCHIVE PLAYER [FIRST SEEDS]: all tests of an archive with the calls of include/log_gate.h and of the player of scripts,
+# with so many random scripts from a first seed on.
 set -eu
-[ $# -eq 1 ] || { echo "tests/run.sh: say which archive to test" >&2; exit 2; }
-[ -r "$1" ] || { echo "tests/run.sh: the archive $1 cannot be read" >&2; exit 2; }
+[ $# -eq 2 ] || [ $# -eq 4 ] || { echo "tests/run.sh: say which archive and which player to test" >&2; exit 2; }
+for file in "$1" "$2"; do
+    [ -r "$file" ] || { echo "tests/run.sh: $file cannot be read" >&2; exit 2; }
+done
 archive=$(realpath "$1")
+proved=$(realpath "$2")
+first=${3-1}
+seeds=${4-200}
 cd "$(dirname "$0")/.."
 . tools/machine.sh
 
