@@ -6,9 +6,7 @@ mod writing;
 
 pub use bounds::is_sound;
 pub use fields::put_byte;
-pub use fields::put_word;
 pub use fields::wide;
-pub use fields::word_at;
 pub use reading::head_in;
 pub use reading::instruments_in;
 pub use reading::receiver_in;
