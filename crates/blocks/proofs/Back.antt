@@ -3,11 +3,11 @@
 use mathlib.Core.Path.{_≡_, refl, sym, ap, _∙_}
 use mathlib.Core.Bool.{true}
 use mathlib.Core.List.{List, [], _∷_, _++_, append-assoc}
-use Prim.Native.Nat.{ℕ, zero, suc, _+_, _/_, _^_, _<_}
+use Prim.Native.Nat.{ℕ, zero, suc, _+_, _/_, _^_, _<_, _≤_}
 use native.Mathlib.Nat.{pow-suc}
 use native.Mathlib.Omega.{arith}
-use lib.ListN.{length, getD, take, drop}
-use lib.Seq.{drop-at, take-at, drop-drop, getD-drop}
+use lib.ListN.{length, getD, take, drop, length-append}
+use lib.Seq.{sets, sets-eq, drop-at, take-at, drop-drop, getD-drop}
 use Rattle.document.specs.Areas.{bytesAt}
 use Rattle.document.specs.Values.{number, littleEndian}
 use Rattle.document.specs.declared.Variable.{Variable}
@@ -21,7 +21,7 @@ use Rattle.recorder.specs.declared.state.Recorder.{Recorder}
 use Rattle.target.specs.declared.state.Target.{Target}
 use Rattle.host.specs.declared.reader.AnswerReader.{AnswerReader}
 use Rattle.blocks.specs.Layout.{decodedReceiver, decodedDefinitions, decodedScope, decodedPlan, decodedRun, decodedRecorder, decoded, decodedReader, encodedReceiver, encodedDefinitions, encodedScope, encodedRun, encodedRecorder, encoded, encodedReader}
-use Rattle.blocks.proofs.Parts.{receiver-length, definitions-length, scope-length}
+use Rattle.blocks.proofs.Parts.{receiver-length, definitions-length, scope-length, recorder-length, reader-length}
 
 -- ---- the states that fit: numbers of their widths, lists of their lengths
 
@@ -214,3 +214,20 @@ decoded-encoded t rest fits =
 
     body-there : bytesAt l 6 64 ≡ t .body
     body-there = ap (take 64) behind-receiver ∙ take-at (t .body) instruments 64 (fits .body)
+
+-- ---- a state that was stored is the state that the block holds
+
+pub encoded-length : (t : Target) → TargetFits t → length (encoded t) ≡ 181
+encoded-length t fits =
+    simp length-append
+    (omega (arith, receiver-length (t .receiver), fits .body, scope-length (t .instruments .scope) (fits .scope .eight), recorder-length (t .instruments .recorder) (fits .plan .variables .eight)))
+
+pub stored-decoded : (block : List ℕ) (t : Target) → 181 ≤ length block → TargetFits t → decoded (sets block 0 (encoded t)) ≡ t
+stored-decoded block t long fits =
+    ap decoded (sets-eq (encoded t) block 0 (omega (arith, encoded-length t fits)))
+    ∙ decoded-encoded t (drop (0 + length (encoded t)) block) fits
+
+pub stored-reader : (block : List ℕ) (r : AnswerReader) → 70 ≤ length block → length (r .body) ≡ 64 → decodedReader (sets block 0 (encodedReader r)) ≡ r
+stored-reader block r long e =
+    ap decodedReader (sets-eq (encodedReader r) block 0 (omega (arith, reader-length r)))
+    ∙ reader-back r (drop (0 + length (encodedReader r)) block) e

@@ -3,16 +3,17 @@ use mathlib.Core.Path.{_≡_, refl, sym, ap, _∙_}
 use mathlib.Core.List.{List, [], _∷_, _++_}
 use Prim.Native.Nat.{ℕ, _+_, _*_}
 use native.Mathlib.Omega.{arith}
-use lib.ListN.{length, set, replicate}
+use lib.ListN.{length, set, replicate, length-append}
 use lib.Seq.{sets}
 use Rattle.document.specs.declared.Variable.{Variable}
 use Rattle.variables.specs.declared.Variables.{Variables}
 use Rattle.link.specs.declared.Receiver.{Receiver}
 use Rattle.scope.specs.declared.Scope.{Scope}
 use Rattle.recorder.specs.declared.state.Recorder.{Recorder}
+use Rattle.host.specs.declared.reader.AnswerReader.{AnswerReader}
 use Rattle.target.specs.Bounds.{fresh}
 use Rattle.memory.proofs.Copies.{stored-append}
-use Rattle.blocks.specs.Layout.{encodedDefinitions, encodedVariables, encodedNumbers, encodedRun, encodedReceiver, encodedScope, encodedRecorder, encoded}
+use Rattle.blocks.specs.Layout.{encodedDefinitions, encodedVariables, encodedNumbers, encodedRun, encodedReceiver, encodedScope, encodedRecorder, encoded, encodedReader}
 
 pub definitions-length : (vs : List Variable) → length (encodedDefinitions vs) ≡ length vs * 5
 definitions-length [] = refl
@@ -28,6 +29,14 @@ scope-length s e = variables-length (s .variables) e
 pub receiver-length : (r : Receiver) → length (encodedReceiver r) ≡ 6
 unfolding encodedReceiver
 receiver-length r = refl
+
+pub recorder-length : (r : Recorder) → length (r .plan .variables .list) ≡ 8 → length (encodedRecorder r) ≡ 70
+unfolding encodedRecorder encodedRun
+recorder-length r e = simp length-append (omega (arith, definitions-length (r .plan .variables .list)))
+
+pub reader-length : (r : AnswerReader) → length (encodedReader r) ≡ 6 + length (r .body)
+unfolding encodedReader
+reader-length r = omega arith
 
 -- two stores, the second where the first ends
 pub sets-two : (l xs ys : List ℕ) (i n j : ℕ) → length xs ≡ n → i + n ≡ j → sets l i (xs ++ ys) ≡ sets (sets l i xs) j ys

@@ -1,7 +1,7 @@
 // The bounds of a target's state, checked where it lies: of the definitions only those that are set up are looked at.
 ghost use mathlib.Core.Path.{_≡_};
 ghost use mathlib.Core.Bool.{true, false};
-ghost use Prim.Native.Nat.{_+_, _*_, _≤_};
+ghost use Prim.Native.Nat.{_+_, _≤_};
 ghost use lib.ListN.{length, getD, drop};
 ghost use Rattle.document.specs.Variables.{definitionsIn};
 ghost use Rattle.scope.specs.State as scope;
@@ -12,6 +12,19 @@ ghost use Rattle.blocks.specs.Measured.{measured};
 use crate::fields::long_at;
 use crate::fields::wide;
 use crate::fields::word_at;
+use crate::places::DIVIDER;
+use crate::places::MODE;
+use crate::places::POST_TRIGGER;
+use crate::places::READY;
+use crate::places::RECORDED;
+use crate::places::RECORDED_DEFINITIONS;
+use crate::places::SAMPLES;
+use crate::places::SCOPE;
+use crate::places::SCOPE_DEFINITIONS;
+use crate::places::SIGN;
+use crate::places::THRESHOLD;
+use crate::places::TRIGGER_ADDRESS;
+use crate::places::TRIGGER_SIZE;
 use crate::reading::receiver_in;
 use crate::reading::run_in;
 use memory::CALIBRATION_END;
@@ -62,11 +75,11 @@ fn is_scope_sound(block: &[u8]) -> bool
     requires { ⌜ 181 ≤ length (now block) ⌝ }
     ensures { λ r. ⌜ r ≡ scope.sound (decodedScope (now (block .entry))) ⌝ }
 {
-    let count = wide(block[70]);
+    let count = wide(block[SCOPE]);
     if count > MOST_VARIABLES {
         return false;
     }
-    measure(block, 71, count, MEMORY_END).within
+    measure(block, SCOPE_DEFINITIONS, count, MEMORY_END).within
 }
 
 fn wide_count(count: u16) -> usize
@@ -80,33 +93,33 @@ fn are_recorded_sound(block: &[u8]) -> bool
     requires { ⌜ 181 ≤ length (now block) ⌝ }
     ensures { λ r. ⌜ r ≡ recorder.variablesSound (decodedPlan (now (block .entry)) .samples) (decodedPlan (now (block .entry)) .variables) ⌝ }
 {
-    let count = wide(block[129]);
+    let count = wide(block[RECORDED]);
     if count == 0 {
         return false;
     }
     if count > MOST_VARIABLES {
         return false;
     }
-    let recorded = measure(block, 130, count, CALIBRATION_END);
+    let recorded = measure(block, RECORDED_DEFINITIONS, count, CALIBRATION_END);
     if !recorded.within {
         return false;
     }
-    wide_count(word_at(block, 113)) * recorded.size <= BUFFER_SIZE
+    wide_count(word_at(block, SAMPLES)) * recorded.size <= BUFFER_SIZE
 }
 
 fn is_plan_sound(block: &[u8]) -> bool
     requires { ⌜ 181 ≤ length (now block) ⌝ }
     ensures { λ r. ⌜ r ≡ recorder.planSound (decodedPlan (now (block .entry))) ⌝ }
 {
-    if word_at(block, 113) == 0 {
+    if word_at(block, SAMPLES) == 0 {
         return false;
     }
     if !recorder::is_trigger_sound(
-        block[112],
-        block[123],
-        block[124],
-        long_at(block, 119),
-        long_at(block, 125),
+        block[MODE],
+        block[TRIGGER_SIZE],
+        block[SIGN],
+        long_at(block, TRIGGER_ADDRESS),
+        long_at(block, THRESHOLD),
     ) {
         return false;
     }
@@ -124,15 +137,15 @@ fn is_run_sound(block: &[u8]) -> bool
     if run.full > 1 {
         return false;
     }
-    if run.wait > word_at(block, 117) {
+    if run.wait > word_at(block, DIVIDER) {
         return false;
     }
-    if run.place >= word_at(block, 113) {
+    if run.place >= word_at(block, SAMPLES) {
         return false;
     }
     recorder::is_watch_sound(
-        block[123],
-        word_at(block, 115),
+        block[TRIGGER_SIZE],
+        word_at(block, POST_TRIGGER),
         run.running,
         run.watch,
         run.value,
@@ -144,7 +157,7 @@ fn is_recorder_sound(block: &[u8]) -> bool
     requires { ⌜ 181 ≤ length (now block) ⌝ }
     ensures { λ r. ⌜ r ≡ recorder.sound (decodedRecorder (now (block .entry))) ⌝ }
 {
-    let ready = block[111];
+    let ready = block[READY];
     if ready == 0 {
         return true;
     }

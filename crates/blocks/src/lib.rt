@@ -1,14 +1,15 @@
 // The states as blocks of bytes: read, written and checked in place.
 mod bounds;
 mod fields;
+mod places;
 mod reading;
 mod writing;
 
 pub use bounds::is_sound;
 pub use fields::put_byte;
-pub use fields::put_word;
 pub use fields::wide;
-pub use fields::word_at;
+pub use places::BODY;
+pub use places::SCOPE;
 pub use reading::head_in;
 pub use reading::instruments_in;
 pub use reading::receiver_in;

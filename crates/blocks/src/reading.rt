@@ -9,6 +9,23 @@ ghost use Rattle.host.specs.Head.{withBody};
 ghost use Rattle.blocks.specs.Layout.{decodedReceiver, decodedDefinitions, decodedVariables, decodedScope, decodedPlan, decodedRun, decodedRecorder, decodedReader};
 use crate::fields::long_at;
 use crate::fields::word_at;
+use crate::places::DIVIDER;
+use crate::places::FULL;
+use crate::places::MODE;
+use crate::places::PLACE;
+use crate::places::POST_TRIGGER;
+use crate::places::READY;
+use crate::places::RECORDED;
+use crate::places::RUNNING;
+use crate::places::SAMPLES;
+use crate::places::SCOPE;
+use crate::places::SIGN;
+use crate::places::THRESHOLD;
+use crate::places::TRIGGER_ADDRESS;
+use crate::places::TRIGGER_SIZE;
+use crate::places::VALUE;
+use crate::places::WAIT;
+use crate::places::WATCH;
 
 pub fn receiver_in(block: &[u8]) -> link::Receiver
     requires { ⌜ 181 ≤ length (now block) ⌝ }
@@ -67,16 +84,16 @@ fn plan_in(block: &[u8]) -> recorder::Plan
     requires { ⌜ 181 ≤ length (now block) ⌝ }
     ensures { λ r. ⌜ r ≡ decodedPlan (now (block .entry)) ⌝ }
 {
-    let variables = variables_at(block, 129);
+    let variables = variables_at(block, RECORDED);
     recorder::Plan {
-        samples: word_at(block, 113),
-        post_trigger: word_at(block, 115),
-        divider: word_at(block, 117),
-        mode: block[112],
-        size: block[123],
-        sign: block[124],
-        address: long_at(block, 119),
-        threshold: long_at(block, 125),
+        samples: word_at(block, SAMPLES),
+        post_trigger: word_at(block, POST_TRIGGER),
+        divider: word_at(block, DIVIDER),
+        mode: block[MODE],
+        size: block[TRIGGER_SIZE],
+        sign: block[SIGN],
+        address: long_at(block, TRIGGER_ADDRESS),
+        threshold: long_at(block, THRESHOLD),
         variables,
     }
 }
@@ -86,12 +103,12 @@ pub fn run_in(block: &[u8]) -> recorder::Run
     ensures { λ r. ⌜ r ≡ decodedRun (now (block .entry)) ⌝ }
 {
     recorder::Run {
-        running: block[170],
-        full: block[171],
-        watch: block[172],
-        wait: word_at(block, 173),
-        place: word_at(block, 175),
-        value: long_at(block, 177),
+        running: block[RUNNING],
+        full: block[FULL],
+        watch: block[WATCH],
+        wait: word_at(block, WAIT),
+        place: word_at(block, PLACE),
+        value: long_at(block, VALUE),
     }
 }
 
@@ -102,7 +119,7 @@ pub fn recorder_in(block: &[u8]) -> recorder::Recorder
     let plan = plan_in(block);
     let run = run_in(block);
     recorder::Recorder {
-        ready: block[111],
+        ready: block[READY],
         plan,
         run,
     }
@@ -112,7 +129,7 @@ pub fn instruments_in(block: &[u8]) -> operations::Instruments
     requires { ⌜ 181 ≤ length (now block) ⌝ }
     ensures { λ r. ⌜ r ≡ record { scope = decodedScope (now (block .entry)); recorder = decodedRecorder (now (block .entry)) } ⌝ }
 {
-    let variables = variables_at(block, 70);
+    let variables = variables_at(block, SCOPE);
     let recorder = recorder_in(block);
     operations::Instruments {
         scope: scope::Scope { variables },

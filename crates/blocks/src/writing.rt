@@ -7,9 +7,28 @@ ghost use lib.Seq.{sets};
 ghost use Rattle.target.specs.Bounds.{fresh};
 ghost use Rattle.host.specs.Reader as reader;
 ghost use Rattle.blocks.specs.Layout.{encodedReceiver, encodedDefinitions, encodedVariables, encodedNumbers, encodedRun, encodedRecorder, encodedInstruments, encoded, encodedHead, encodedReader};
+use crate::STATE_LENGTH;
 use crate::fields::put_byte;
 use crate::fields::put_long;
 use crate::fields::put_word;
+use crate::places::BODY;
+use crate::places::DIVIDER;
+use crate::places::FULL;
+use crate::places::MODE;
+use crate::places::PLACE;
+use crate::places::POST_TRIGGER;
+use crate::places::READY;
+use crate::places::RECORDED;
+use crate::places::RUNNING;
+use crate::places::SAMPLES;
+use crate::places::SCOPE;
+use crate::places::SIGN;
+use crate::places::THRESHOLD;
+use crate::places::TRIGGER_ADDRESS;
+use crate::places::TRIGGER_SIZE;
+use crate::places::VALUE;
+use crate::places::WAIT;
+use crate::places::WATCH;
 
 // The six bytes in front of a body.
 fn put_head(block: &mut [u8], a: u8, b: u8, c: u8, d: u8, e: u8, f: u8)
@@ -66,14 +85,14 @@ fn put_numbers(block: &mut [u8], plan: recorder::Plan)
     requires { ⌜ 181 ≤ length (now block) ⌝ }
     ensures { λ _. ⌜ now (block .exit) ≡ sets (now (block .entry)) 112 (encodedNumbers plan) ⌝ }
 {
-    put_byte(block, 112, plan.mode);
-    put_word(block, 113, plan.samples);
-    put_word(block, 115, plan.post_trigger);
-    put_word(block, 117, plan.divider);
-    put_long(block, 119, plan.address);
-    put_byte(block, 123, plan.size);
-    put_byte(block, 124, plan.sign);
-    put_long(block, 125, plan.threshold);
+    put_byte(block, MODE, plan.mode);
+    put_word(block, SAMPLES, plan.samples);
+    put_word(block, POST_TRIGGER, plan.post_trigger);
+    put_word(block, DIVIDER, plan.divider);
+    put_long(block, TRIGGER_ADDRESS, plan.address);
+    put_byte(block, TRIGGER_SIZE, plan.size);
+    put_byte(block, SIGN, plan.sign);
+    put_long(block, THRESHOLD, plan.threshold);
 }
 
 // What a tick changes.
@@ -81,12 +100,12 @@ pub fn put_run(block: &mut [u8], run: recorder::Run)
     requires { ⌜ 181 ≤ length (now block) ⌝ }
     ensures { λ _. ⌜ now (block .exit) ≡ sets (now (block .entry)) 170 (encodedRun run) ⌝ }
 {
-    put_byte(block, 170, run.running);
-    put_byte(block, 171, run.full);
-    put_byte(block, 172, run.watch);
-    put_word(block, 173, run.wait);
-    put_word(block, 175, run.place);
-    put_long(block, 177, run.value);
+    put_byte(block, RUNNING, run.running);
+    put_byte(block, FULL, run.full);
+    put_byte(block, WATCH, run.watch);
+    put_word(block, WAIT, run.wait);
+    put_word(block, PLACE, run.place);
+    put_long(block, VALUE, run.value);
 }
 
 fn put_recorder(block: &mut [u8], recorder: recorder::Recorder)
@@ -96,9 +115,9 @@ fn put_recorder(block: &mut [u8], recorder: recorder::Recorder)
     let plan = recorder.plan;
     let v = plan.variables;
     let run = recorder.run;
-    put_byte(block, 111, recorder.ready);
+    put_byte(block, READY, recorder.ready);
     put_numbers(block, plan);
-    put_variables(block, 129, v);
+    put_variables(block, RECORDED, v);
     put_run(block, run);
 }
 
@@ -109,7 +128,7 @@ pub fn put_instruments(block: &mut [u8], instruments: operations::Instruments)
     let scope = instruments.scope;
     let v = scope.variables;
     let recorder = instruments.recorder;
-    put_variables(block, 70, v);
+    put_variables(block, SCOPE, v);
     put_recorder(block, recorder);
 }
 
@@ -129,7 +148,7 @@ pub fn reset(block: &mut [u8])
     requires { ⌜ 181 ≤ length (now block) ⌝ }
     ensures { λ _. ⌜ now (block .exit) ≡ sets (now (block .entry)) 0 (encoded fresh) ⌝ }
 {
-    clear(block, 0, 181);
+    clear(block, 0, STATE_LENGTH);
 }
 
 // The reader as a reading of so many data begins.
@@ -138,7 +157,7 @@ pub fn begin_reader(block: &mut [u8], expected: u8)
     ensures { λ _. ⌜ now (block .exit) ≡ sets (now (block .entry)) 0 (encodedReader (reader.fresh expected)) ⌝ }
 {
     put_head(block, 0, 0, 0, expected, 0, 0);
-    clear(block, 6, 64);
+    clear(block, BODY, 64);
 }
 
 // The head of a reader; its data stay as they are.

@@ -16,7 +16,6 @@ use Rattle.target.specs.Bounds.{sound, fresh}
 use Rattle.target.specs.Calls.{turn, tickedTarget}
 use Rattle.host.specs.declared.reader.Event.{Event}
 use Rattle.host.specs.declared.reader.Event.the-variants.{Nothing, Answer}
-use Rattle.host.specs.declared.reader.Read.{Read}
 use Rattle.host.specs.Reader as host
 use Rattle.host.specs.Promises.{gives, readerRefusal}
 use Rattle.blocks.specs.Layout.{stateLength, readerLength, decoded, encoded, decodedReader, encodedReader}

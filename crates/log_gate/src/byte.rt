@@ -12,6 +12,8 @@ ghost use Rattle.blocks.specs.Layout.{stateLength, decoded, decodedScope};
 ghost use Rattle.log_gate.specs.Promises.{ByteTaken};
 ghost use Rattle.log_gate.specs.Turned.{answering, Turned};
 use crate::refusals::byte_refusal;
+use blocks::BODY;
+use blocks::SCOPE;
 use codes::TAKEN;
 use link::Event;
 use operations::Whole;
@@ -36,7 +38,7 @@ fn answer_whole(
     ensures { λ r. ⌜ Turned (answering (decoded (now (state .entry))) next (whole .command) (whole .length) (whole .sum) (now (memory .entry)) (now (answer .entry))) (now (state .entry)) r (now (state .exit)) (now (memory .exit)) (now (answer .exit)) ⌝ }
 {
     let instruments = blocks::instruments_in(state);
-    let responded = respond(whole, instruments, &state[6..70], memory, answer);
+    let responded = respond(whole, instruments, &state[BODY..SCOPE], memory, answer);
     let after = responded.next;
     blocks::put_receiver(state, next);
     blocks::put_instruments(state, after);
@@ -59,7 +61,7 @@ fn take(state: &mut [u8], byte: u8, memory: &mut [u8], answer: &mut [u8]) -> usi
         }
         Event::Keep { at, byte } => {
             blocks::put_receiver(state, next);
-            blocks::put_byte(state, 6 + blocks::wide(at), byte);
+            blocks::put_byte(state, BODY + blocks::wide(at), byte);
             0
         }
         Event::Whole {

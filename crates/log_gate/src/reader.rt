@@ -7,6 +7,7 @@ ghost use Rattle.host.specs.Reader.{sound, stepped};
 ghost use Rattle.blocks.specs.Layout.{readerLength, decodedReader};
 ghost use Rattle.log_gate.specs.Promises.{readNumber, BeginDone, ReadDone};
 ghost use Rattle.log_gate.specs.Turned.{ByteRead};
+use blocks::BODY;
 use blocks::READER_LENGTH;
 use codes::EXPECTED_REFUSED;
 use codes::ROOM_REFUSED;
@@ -82,12 +83,12 @@ fn read_on(reader: &mut [u8], byte: u8, out: &mut [u8]) -> ReadByte
     match asks {
         Asked::Nothing => without_answer(TAKEN),
         Asked::Keep { at, byte } => {
-            blocks::put_byte(reader, 6 + blocks::wide(at), byte);
+            blocks::put_byte(reader, BODY + blocks::wide(at), byte);
             without_answer(TAKEN)
         }
         Asked::Right { status, length } => {
-            let end = 6 + blocks::wide(length);
-            host::copy(&reader[6..end], out);
+            let end = BODY + blocks::wide(length);
+            host::copy(&reader[BODY..end], out);
             ReadByte {
                 refusal: TAKEN,
                 whole: 1,
