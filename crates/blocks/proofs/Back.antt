@@ -15,7 +15,7 @@ use Rattle.document.specs.Variables.{definitionsIn}
 use Rattle.variables.specs.declared.Variables.{Variables}
 use Rattle.link.specs.declared.Receiver.{Receiver}
 use Rattle.scope.specs.declared.Scope.{Scope}
-use Rattle.recorder.specs.declared.state.Plan.{Plan}
+use Rattle.plans.specs.declared.plan.Plan.{Plan}
 use Rattle.recorder.specs.declared.state.Run.{Run}
 use Rattle.recorder.specs.declared.state.Recorder.{Recorder}
 use Rattle.target.specs.declared.state.Target.{Target}

@@ -8,9 +8,10 @@ use lib.Dec.{leb}
 use borrow.Author.Tests.{eq-eqb, ne-eqb, lt-leb, le-leb, lt-ltb, le-ltb}
 use Rattle.document.specs.Areas.{mayBeRecorded}
 use Rattle.document.specs.Variables.{anySizeZero, allMay, definitionsIn, setSize}
-use Rattle.recorder.specs.declared.state.Plan.{Plan}
+use Rattle.plans.specs.declared.plan.Plan.{Plan}
 use Rattle.recorder.specs.declared.state.Run.{Run}
-use Rattle.recorder.specs.Bounds.{triggerSound, variablesSound, planSound, watchSound, runSound}
+use Rattle.plans.specs.Bounds.{triggerSound, variablesSound, planSound}
+use Rattle.recorder.specs.Bounds.{watchSound, runSound}
 use Rattle.scope.specs.State as scope
 use Rattle.recorder.specs.Bounds as recorder
 use Rattle.blocks.specs.Layout.{decodedDefinitions, decodedVariables, decodedScope, decodedPlan, decodedRun, decodedRecorder}

@@ -10,7 +10,7 @@ use Rattle.document.specs.Variables.{definitionsIn}
 use Rattle.variables.specs.declared.Variables.{Variables}
 use Rattle.link.specs.declared.Receiver.{Receiver}
 use Rattle.scope.specs.declared.Scope.{Scope}
-use Rattle.recorder.specs.declared.state.Plan.{Plan}
+use Rattle.plans.specs.declared.plan.Plan.{Plan}
 use Rattle.recorder.specs.declared.state.Run.{Run}
 use Rattle.recorder.specs.declared.state.Recorder.{Recorder}
 use Rattle.operations.specs.declared.answering.Instruments.{Instruments}

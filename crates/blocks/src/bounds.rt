@@ -5,6 +5,7 @@ ghost use Prim.Native.Nat.{_+_, _≤_};
 ghost use lib.ListN.{length, getD, drop};
 ghost use Rattle.document.specs.Variables.{definitionsIn};
 ghost use Rattle.scope.specs.State as scope;
+ghost use Rattle.plans.specs.Bounds as plans;
 ghost use Rattle.recorder.specs.Bounds as recorder;
 ghost use Rattle.target.specs.Bounds as target;
 ghost use Rattle.blocks.specs.Layout.{decoded, decodedScope, decodedPlan, decodedRun, decodedRecorder};
@@ -91,7 +92,7 @@ fn wide_count(count: u16) -> usize
 // The recorded variables, and that so many sets of them go into the buffer.
 fn are_recorded_sound(block: &[u8]) -> bool
     requires { ⌜ 181 ≤ length (now block) ⌝ }
-    ensures { λ r. ⌜ r ≡ recorder.variablesSound (decodedPlan (now (block .entry)) .samples) (decodedPlan (now (block .entry)) .variables) ⌝ }
+    ensures { λ r. ⌜ r ≡ plans.variablesSound (decodedPlan (now (block .entry)) .samples) (decodedPlan (now (block .entry)) .variables) ⌝ }
 {
     let count = wide(block[RECORDED]);
     if count == 0 {
@@ -109,12 +110,12 @@ fn are_recorded_sound(block: &[u8]) -> bool
 
 fn is_plan_sound(block: &[u8]) -> bool
     requires { ⌜ 181 ≤ length (now block) ⌝ }
-    ensures { λ r. ⌜ r ≡ recorder.planSound (decodedPlan (now (block .entry))) ⌝ }
+    ensures { λ r. ⌜ r ≡ plans.planSound (decodedPlan (now (block .entry))) ⌝ }
 {
     if word_at(block, SAMPLES) == 0 {
         return false;
     }
-    if !recorder::is_trigger_sound(
+    if !plans::is_trigger_sound(
         block[MODE],
         block[TRIGGER_SIZE],
         block[SIGN],

@@ -80,12 +80,12 @@ fn variables_at(block: &[u8], at: usize) -> variables::Variables
     }
 }
 
-fn plan_in(block: &[u8]) -> recorder::Plan
+fn plan_in(block: &[u8]) -> plans::Plan
     requires { ⌜ 181 ≤ length (now block) ⌝ }
     ensures { λ r. ⌜ r ≡ decodedPlan (now (block .entry)) ⌝ }
 {
     let variables = variables_at(block, RECORDED);
-    recorder::Plan {
+    plans::Plan {
         samples: word_at(block, SAMPLES),
         post_trigger: word_at(block, POST_TRIGGER),
         divider: word_at(block, DIVIDER),

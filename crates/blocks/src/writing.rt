@@ -81,7 +81,7 @@ fn put_variables(block: &mut [u8], at: usize, v: variables::Variables)
     put_definitions(block, at + 1, v);
 }
 
-fn put_numbers(block: &mut [u8], plan: recorder::Plan)
+fn put_numbers(block: &mut [u8], plan: plans::Plan)
     requires { ⌜ 181 ≤ length (now block) ⌝ }
     ensures { λ _. ⌜ now (block .exit) ≡ sets (now (block .entry)) 112 (encodedNumbers plan) ⌝ }
 {

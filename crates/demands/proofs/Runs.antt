@@ -15,7 +15,7 @@ use Rattle.history.specs.History.{PlanFits}
 use Rattle.recorder.specs.declared.state.Recorder.{Recorder as RecorderState}
 use Rattle.recorder.specs.State.{recorderOf}
 use Rattle.recorder.proofs.Keeps.{sound-parts}
-use Rattle.recorder.proofs.Granted.{sound-fits}
+use Rattle.plans.proofs.Granted.{sound-fits}
 use Rattle.target.proofs.TargetBounds.{parts-of}
 use Rattle.document.proofs.Cases.{split, neither}
 use Rattle.document.specs.Gate.{Gate, fresh as gate}

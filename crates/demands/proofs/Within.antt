@@ -26,7 +26,8 @@ use Rattle.scope.proofs.Bounds.{new-sound as new-scope}
 use Rattle.scope.proofs.Accepted.{set-up-sound as scope-set-up}
 use Rattle.recorder.specs.declared.state.Recorder.{Recorder as RecorderState}
 use Rattle.recorder.specs.Bounds as recorder
-use Rattle.recorder.specs.State.{recorderOf, triggerOf}
+use Rattle.plans.specs.State.{triggerOf}
+use Rattle.recorder.specs.State.{recorderOf}
 use Rattle.recorder.proofs.Answers.{set-up-sound as recorder-set-up, new-sound as new-recorder}
 use Rattle.recorder.proofs.Keeps.{started-sound, halted-sound, ticked-sound}
 use Rattle.operations.specs.declared.answering.Instruments.{Instruments}

@@ -14,11 +14,14 @@ use Rattle.document.specs.Recorder.{isRunning, recorderSetUp}
 use Rattle.document.specs.Recorder.Recorder.{absent, planned}
 use Rattle.variables.specs.Parts.{kept}
 use Rattle.recorder.specs.declared.state.Recorder.{Recorder as RecorderState}
-use Rattle.recorder.specs.State.{planKept, recorderOf, noRecorder}
-use Rattle.recorder.specs.Bounds.{planSound, sound}
-use Rattle.recorder.specs.Setup.{bodyStatus, setUpStatus, setUpState, setUpNext, SetUpSettled}
+use Rattle.plans.specs.State.{planKept}
+use Rattle.recorder.specs.State.{recorderOf, noRecorder}
+use Rattle.plans.specs.Bounds.{planSound}
+use Rattle.recorder.specs.Bounds.{sound}
+use Rattle.plans.specs.Setup.{bodyStatus}
+use Rattle.recorder.specs.Setup.{setUpStatus, setUpState, setUpNext, SetUpSettled}
 use Rattle.document.proofs.Cases.{split}
-use Rattle.recorder.proofs.SetUps.{short-layout, accepted-means, accepted-sound}
+use Rattle.plans.proofs.SetUps.{short-layout, accepted-means, accepted-sound}
 use Rattle.recorder.proofs.Keeps.{started-run-sound}
 
 module _ (r : RecorderState) (ex : Bool) (body : List ℕ) where

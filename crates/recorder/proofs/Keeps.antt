@@ -11,17 +11,20 @@ use Rattle.document.specs.Plan.{Plan}
 use Rattle.document.specs.Trigger.{triggerValue, fires}
 use Rattle.document.specs.Run.{Watch, Run, started, stopped, watched, goesOn, ranTick}
 use Rattle.document.specs.Run.Watch.{unprimed, previous, triggered}
-use Rattle.recorder.specs.declared.state.Plan.{Plan as PlanState}
+use Rattle.plans.specs.declared.plan.Plan.{Plan as PlanState}
 use Rattle.recorder.specs.declared.state.Run.{Run as RunState}
 use Rattle.recorder.specs.declared.state.Recorder.{Recorder as RecorderState}
-use Rattle.recorder.specs.State.{isSet, flagOf, triggerOf, planOf, watchOf, watchNumber, watchValue, runOf, runKept, recorderOf, withRun}
-use Rattle.recorder.specs.Bounds.{watchSound, planSound, runSound, sound}
+use Rattle.plans.specs.State.{triggerOf, planOf}
+use Rattle.recorder.specs.State.{isSet, flagOf, watchOf, watchNumber, watchValue, runOf, runKept, recorderOf, withRun}
+use Rattle.plans.specs.Bounds.{planSound}
+use Rattle.recorder.specs.Bounds.{watchSound, runSound, sound}
 use Rattle.recorder.specs.Calls.{startStatus, startedState, stopStatus, haltedRun, haltedState, tickedState}
 use Rattle.history.specs.History.{CountsFit, setsLeft}
 use Rattle.document.proofs.Cases.{split, both}
 use Rattle.history.proofs.Ticks.{by-case, stopped-run, waits-run, takes-run}
 use Rattle.history.proofs.Counts.{started-fits, stopped-fits, tick-fits}
-use Rattle.recorder.proofs.Granted.{sound-fits, run-bounds, previous-fits, left-fits-post, left-some}
+use Rattle.plans.proofs.Granted.{sound-fits}
+use Rattle.recorder.proofs.Granted.{run-bounds, previous-fits, left-fits-post, left-some}
 use Rattle.recorder.proofs.Kept.{by-watch, halted-again}
 
 -- ---- a run

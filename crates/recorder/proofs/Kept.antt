@@ -6,7 +6,7 @@ use native.Mathlib.Omega.{arith}
 use lib.Dec.{eqb}
 use borrow.Author.Tests.{eqb-true, eqb-false}
 use Rattle.document.specs.Run.{waited, stopped}
-use Rattle.recorder.specs.declared.state.Plan.{Plan as PlanState}
+use Rattle.plans.specs.declared.plan.Plan.{Plan as PlanState}
 use Rattle.recorder.specs.declared.state.Run.{Run as RunState}
 use Rattle.recorder.specs.State.{isSet, flagOf, watchOf, watchNumber, watchValue, runOf, runKept}
 use Rattle.recorder.specs.Bounds.{watchSound, runSound}

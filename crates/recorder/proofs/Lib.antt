@@ -1,5 +1,4 @@
 -- The laws and theorems, lowest first.
-pub mod Edges
 pub mod Flags
 pub mod Granted
 pub mod Watches
@@ -9,6 +8,4 @@ pub mod Kept
 pub mod Keeps
 pub mod Meanings
 pub mod Taken
-pub mod Plans
-pub mod SetUps
 pub mod Answers

@@ -10,7 +10,8 @@ use Rattle.document.specs.Run.{Run, started, stopped, ranTick}
 use Rattle.document.specs.Recorder.{Recorder, recorderStarted, recorderHalted, ticked}
 use Rattle.document.specs.Recorder.Recorder.{absent, planned}
 use Rattle.recorder.specs.declared.state.Recorder.{Recorder as RecorderState}
-use Rattle.recorder.specs.State.{planOf, runOf, runKept, recorderOf, withRun}
+use Rattle.plans.specs.State.{planOf}
+use Rattle.recorder.specs.State.{runOf, runKept, recorderOf, withRun}
 use Rattle.recorder.specs.Calls.{startStatus, startedState, stopStatus, haltedRun, haltedState, tickedState}
 use Rattle.document.proofs.Cases.{split}
 use Rattle.recorder.proofs.Flags.{run-read}

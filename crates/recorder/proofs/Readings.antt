@@ -7,7 +7,8 @@ use Rattle.document.specs.Recorder.{Recorder}
 use Rattle.document.specs.Recorder.Recorder.{absent, planned}
 use Rattle.recorder.specs.declared.state.Run.{Run as RunState}
 use Rattle.recorder.specs.declared.state.Recorder.{Recorder as RecorderState}
-use Rattle.recorder.specs.State.{isSet, planOf, watchOf, runOf, recorderOf}
+use Rattle.plans.specs.State.{planOf}
+use Rattle.recorder.specs.State.{isSet, watchOf, runOf, recorderOf}
 
 -- a run with these flags
 abbrev pub flagged : Bool → Bool → RunState → Run

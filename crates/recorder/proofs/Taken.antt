@@ -16,7 +16,8 @@ use Rattle.document.specs.Recorder.{Recorder, tickedMemory}
 use Rattle.document.specs.Calls.{tickRefusal}
 use Rattle.recorder.specs.declared.state.Run.{Run as RunState}
 use Rattle.recorder.specs.declared.state.Recorder.{Recorder as RecorderState}
-use Rattle.recorder.specs.State.{isSet, triggerOf, planOf, runOf, runKept, recorderOf, withRun}
+use Rattle.plans.specs.State.{triggerOf, planOf}
+use Rattle.recorder.specs.State.{isSet, runOf, runKept, recorderOf, withRun}
 use Rattle.recorder.specs.Bounds.{sound}
 use Rattle.recorder.specs.Calls.{tickedState, TickTaken, TickSettled}
 use Rattle.document.proofs.Cases.{neither}

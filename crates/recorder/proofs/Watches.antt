@@ -7,9 +7,10 @@ use Rattle.document.specs.Plan.{Plan}
 use Rattle.document.specs.Trigger.{triggerValue, fires}
 use Rattle.document.specs.Run.{Watch, watched, placeAfter, fullAfter, setTaken}
 use Rattle.document.specs.Run.Watch.{unprimed, previous, triggered}
-use Rattle.recorder.specs.declared.state.Plan.{Plan as PlanState}
+use Rattle.plans.specs.declared.plan.Plan.{Plan as PlanState}
 use Rattle.recorder.specs.declared.state.Run.{Run as RunState}
-use Rattle.recorder.specs.State.{isSet, flagOf, watchOf, triggerOf, planOf, runOf, runKept, watching}
+use Rattle.plans.specs.State.{triggerOf, planOf}
+use Rattle.recorder.specs.State.{isSet, flagOf, watchOf, runOf, runKept, watching}
 
 -- a run that goes on keeps its flag
 pub still-running : (running full watch wait place value : ℕ) → running ≡ 1

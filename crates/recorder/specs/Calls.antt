@@ -14,7 +14,8 @@ use Rattle.recorder.specs.declared.state.Recorder.{Recorder as RecorderS
 use Rattle.recorder.specs.declared.calls.Answered.{Answered}
 use Rattle.recorder.specs.declared.calls.Queried.{Queried}
 use Rattle.recorder.specs.declared.tick.Ticked.{Ticked}
-use Rattle.recorder.specs.State.{planOf, runOf, recorderOf, withRun}
+use Rattle.plans.specs.State.{planOf}
+use Rattle.recorder.specs.State.{runOf, recorderOf, withRun}
 use Rattle.recorder.specs.Bounds.{sound}
 
 -- "start, stop, status or buffer query with no accepted recorder setup since reset", before all else

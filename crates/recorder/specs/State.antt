@@ -3,15 +3,13 @@ use mathlib.Core.Bool.{Bool, cond}
 use mathlib.Core.List.{[]}
 use Prim.Native.Nat.{ℕ}
 use lib.Dec.{eqb}
-use Rattle.document.specs.Plan.{Trigger, Plan, noTrigger}
+use Rattle.document.specs.Plan.{noTrigger}
 use Rattle.document.specs.Run.{Watch, Run, goesOn}
 use Rattle.document.specs.Run.Watch.{unprimed, previous, triggered}
 use Rattle.document.specs.Recorder.{Recorder}
 use Rattle.document.specs.Recorder.Recorder.{absent, planned}
-use Rattle.variables.specs.declared.Variables.{Variables}
-use Rattle.variables.specs.State.{variablesOf}
 use Rattle.variables.specs.Parts.{kept}
-use Rattle.recorder.specs.declared.state.Plan.{Plan as PlanState}
+use Rattle.plans.specs.State.{planOf, planKept}
 use Rattle.recorder.specs.declared.state.Run.{Run as RunState}
 use Rattle.recorder.specs.declared.state.Recorder.{Recorder as RecorderState}
 
@@ -23,20 +21,6 @@ abbrev pub flagOf : Bool → ℕ
 flagOf b = cond b 1 0
 
 -- ---- what the struct means
-
-abbrev pub triggerOf : PlanState → Trigger
-triggerOf p =
-    record { mode = p .mode; address = p .address; size = p .size; sign = p .sign; threshold = p .threshold }
-
-abbrev pub planOf : PlanState → Plan
-planOf p =
-    record {
-      samples = p .samples;
-      postTrigger = p .«post_trigger»;
-      divider = p .divider;
-      trigger = triggerOf p;
-      variables = variablesOf (p .variables);
-    }
 
 -- 0 unprimed, 1 with the value at the previous set, 2 triggered with the sets that are left
 abbrev pub watchOf : ℕ → ℕ → Watch
@@ -56,21 +40,6 @@ abbrev pub recorderOf : RecorderState → Recorder
 recorderOf r = cond (eqb (r .ready) 0) absent (planned (planOf (r .plan)) (runOf (r .run)))
 
 -- ---- how a plan and a run are kept in the struct
-
--- the plan's numbers beside its variables
-abbrev pub planKept : Plan → Variables → PlanState
-planKept p v =
-    record {
-      samples = p .samples;
-      «post_trigger» = p .postTrigger;
-      divider = p .divider;
-      mode = p .trigger .mode;
-      size = p .trigger .size;
-      sign = p .trigger .sign;
-      address = p .trigger .address;
-      threshold = p .trigger .threshold;
-      variables = v;
-    }
 
 abbrev pub watchNumber : Watch → ℕ
 watchNumber unprimed = 0

@@ -2,7 +2,6 @@
 ghost use mathlib.Core.Path.{_≡_};
 ghost use Rattle.recorder.specs.State.{recorderOf, noRecorder};
 ghost use Rattle.recorder.specs.Calls.{StartSettled, StopSettled, statusStatus, QuerySettled};
-use crate::state::Plan;
 use crate::state::Recorder;
 use crate::state::Run;
 use codes::BUSY;
@@ -10,6 +9,7 @@ use codes::DONE;
 use codes::NOT_SET_UP;
 use codes::RECORDER_RUNS;
 use codes::RECORDER_STOPPED;
+use plans::Plan;
 
 // A status, and the recorder as it is then.
 pub struct Answered {

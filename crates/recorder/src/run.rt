@@ -4,38 +4,18 @@ ghost use mathlib.Core.Bool.{true};
 ghost use mathlib.Core.List.{List};
 ghost use Prim.Native.Nat.{ℕ, _+_, _*_, _^_, _≤_, _<_};
 ghost use lib.Dec.{ltb};
-ghost use Rattle.document.specs.Trigger.{fires, triggerValue};
+ghost use Rattle.document.specs.Trigger.{triggerValue};
 ghost use Rattle.document.specs.Run.{placeAfter, fullAfter, watched, setTaken};
-ghost use Rattle.recorder.specs.State.{isSet, flagOf, triggerOf, planOf, watchOf, watching, runOf, runKept};
-ghost use Rattle.recorder.specs.Bounds.{planSound, watchSound, runSound};
+ghost use Rattle.plans.specs.State.{triggerOf, planOf};
+ghost use Rattle.recorder.specs.State.{isSet, flagOf, watchOf, watching, runOf, runKept};
+ghost use Rattle.plans.specs.Bounds.{planSound};
+ghost use Rattle.recorder.specs.Bounds.{watchSound, runSound};
 use crate::state::PREVIOUS;
-use crate::state::Plan;
 use crate::state::Run;
 use crate::state::TRIGGERED;
 use crate::state::UNPRIMED;
-use crate::trigger::comes;
-use crate::wide::wide_left;
-use crate::wide::wide_size;
-
-impl Plan {
-    // Whether the trigger comes. With mode 0 it has no size, and nothing to compare.
-    fn triggers(self, previous: u32, this: u32) -> bool
-        requires { ⌜ ((self .mode ≡ 0 → ⊥) → (1 ≤ self .size) × (self .size ≤ 4)) × (self .threshold < 2 ^ (8 * self .size)) × (previous < 2 ^ (8 * self .size)) × (this < 2 ^ (8 * self .size)) ⌝ }
-        ensures { λ r. ⌜ r ≡ fires (triggerOf self) previous this ⌝ }
-    {
-        if self.mode == 0 {
-            return false;
-        }
-        comes(
-            self.mode,
-            self.sign,
-            wide_size(self.size),
-            self.threshold,
-            previous,
-            this,
-        )
-    }
-}
+use plans::Plan;
+use plans::wide_left;
 
 impl Run {
     fn next_place(mut self, samples: u16) -> Run

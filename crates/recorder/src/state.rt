@@ -3,20 +3,6 @@ ghost use mathlib.Core.Path.{_≡_};
 ghost use Rattle.document.specs.Run.{started};
 ghost use Rattle.recorder.specs.State.{runKept};
 
-// What a setup fixes.
-#[repr(C)]
-pub struct Plan {
-    pub samples: u16,
-    pub post_trigger: u16,
-    pub divider: u16,
-    pub mode: u8,
-    pub size: u8,
-    pub sign: u8,
-    pub address: u32,
-    pub threshold: u32,
-    pub variables: variables::Variables,
-}
-
 // How far the trigger has come.
 pub const UNPRIMED: u8 = 0;
 
@@ -58,6 +44,6 @@ impl Run {
 #[repr(C)]
 pub struct Recorder {
     pub ready: u8,
-    pub plan: Plan,
+    pub plan: plans::Plan,
     pub run: Run,
 }

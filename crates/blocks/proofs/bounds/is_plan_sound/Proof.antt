@@ -3,7 +3,7 @@ use mathlib.Core.Path.{sym, _∙_}
 use lib.ListN.{getD}
 use borrow.Author.Tests.{not-true, not-false}
 use borrow.Author.Needs.{needs}
-use Rattle.recorder.specs.Bounds.{triggerSound}
+use Rattle.plans.specs.Bounds.{triggerSound}
 use Rattle.blocks.proofs.Within.{no-samples, trigger-outside, variables-decide}
 use Rattle.blocks.specs.Layout.{decodedPlan}
 use Rattle.blocks.proofs.bounds.is_plan_sound.Statement.{statement}

@@ -2,7 +2,7 @@
 use mathlib.Core.Path.{sym, _∙_}
 use borrow.Author.Tests.{not-true, not-false}
 use borrow.Author.Needs.{needs}
-use Rattle.recorder.proofs.Granted.{plan-bounds}
+use Rattle.plans.proofs.Granted.{plan-bounds}
 use Rattle.blocks.proofs.Within.{not-ready, no-flag, plan-outside, run-decides}
 use Rattle.blocks.specs.Layout.{decodedPlan}
 use Rattle.blocks.proofs.bounds.is_recorder_sound.Statement.{statement}

@@ -1,7 +1,7 @@
 -- Not set up, or a plan and a run within their bounds.
 use mathlib.Core.Path.{sym, _∙_}
 use borrow.Author.Tests.{eq-eqb, ne-eqb, not-true, not-false}
-use Rattle.recorder.proofs.Granted.{plan-bounds}
+use Rattle.plans.proofs.Granted.{plan-bounds}
 use borrow.Author.Needs.{needs}
 use Rattle.recorder.proofs.state.Recorder.is_sound.Statement.{statement}
 use Rattle.recorder.proofs.state.Recorder.is_sound.Tie as tie

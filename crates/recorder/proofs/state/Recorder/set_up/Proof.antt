@@ -6,9 +6,11 @@ use Rattle.document.specs.Plan.{headWidth, variablesPart, recordedIn, planIn}
 use Rattle.variables.specs.Parts.{kept, partRead}
 use Rattle.variables.specs.declared.parts.Part.{Part}
 use Rattle.variables.proofs.Read.{read-count}
-use Rattle.recorder.specs.State.{recorderOf, planKept}
-use Rattle.recorder.specs.Setup.{planStatus, bodyStatus, setUpStatus}
-use Rattle.recorder.proofs.SetUps.{short-layout, plan-status, accepted-variables, accepted-sound, bounded, tail-part}
+use Rattle.plans.specs.State.{planKept}
+use Rattle.recorder.specs.State.{recorderOf}
+use Rattle.plans.specs.Setup.{planStatus, bodyStatus}
+use Rattle.recorder.specs.Setup.{setUpStatus}
+use Rattle.plans.proofs.SetUps.{short-layout, plan-status, accepted-variables, accepted-sound, bounded, tail-part}
 use Rattle.recorder.proofs.Answers.{while-running, while-stopped, refused, taken-up}
 use native.Mathlib.Omega.{arith}
 use borrow.Author.Needs.{needs}

@@ -3,8 +3,10 @@ use mathlib.Core.Path.{sym, ap, _∙_}
 use mathlib.Core.Bool.{true, false}
 use Prim.Native.Nat.{ℕ}
 use Rattle.document.specs.Run.Watch.{triggered}
-use Rattle.recorder.specs.State.{planOf, watching}
-use Rattle.recorder.proofs.Granted.{plan-bounds, previous-fits, watch-two, left-some}
+use Rattle.plans.specs.State.{planOf}
+use Rattle.recorder.specs.State.{watching}
+use Rattle.plans.proofs.Granted.{plan-bounds}
+use Rattle.recorder.proofs.Granted.{previous-fits, watch-two, left-some}
 use Rattle.recorder.proofs.Watches.{still-running, first-set, looked-set, counted-set}
 use borrow.Author.Needs.{needs}
 use Rattle.recorder.proofs.state.Run.watch_on.Statement.{statement}
