@@ -24,7 +24,7 @@ use Rattle.demands.specs.Within.{Within}
 use Rattle.demands.proofs.Within.{within-byte, within-tick, within-write}
 
 -- of what is left refused or not, where nothing refuses
-goes : {A : Type 0} (refusal : ℕ) (x given kept : A) → refusal ≡ taken → x ≡ cond (eqb refusal taken) given kept → x ≡ given
+pub goes : {A : Type 0} (refusal : ℕ) (x given kept : A) → refusal ≡ taken → x ≡ cond (eqb refusal taken) given kept → x ≡ given
 goes refusal x given kept e h = h ∙ ap (λ (k : ℕ). cond (eqb k taken) given kept) e
 
 module _ (buffer : List ℕ) (room : 132 ≤ length buffer) (h : House) (w : Within h) where
