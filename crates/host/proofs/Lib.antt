@@ -1,4 +1,5 @@
 -- What follows from the definitions of the other end.
+pub mod Forms
 pub mod Commands
 pub mod Bounds
 pub mod Reading

@@ -9,14 +9,22 @@ ghost use Rattle.host.specs.CommandWritten.{CommandWritten};
 use crate::measure::FAST;
 use crate::measure::wire_length;
 use codes::FORM_REFUSED;
+use codes::Length;
 use codes::ROOM_REFUSED;
 use codes::TAKEN;
+use codes::data_length;
 use line::Written;
 use line::doubling::PLUS;
 use line::doubling::Progress;
 use line::doubling::put;
 use line::doubling::put_all;
 use line::doubling::put_sum;
+
+fn wide(n: u8) -> usize
+    ensures { λ r. ⌜ r ≡ n ⌝ }
+{
+    n as usize
+}
 
 // Whether the message can be formed: a command that is no start byte, and as many data as it takes.
 fn is_formed(command: u8, body: &[u8]) -> bool
@@ -25,10 +33,11 @@ fn is_formed(command: u8, body: &[u8]) -> bool
     if command == PLUS {
         return false;
     }
-    if command < FAST {
-        return body.len() <= 255;
+    let length = data_length(command);
+    match length {
+        Length::Told => body.len() <= 255,
+        Length::Fixed(n) => body.len() == wide(n),
     }
-    body.len() == (command / 16 % 4 * 2) as usize
 }
 
 // A standard command has a length byte.

@@ -1,30 +1,54 @@
--- The three tests of the form.
+-- The start byte, then the command's entry in the table of lengths.
 use borrow.Author.Needs.{needs}
-use borrow.Author.Tests.{lt-ltb, le-ltb, eq-eqb, ne-eqb}
+use mathlib.Core.Path.{sym, _∙_}
+use borrow.Author.Tests.{eq-eqb}
 use Rattle.document.specs.Message.{wellFormed}
-use borrow.Author.Needs.{needs}
+use Rattle.host.proofs.Forms.{formed-told, formed-fixed}
 use Rattle.host.proofs.command.is_formed.Statement.{statement}
 use Rattle.host.proofs.command.is_formed.Tie as tie
 use Rattle.host.proofs.command.is_formed.Reads as reads
 use Rattle.host.proofs.command.is_formed.Lts as lts
+use Rattle.codes.proofs.data_length.Reads as data-length-reads
+use Rattle.host.proofs.command.wide.Reads as wide-reads
 
 returns : tie.Need-returns
 unfolding wellFormed
 returns c = simp (eq-eqb _ _ (c .if1 .taken))
 
+data-length-requires : tie.Need-data-length-requires
+data-length-requires c κs = search needs
+
+enum-told : tie.Need-enum-told
+enum-told c = search needs
+
+enum-known-length : tie.Need-enum-known-length
+enum-known-length c = search needs
+
+wide-requires : tie.Need-wide-requires
+wide-requires c κs = search needs
+
 returns-2 : tie.Need-returns-2
-unfolding wellFormed
-returns-2 c = simp (ne-eqb _ _ (c .before .if1 .left), lt-ltb _ _ (c .if2 .taken))
-
-mul-result : tie.Need-mul-result
-mul-result c = search needs
-
-cast-result : tie.Need-cast-result
-cast-result c = search needs
+returns-2 c =
+    let d = c .before .before in
+    let start = d .before .before .before in
+    formed-told (start .args .command) (start .args .body .now) (d .before .if1 .left) (sym (c .enum-told .given .1) ∙ d .data-length .ensures)
 
 returns-3 : tie.Need-returns-3
-unfolding wellFormed
-returns-3 c = simp (ne-eqb _ _ (c .before .if1 .left), le-ltb _ _ (c .if2 .left))
+returns-3 c =
+    let e = c .before .before in
+    let d = e .before .before in
+    let start = d .before .before .before in
+    formed-fixed (start .args .command) (start .args .body .now) (d .before .if1 .left) (e .length .given .0 .0) (c .wide .result)
+    (sym (e .length .given .1) ∙ d .data-length .ensures) (c .wide .ensures)
 
 pub is-formed-spec : {M : Type 1} → statement M
-is-formed-spec = tie.close (tie.spec returns returns-2 mul-result cast-result returns-3)
+is-formed-spec =
+    tie.close
+    (tie.spec
+    returns
+    data-length-requires
+    enum-told
+    enum-known-length
+    wide-requires
+    returns-2
+    returns-3)
