@@ -9,14 +9,14 @@ use mathlib.Core.Bool.{true, false}
 use mathlib.Core.List.{List, [], _∷_, _++_}
 use Prim.Native.Nat.{ℕ, _<_, _≤_}
 use lib.ListN.{length}
-use Rattle.document.specs.Numbers.{taken}
+use Rattle.document.specs.Numbers.{taken, sumWrong}
 use Rattle.document.specs.Calls.{byteRefusal, tickRefusal}
-use Rattle.document.specs.Message.{Message, wellFormed, onWire}
+use Rattle.document.specs.Message.{Message, sumRight, wellFormed, onWire}
 use Rattle.document.specs.Plan.{Plan}
 use Rattle.document.specs.Run.{started}
 use Rattle.document.specs.Recorder.Recorder.{planned}
 use Rattle.document.specs.Sets.{setsTaken}
-use Rattle.document.specs.Gate.{Gate, fresh as gate}
+use Rattle.document.specs.Gate.{Gate, says, fresh as gate}
 use Rattle.document.specs.Commands.{answered}
 use Rattle.document.specs.Happenings.{Happening, Since, afterAll, fromReset as since}
 use Rattle.document.specs.Happenings.Happening.{byte}
@@ -121,6 +121,10 @@ module _ (buffer memory : List ℕ) (lent : Lent buffer memory) (first : List Ha
         subst (λ (q : House). Recorded p q (setsTaken p (memoriesLeft (h .memory) (events reached hs)))) (sym (o .is))
         (recorded buffer h reached (a .stands) (a .within .size) p (plan-fits h (a .within) p started just) just hs
         (bytes-since memory first hs are more) quiet)
+
+-- ".. with a right sum ..": of a message whose sum is wrong the definition carries nothing out, it says 0x82 and leaves the gate
+pub demand-3-sum : (g : Gate) (m : Message) → sumRight m ≡ false → answered g m ≡ says g sumWrong []
+demand-3-sum = calls.sum-refused
 
 -- an accepted start, by a setup or by 0xC1, leaves a plan at its start: the premise above
 pub recorder-starts : (g : Gate) (m : Message) → starts g m ≡ true → Begins g m

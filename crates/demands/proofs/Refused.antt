@@ -5,9 +5,9 @@ use mathlib.Core.List.{List, []}
 use Prim.Native.Nat.{ℕ}
 use borrow.Author.Tests.{eqb-true, ne-eqb, eq-eqb}
 use lib.Dec.{eqb}
-use Rattle.document.specs.Numbers.{taken, done, recorderRuns, recorderStopped, isError}
+use Rattle.document.specs.Numbers.{taken, done, recorderRuns, recorderStopped, sumWrong, isError}
 use Rattle.document.specs.Calls.{byteRefusal, tickRefusal}
-use Rattle.document.specs.Message.{Message}
+use Rattle.document.specs.Message.{Message, sumRight}
 use Rattle.document.specs.Fields.{reads, writesPlain, writesMasked, setsUpScope, setsUpRecorder}
 use Rattle.document.specs.Recorder.{isRunning, tickedMemory}
 use Rattle.document.specs.Gate.{Gate, Outcome, says}
@@ -107,3 +107,8 @@ wire-refused g m =
   where
     carried : Outcome
     carried = carriedOut g (m .command) (m .body)
+
+-- a wrong sum is the first thing that is looked at
+pub sum-refused : (g : Gate) (m : Message) → sumRight m ≡ false → answered g m ≡ says g sumWrong []
+unfolding answered refusal
+sum-refused g m wrong = rw wrong refl
