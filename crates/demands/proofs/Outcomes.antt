@@ -7,7 +7,7 @@ use Prim.Native.Nat.{ℕ}
 use Rattle.document.specs.Answer.{Answer}
 use Rattle.line.specs.declared.Written.{Written}
 use Rattle.line.specs.AnswerWritten.{AnswerWritten}
-use Rattle.host.specs.CommandWritten.{CommandWritten}
+use Rattle.commands.specs.CommandWritten.{CommandWritten}
 use Rattle.host.specs.declared.reader.AnswerReader.{AnswerReader}
 use Rattle.host.specs.declared.reader.Begun.{Begun}
 use Rattle.host.specs.declared.reader.Read.{Read}

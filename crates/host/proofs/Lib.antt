@@ -1,6 +1,4 @@
 -- What follows from the definitions of the other end.
-pub mod Forms
-pub mod Commands
 pub mod Bounds
 pub mod Reading
 pub mod Calls

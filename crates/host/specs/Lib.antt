@@ -1,5 +1,4 @@
 -- What the calls of the other end promise, with the definitions of the document.
-pub mod CommandWritten
 pub mod Reader
 pub mod Head
 pub mod Promises

@@ -1,11 +1,8 @@
-// The other end of the cable: a writer of command messages and a reader of answers.
-mod command;
+// The other end of the cable: the reader of answers.
 mod head;
-mod measure;
 mod reader;
 mod step;
 
-pub use command::write_command;
 pub use head::Asked;
 pub use head::Head;
 pub use head::Stepped;

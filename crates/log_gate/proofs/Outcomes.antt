@@ -5,7 +5,7 @@ use Prim.Native.Nat.{ℕ}
 use Rattle.document.specs.Answer.{Answer}
 use Rattle.line.specs.declared.Written.{Written}
 use Rattle.line.specs.AnswerWritten.{AnswerWritten}
-use Rattle.host.specs.CommandWritten.{CommandWritten}
+use Rattle.commands.specs.CommandWritten.{CommandWritten}
 use Rattle.log_gate.specs.declared.byte.Taken.{Taken}
 use Rattle.log_gate.specs.declared.reader.ReadByte.{ReadByte}
 use Rattle.log_gate.specs.Promises.{ResetDone, Checked, ByteTaken, TickTaken, BeginDone, ReadDone}

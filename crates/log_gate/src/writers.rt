@@ -1,6 +1,6 @@
 // The two writers, as they are inside the house.
 ghost use Rattle.line.specs.AnswerWritten.{AnswerWritten};
-ghost use Rattle.host.specs.CommandWritten.{CommandWritten};
+ghost use Rattle.commands.specs.CommandWritten.{CommandWritten};
 use line::Written;
 
 #[no_mangle]
@@ -14,5 +14,5 @@ pub extern "C" fn log_gate_write_answer(status: u8, body: &[u8], out: &mut [u8])
 pub extern "C" fn log_gate_write_command(command: u8, body: &[u8], out: &mut [u8]) -> Written
     ensures { λ r. ⌜ CommandWritten command (now (body .entry)) (now (out .entry)) r (now (out .exit)) ⌝ }
 {
-    host::write_command(command, body, out)
+    commands::write_command(command, body, out)
 }

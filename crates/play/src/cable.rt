@@ -78,7 +78,7 @@ fn put_writing(
 
 fn written(letter: u8, value: u8, body: &[u8], lent: &mut [u8]) -> Written {
     if letter == b'W' {
-        return host::write_command(value, body, lent);
+        return commands::write_command(value, body, lent);
     }
     line::write_answer(value, body, lent)
 }

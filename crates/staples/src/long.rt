@@ -25,7 +25,7 @@ fn write(size: u8, wire: &mut [u8; 150]) -> usize
     body[1] = ADDRESS;
     body[2] = 0;
     let end = 3 + size as usize;
-    let written = host::write_command(WRITE, &body[0..end], wire);
+    let written = commands::write_command(WRITE, &body[0..end], wire);
     written.length
 }
 

@@ -5,7 +5,7 @@ ghost use lib.ListN.{length};
 ghost use Rattle.document.specs.Doubling.{stuffed};
 ghost use Rattle.document.specs.Message.{lengthPart, summed, wellFormed};
 ghost use Rattle.line.specs.Put.{Put};
-ghost use Rattle.host.specs.CommandWritten.{CommandWritten};
+ghost use Rattle.commands.specs.CommandWritten.{CommandWritten};
 use crate::measure::FAST;
 use crate::measure::wire_length;
 use codes::FORM_REFUSED;

@@ -3,13 +3,13 @@ use borrow.Author.Needs.{needs}
 use mathlib.Core.Path.{sym, _∙_}
 use borrow.Author.Tests.{eq-eqb}
 use Rattle.document.specs.Message.{wellFormed}
-use Rattle.host.proofs.Forms.{formed-told, formed-fixed}
-use Rattle.host.proofs.command.is_formed.Statement.{statement}
-use Rattle.host.proofs.command.is_formed.Tie as tie
-use Rattle.host.proofs.command.is_formed.Reads as reads
-use Rattle.host.proofs.command.is_formed.Lts as lts
+use Rattle.commands.proofs.Forms.{formed-told, formed-fixed}
+use Rattle.commands.proofs.command.is_formed.Statement.{statement}
+use Rattle.commands.proofs.command.is_formed.Tie as tie
+use Rattle.commands.proofs.command.is_formed.Reads as reads
+use Rattle.commands.proofs.command.is_formed.Lts as lts
 use Rattle.codes.proofs.data_length.Reads as data-length-reads
-use Rattle.host.proofs.command.wide.Reads as wide-reads
+use Rattle.commands.proofs.command.wide.Reads as wide-reads
 
 returns : tie.Need-returns
 unfolding wellFormed

@@ -14,15 +14,15 @@ use Rattle.document.specs.Message.{lengthPart, wellFormed, summed}
 use Rattle.document.specs.CommandWriter.{commandOnWire, commandRefusal, commandWritten, commandBuffer}
 use Rattle.line.specs.declared.doubling.Progress.{Progress}
 use Rattle.line.proofs.Writing.{front, put-append, written-length, written-buffer}
-use Rattle.host.proofs.Commands.{between, command-framed, command-length, behind-sum, formed-short, command-taken, command-written, command-buffer}
+use Rattle.commands.proofs.Commands.{between, command-framed, command-length, behind-sum, formed-short, command-taken, command-written, command-buffer}
 use borrow.Author.Needs.{needs}
-use Rattle.host.proofs.command.write_command.Statement.{statement}
-use Rattle.host.proofs.command.write_command.Tie as tie
-use Rattle.host.proofs.command.write_command.Reads as reads
-use Rattle.host.proofs.command.write_command.Lts as lts
-use Rattle.host.proofs.command.is_formed.Reads as is-formed-reads
-use Rattle.host.proofs.command.put_length.Reads as put-length-reads
-use Rattle.host.proofs.measure.wire_length.Reads as wire-length-reads
+use Rattle.commands.proofs.command.write_command.Statement.{statement}
+use Rattle.commands.proofs.command.write_command.Tie as tie
+use Rattle.commands.proofs.command.write_command.Reads as reads
+use Rattle.commands.proofs.command.write_command.Lts as lts
+use Rattle.commands.proofs.command.is_formed.Reads as is-formed-reads
+use Rattle.commands.proofs.command.put_length.Reads as put-length-reads
+use Rattle.commands.proofs.measure.wire_length.Reads as wire-length-reads
 use Rattle.line.proofs.doubling.put_all.Reads as put-all-reads
 use Rattle.line.proofs.doubling.put_sum.Reads as put-sum-reads
 

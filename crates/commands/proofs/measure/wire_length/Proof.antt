@@ -7,15 +7,15 @@ use Rattle.document.specs.Doubling.{stuffed}
 use Rattle.document.specs.Message.{lengthPart}
 use Rattle.line.specs.declared.doubling.Progress.{Progress}
 use Rattle.line.proofs.Stuffed.{stuffed-length}
-use Rattle.host.proofs.Commands.{length-part-short, measured-command}
+use Rattle.commands.proofs.Commands.{length-part-short, measured-command}
 use borrow.Author.Needs.{needs}
-use Rattle.host.proofs.measure.wire_length.Statement.{statement}
-use Rattle.host.proofs.measure.wire_length.Tie as tie
-use Rattle.host.proofs.measure.wire_length.Reads as reads
-use Rattle.host.proofs.measure.wire_length.Lts as lts
-use Rattle.host.proofs.measure.measured.Reads as measured-reads
-use Rattle.host.proofs.measure.measured_all.Reads as measured-all-reads
-use Rattle.host.proofs.measure.measured_length.Reads as measured-length-reads
+use Rattle.commands.proofs.measure.wire_length.Statement.{statement}
+use Rattle.commands.proofs.measure.wire_length.Tie as tie
+use Rattle.commands.proofs.measure.wire_length.Reads as reads
+use Rattle.commands.proofs.measure.wire_length.Lts as lts
+use Rattle.commands.proofs.measure.measured.Reads as measured-reads
+use Rattle.commands.proofs.measure.measured_all.Reads as measured-all-reads
+use Rattle.commands.proofs.measure.measured_length.Reads as measured-length-reads
 use Rattle.line.proofs.sum.sum_byte.Reads as sum-byte-reads
 
 measured-length-requires : tie.Need-measured-length-requires

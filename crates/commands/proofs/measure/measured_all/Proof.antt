@@ -11,11 +11,11 @@ use Rattle.line.specs.declared.doubling.Progress.{Progress}
 use Rattle.line.specs.Put.{progressed}
 use Rattle.line.proofs.Stuffed.{stuffed-one}
 use Rattle.line.proofs.Writing.{progressed-none, progressed-drop}
-use Rattle.host.proofs.measure.measured_all.Statement.{statement}
-use Rattle.host.proofs.measure.measured_all.Tie as tie
-use Rattle.host.proofs.measure.measured_all.Reads as reads
-use Rattle.host.proofs.measure.measured_all.Lts as lts
-use Rattle.host.proofs.measure.measured.Reads as measured-reads
+use Rattle.commands.proofs.measure.measured_all.Statement.{statement}
+use Rattle.commands.proofs.measure.measured_all.Tie as tie
+use Rattle.commands.proofs.measure.measured_all.Reads as reads
+use Rattle.commands.proofs.measure.measured_all.Lts as lts
+use Rattle.commands.proofs.measure.measured.Reads as measured-reads
 
 abbrev Inv-loop : tie.InvT-loop
 Inv-loop bytes from i₀ progress i =

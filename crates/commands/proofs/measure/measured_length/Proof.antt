@@ -4,11 +4,11 @@ use native.Mathlib.Omega.{arith}
 use borrow.Author.Tests.{lt-ltb, le-ltb}
 use Rattle.line.proofs.Writing.{progressed-none}
 use borrow.Author.Needs.{needs}
-use Rattle.host.proofs.measure.measured_length.Statement.{statement}
-use Rattle.host.proofs.measure.measured_length.Tie as tie
-use Rattle.host.proofs.measure.measured_length.Reads as reads
-use Rattle.host.proofs.measure.measured_length.Lts as lts
-use Rattle.host.proofs.measure.measured.Reads as measured-reads
+use Rattle.commands.proofs.measure.measured_length.Statement.{statement}
+use Rattle.commands.proofs.measure.measured_length.Tie as tie
+use Rattle.commands.proofs.measure.measured_length.Reads as reads
+use Rattle.commands.proofs.measure.measured_length.Lts as lts
+use Rattle.commands.proofs.measure.measured.Reads as measured-reads
 
 cast-measured : tie.Need-cast-measured
 cast-measured c = search needs
