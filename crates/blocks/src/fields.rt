@@ -24,14 +24,14 @@ fn wide_long(byte: u8) -> u32
     byte as u32
 }
 
-pub fn word_at(block: &[u8], at: usize) -> u16
+pub(crate) fn word_at(block: &[u8], at: usize) -> u16
     requires { ⌜ at + 2 ≤ length (now block) ⌝ }
     ensures { λ r. ⌜ r ≡ number (bytesAt (now (block .entry)) at 2) ⌝ }
 {
     wide_word(block[at]) + 256 * wide_word(block[at + 1])
 }
 
-pub fn long_at(block: &[u8], at: usize) -> u32
+pub(crate) fn long_at(block: &[u8], at: usize) -> u32
     requires { ⌜ at + 4 ≤ length (now block) ⌝ }
     ensures { λ r. ⌜ r ≡ number (bytesAt (now (block .entry)) at 4) ⌝ }
 {
@@ -48,7 +48,7 @@ pub fn put_byte(block: &mut [u8], at: usize, x: u8)
     block[at] = x;
 }
 
-pub fn put_word(block: &mut [u8], at: usize, x: u16)
+pub(crate) fn put_word(block: &mut [u8], at: usize, x: u16)
     requires { ⌜ at + 2 ≤ length (now block) ⌝ }
     ensures { λ _. ⌜ now (block .exit) ≡ sets (now (block .entry)) at (littleEndian 2 x) ⌝ }
 {
@@ -56,7 +56,7 @@ pub fn put_word(block: &mut [u8], at: usize, x: u16)
     block[at + 1] = (x / 256 % 256) as u8;
 }
 
-pub fn put_long(block: &mut [u8], at: usize, x: u32)
+pub(crate) fn put_long(block: &mut [u8], at: usize, x: u32)
     requires { ⌜ at + 4 ≤ length (now block) ⌝ }
     ensures { λ _. ⌜ now (block .exit) ≡ sets (now (block .entry)) at (littleEndian 4 x) ⌝ }
 {

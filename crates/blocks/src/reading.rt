@@ -98,7 +98,7 @@ fn plan_in(block: &[u8]) -> plans::Plan
     }
 }
 
-pub fn run_in(block: &[u8]) -> recorder::Run
+pub(crate) fn run_in(block: &[u8]) -> recorder::Run
     requires { ⌜ 181 ≤ length (now block) ⌝ }
     ensures { λ r. ⌜ r ≡ decodedRun (now (block .entry)) ⌝ }
 {

@@ -46,8 +46,8 @@ fn show(
     put_outcome(came, given.at, expected, left, out, shown)
 }
 
-// Cases 1 to 7: what is read and masked, and what is refused for its own sake.
-pub fn reading(
+// Cases 1 to 3: the short description, and a byte that is read, doubled or not.
+pub fn describing(
     memory: &mut [u8; 16384],
     came: &mut [u8; 600],
     out: &mut [u8; 65536],
@@ -81,6 +81,17 @@ pub fn reading(
         out,
         at,
     );
+    at
+}
+
+// Cases 4 to 6: an address with a doubled byte, a masked write, a wrong sum.
+pub fn filling(
+    memory: &mut [u8; 16384],
+    came: &mut [u8; 600],
+    out: &mut [u8; 65536],
+    from: usize,
+) -> usize {
+    let mut at = from;
     at = show(
         naming(4, 43, 0x7F, 0x7F),
         &[0x2B, 0xD0, 0x2B, 0x2B, 0x00, 0x05],
@@ -108,6 +119,17 @@ pub fn reading(
         out,
         at,
     );
+    at
+}
+
+// Cases 7 and 8: how much may be read at once, and up to where.
+pub fn reading(
+    memory: &mut [u8; 16384],
+    came: &mut [u8; 600],
+    out: &mut [u8; 65536],
+    from: usize,
+) -> usize {
+    let mut at = from;
     at = show(
         naming(7, 16, 0x7F, 0x7F),
         &[0x2B, 0x01, 0x03, 0x41, 0x10, 0x00, 0xAB],
@@ -117,17 +139,6 @@ pub fn reading(
         out,
         at,
     );
-    at
-}
-
-// Cases 8 and 9: the edges of what may be read and written.
-pub fn ranges(
-    memory: &mut [u8; 16384],
-    came: &mut [u8; 600],
-    out: &mut [u8; 65536],
-    from: usize,
-) -> usize {
-    let mut at = from;
     at = show(
         naming(8, 16383, 0x7F, 0x7F),
         &[0x2B, 0xD0, 0xFF, 0x3F, 0xF2],
@@ -146,6 +157,17 @@ pub fn ranges(
         out,
         at,
     );
+    at
+}
+
+// Case 9: up to where may be written.
+pub fn writing(
+    memory: &mut [u8; 16384],
+    came: &mut [u8; 600],
+    out: &mut [u8; 65536],
+    from: usize,
+) -> usize {
+    let mut at = from;
     at = show(
         naming(9, 8191, 0x00, 0x05),
         &[0x2B, 0xE3, 0xFF, 0x1F, 0x05, 0x00, 0xFA],
@@ -167,7 +189,7 @@ pub fn ranges(
     at
 }
 
-// Cases 10 to 12: what opens a message, and commands that are not to be had.
+// Cases 10 and 11: what opens a message.
 pub fn pairing(
     memory: &mut [u8; 16384],
     came: &mut [u8; 600],
@@ -202,6 +224,17 @@ pub fn pairing(
         out,
         at,
     );
+    at
+}
+
+// Case 12: commands that are not to be had.
+pub fn asking(
+    memory: &mut [u8; 16384],
+    came: &mut [u8; 600],
+    out: &mut [u8; 65536],
+    from: usize,
+) -> usize {
+    let mut at = from;
     at = show(
         naming(12, 16, 0x00, 0x00),
         &[0x2B, 0x7F, 0x00, 0x81],

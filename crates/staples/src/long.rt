@@ -52,7 +52,7 @@ fn show_wire(
     put_outcome(came, given.at, expected, left, out, shown)
 }
 
-pub fn show(
+fn show(
     size: u8,
     expected: &[u8],
     last: u8,
@@ -66,4 +66,25 @@ pub fn show(
 {
     let length = write(size, wire);
     show_wire(wire, length, expected, last, memory, came, out, at)
+}
+
+// 61 bytes are written, 62 are refused.
+pub fn show_lengths(
+    wire: &mut [u8; 150],
+    memory: &mut [u8; 16384],
+    came: &mut [u8; 600],
+    out: &mut [u8; 65536],
+    at: usize,
+) -> usize {
+    let accepted = show(61, &[0x2B, 0x00, 0x00], 0x11, wire, memory, came, out, at);
+    show(
+        62,
+        &[0x2B, 0x83, 0x7D],
+        0x00,
+        wire,
+        memory,
+        came,
+        out,
+        accepted,
+    )
 }

@@ -7,53 +7,26 @@ mod show;
 
 use script::output::flush;
 
+// Cases 1 to 12.
+fn show_short(memory: &mut [u8; 16384], came: &mut [u8; 600], out: &mut [u8; 65536]) -> usize {
+    let described = cases::describing(memory, came, out, 0);
+    let filled = cases::filling(memory, came, out, described);
+    let read = cases::reading(memory, came, out, filled);
+    let written = cases::writing(memory, came, out, read);
+    let paired = cases::pairing(memory, came, out, written);
+    cases::asking(memory, came, out, paired)
+}
+
+// All of them, and what there is to print at the end.
 fn show_all(
     memory: &mut [u8; 16384],
     came: &mut [u8; 600],
     wire: &mut [u8; 150],
     out: &mut [u8; 65536],
 ) {
-    let read = cases::reading(memory, came, out, 0);
-    let ranged = cases::ranges(memory, came, out, read);
-    let paired = cases::pairing(memory, came, out, ranged);
-    let fired = rising::show(
-        0,
-        0x4A,
-        &[0x2B, 0x00, 0x00, 0x2B, 0x02, 0xFE],
-        memory,
-        came,
-        out,
-        paired,
-    );
-    let still = rising::show(
-        1,
-        0x49,
-        &[0x2B, 0x00, 0x00, 0x2B, 0x01, 0xFF],
-        memory,
-        came,
-        out,
-        fired,
-    );
-    let longest = long::show(
-        61,
-        &[0x2B, 0x00, 0x00],
-        0x11,
-        wire,
-        memory,
-        came,
-        out,
-        still,
-    );
-    let end = long::show(
-        62,
-        &[0x2B, 0x83, 0x7D],
-        0x00,
-        wire,
-        memory,
-        came,
-        out,
-        longest,
-    );
+    let short = show_short(memory, came, out);
+    let rising = rising::show_signs(memory, came, out, short);
+    let end = long::show_lengths(wire, memory, came, out, rising);
     flush(out, end);
 }
 

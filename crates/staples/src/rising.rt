@@ -18,38 +18,9 @@ const KEPT: usize = 12291;
 
 const STATUS: [u8; 3] = [0x2B, 0xC3, 0x3D];
 
-fn tick(target: Target, memory: &mut [u8; 16384]) -> Target {
-    let ticked = target.tick(memory);
-    ticked.next
-}
-
-fn put_messages(setup: &[u8], out: &mut [u8; 65536], at: usize) -> usize {
-    let first = put_case(13, setup, out, at);
-    let ticked = put_text(b", two ticks,", out, first);
-    put_bytes(&STATUS, out, ticked)
-}
-
-// The setup, the value from below to above with a tick at each, and the question for the status: where the answers end.
-fn run(setup: &[u8], memory: &mut [u8; 16384], came: &mut [u8; 600]) -> usize {
-    reset(memory, HIGH, 0x60);
-    let accepted = give(Target::new(), setup, memory, came, 0);
-    let first = tick(accepted.target, memory);
-    poke(memory, HIGH, 0x80);
-    let second = tick(first, memory);
-    let asked = give(second, &STATUS, memory, came, accepted.at);
-    asked.at
-}
-
-pub fn show(
-    sign: u8,
-    sum_byte: u8,
-    expected: &[u8],
-    memory: &mut [u8; 16384],
-    came: &mut [u8; 600],
-    out: &mut [u8; 65536],
-    at: usize,
-) -> usize {
-    let setup = [
+// Rising, four samples, post-trigger and divider 0, the trigger of two bytes at 16 with this sign, and the same two bytes recorded.
+fn setup_with(sign: u8, sum_byte: u8) -> [u8; 23] {
+    [
         0x2B,
         0x09,
         0x13,
@@ -73,7 +44,41 @@ pub fn show(
         0x10,
         0x00,
         sum_byte,
-    ];
+    ]
+}
+
+fn tick(target: Target, memory: &mut [u8; 16384]) -> Target {
+    let ticked = target.tick(memory);
+    ticked.next
+}
+
+fn put_messages(setup: &[u8], out: &mut [u8; 65536], at: usize) -> usize {
+    let first = put_case(13, setup, out, at);
+    let ticked = put_text(b", two ticks,", out, first);
+    put_bytes(&STATUS, out, ticked)
+}
+
+// The setup, the value from below to above with a tick at each, and the question for the status: where the answers end.
+fn run(setup: &[u8], memory: &mut [u8; 16384], came: &mut [u8; 600]) -> usize {
+    reset(memory, HIGH, 0x60);
+    let accepted = give(Target::new(), setup, memory, came, 0);
+    let first = tick(accepted.target, memory);
+    poke(memory, HIGH, 0x80);
+    let second = tick(first, memory);
+    let asked = give(second, &STATUS, memory, came, accepted.at);
+    asked.at
+}
+
+fn show(
+    sign: u8,
+    sum_byte: u8,
+    expected: &[u8],
+    memory: &mut [u8; 16384],
+    came: &mut [u8; 600],
+    out: &mut [u8; 65536],
+    at: usize,
+) -> usize {
+    let setup = setup_with(sign, sum_byte);
     let length = run(&setup, memory, came);
     let left = Left {
         address: KEPT,
@@ -82,4 +87,17 @@ pub fn show(
     };
     let shown = put_messages(&setup, out, at);
     put_outcome(came, length, expected, left, out, shown)
+}
+
+// With sign 0 it fires, with sign 1 it does not.
+pub fn show_signs(
+    memory: &mut [u8; 16384],
+    came: &mut [u8; 600],
+    out: &mut [u8; 65536],
+    at: usize,
+) -> usize {
+    let fires = [0x2B, 0x00, 0x00, 0x2B, 0x02, 0xFE];
+    let runs = [0x2B, 0x00, 0x00, 0x2B, 0x01, 0xFF];
+    let unsigned = show(0, 0x4A, &fires, memory, came, out, at);
+    show(1, 0x49, &runs, memory, came, out, unsigned)
 }
