@@ -1,9 +1,11 @@
 -- The laws and theorems, lowest first.
 pub mod Outcomes
+pub mod Carried
 pub mod Refused
 pub mod ByteLaws
 pub mod Numbered
 pub mod Left
+pub mod After
 pub mod Within
 pub mod Firsts
 pub mod Formed

@@ -11,7 +11,7 @@ use Rattle.document.specs.Numbers.{done}
 use Rattle.document.specs.Areas.{calibrationEnd, memoryEnd, mayBeWritten, bytesAt}
 use Rattle.document.specs.Message.{Message}
 use Rattle.document.specs.Stores.{stored, maskedBytes}
-use Rattle.document.specs.Fields.{isEx, reads, writesPlain, writesMasked, setsUpScope, setsUpRecorder, sizeField, addressField, dataField, maskField, dataPlace}
+use Rattle.document.specs.Fields.{isEx, setsUpRecorder, sizeField, addressField, dataField, maskField, dataPlace}
 use Rattle.document.specs.Plan.{Plan, planIn}
 use Rattle.document.specs.Run.{Run, started, stopped, memoryAfterTick, placeBegins, setOf}
 use Rattle.document.specs.Recorder.{Recorder, recorderAbsent, isRunning, recorderSetUp, recorderStarted, recorderHalted, tickedMemory}
@@ -26,23 +26,29 @@ use Rattle.link.specs.Report.{held}
 use Rattle.operations.proofs.Held.{answered-held}
 use Rattle.demands.specs.Recording.{starts, stops, Begins}
 use Rattle.demands.proofs.ByteLaws.{take-short}
+use Rattle.demands.proofs.Carried.{carried-by}
 use Rattle.demands.proofs.Left.{held-left}
 use Rattle.demands.proofs.Firsts.{none-applies}
 
 -- ---- what a command that is carried out does to the recorder
 module _ (g : Gate) (c : ℕ) (body : List ℕ) where
   others-leave : setsUpRecorder c ≡ false → eqb c 0xC1 ≡ false → eqb c 0xC2 ≡ false → carriedOut g c body .gate .recorder ≡ g .recorder
-  unfolding carriedOut
   others-leave no-setup no-start no-stop =
-      split (eqb c 0xC0) (λ t. rw t refl)
-      (λ f0. split (eqb c 0xC8) (λ t. rw (f0, t) refl)
-      (λ f1. split (reads c) (λ t. rw (f0, f1, t) refl)
-      (λ f2. split (writesPlain c) (λ t. rw (f0, f1, f2, t) refl)
-      (λ f3. split (writesMasked c) (λ t. rw (f0, f1, f2, f3, t) refl)
-      (λ f4. split (setsUpScope c) (λ t. rw (f0, f1, f2, f3, f4, t) refl)
-      (λ f5. split (eqb c 0xC5) (λ t. rw (f0, f1, f2, f3, f4, f5, t) refl)
-      (λ f6. split (eqb c 0xC3) (λ t. rw (f0, f1, f2, f3, f4, f5, f6, no-setup, no-start, no-stop, t) refl)
-      (λ f7. rw (f0, f1, f2, f3, f4, f5, f6, no-setup, no-start, no-stop, f7) refl))))))))
+      carried-by (λ (o : Outcome). o .gate .recorder ≡ g .recorder) g c body
+      (record {
+        describes = refl;
+        describes-briefly = refl;
+        reads-memory = refl;
+        writes-memory = refl;
+        writes-masked = refl;
+        sets-up-scope = refl;
+        reads-scope = refl;
+        sets-up-recorder = λ t. neither (sym no-setup ∙ t);
+        starts = λ t. neither (sym no-start ∙ t);
+        stops = λ t. neither (sym no-stop ∙ t);
+        says-status = refl;
+        queries = refl;
+      })
 
 carried-start : (g : Gate) (c : ℕ) (body : List ℕ) → c ≡ 0xC1 → carriedOut g c body ≡ start g
 unfolding carriedOut

@@ -8,7 +8,6 @@ use lib.Dec.{eqb}
 use Rattle.document.specs.Numbers.{taken, done, recorderRuns, recorderStopped, sumWrong, isError}
 use Rattle.document.specs.Calls.{byteRefusal, tickRefusal}
 use Rattle.document.specs.Message.{Message, sumRight}
-use Rattle.document.specs.Fields.{reads, writesPlain, writesMasked, setsUpScope, setsUpRecorder}
 use Rattle.document.specs.Recorder.{isRunning, tickedMemory}
 use Rattle.document.specs.Gate.{Gate, Outcome, says}
 use Rattle.document.specs.Refusals.{refusal}
@@ -20,6 +19,7 @@ use Rattle.target.specs.declared.byte.Taken.{Taken}
 use Rattle.target.specs.declared.tick.Ticked.{Ticked}
 use Rattle.target.specs.Bounds.{sound}
 use Rattle.target.specs.Calls.{Turn, turn, tickedTarget, ByteTaken, TickTaken}
+use Rattle.demands.proofs.Carried.{carried-by}
 use Rattle.demands.specs.Refused.{ByteRefused, TickRefused, WireRefused}
 
 -- ---- calls
@@ -75,20 +75,22 @@ module _ (t : Target) (memory : List ℕ) (r : Ticked) (left : List ℕ) (promis
 
 -- what is carried out says no error
 carried-right : (g : Gate) (c : ℕ) (body : List ℕ) → isError (carriedOut g c body .answer .status) ≡ false
-unfolding carriedOut
 carried-right g c body =
-    split (eqb c 0xC0) (λ t. rw t refl)
-    (λ f0. split (eqb c 0xC8) (λ t. rw (f0, t) refl)
-    (λ f1. split (reads c) (λ t. rw (f0, f1, t) refl)
-    (λ f2. split (writesPlain c) (λ t. rw (f0, f1, f2, t) refl)
-    (λ f3. split (writesMasked c) (λ t. rw (f0, f1, f2, f3, t) refl)
-    (λ f4. split (setsUpScope c) (λ t. rw (f0, f1, f2, f3, f4, t) refl)
-    (λ f5. split (eqb c 0xC5) (λ t. rw (f0, f1, f2, f3, f4, f5, t) refl)
-    (λ f6. split (setsUpRecorder c) (λ t. rw (f0, f1, f2, f3, f4, f5, f6, t) refl)
-    (λ f7. split (eqb c 0xC1) (λ t. rw (f0, f1, f2, f3, f4, f5, f6, f7, t) (runs recorderRuns done refl refl))
-    (λ f8. split (eqb c 0xC2) (λ t. rw (f0, f1, f2, f3, f4, f5, f6, f7, f8, t) (runs done recorderStopped refl refl))
-    (λ f9. split (eqb c 0xC3) (λ t. rw (f0, f1, f2, f3, f4, f5, f6, f7, f8, f9, t) (runs recorderRuns recorderStopped refl refl))
-    (λ f10. rw (f0, f1, f2, f3, f4, f5, f6, f7, f8, f9, f10) refl)))))))))))
+    carried-by (λ (o : Outcome). isError (o .answer .status) ≡ false) g c body
+    (record {
+      describes = refl;
+      describes-briefly = refl;
+      reads-memory = refl;
+      writes-memory = refl;
+      writes-masked = refl;
+      sets-up-scope = refl;
+      reads-scope = refl;
+      sets-up-recorder = λ t. refl;
+      starts = λ t. runs recorderRuns done refl refl;
+      stops = λ t. runs done recorderStopped refl refl;
+      says-status = runs recorderRuns recorderStopped refl refl;
+      queries = refl;
+    })
   where
     runs : (s s′ : ℕ) → isError s ≡ false → isError s′ ≡ false → isError (cond (isRunning (g .recorder)) s s′) ≡ false
     runs s s′ e e′ = split (isRunning (g .recorder)) (λ t. rw t e) (λ f. rw f e′)

@@ -4,7 +4,7 @@ use mathlib.Core.Bool.{Bool, true}
 use mathlib.Core.List.{List, [], _∷_}
 use Prim.Native.Nat.{ℕ, _+_, _*_, _^_, _<_, _≤_}
 use native.Mathlib.Omega.{arith}
-use lib.Dec.{eqb, ltb}
+use lib.Dec.{eqb}
 use lib.ListN.{length, take, drop}
 use Rattle.document.specs.Areas.{memoryEnd, bytesAt}
 use Rattle.document.specs.Stores.{stored, maskedBytes}
@@ -21,6 +21,7 @@ use Rattle.document.specs.Happenings.Happening.{byte, tick, writes}
 use Rattle.document.proofs.Cases.{split}
 use Rattle.variables.proofs.Places.{stored-length}
 use Rattle.link.specs.Report.{Held}
+use Rattle.scope.specs.declared.Scope.{Scope}
 use Rattle.scope.specs.State as scope
 use Rattle.scope.proofs.Bounds.{new-sound as new-scope}
 use Rattle.scope.proofs.Accepted.{set-up-sound as scope-set-up}
@@ -31,7 +32,6 @@ use Rattle.recorder.specs.State.{recorderOf}
 use Rattle.recorder.proofs.Answers.{set-up-sound as recorder-set-up, new-sound as new-recorder}
 use Rattle.recorder.proofs.Keeps.{started-sound, halted-sound, ticked-sound}
 use Rattle.operations.specs.declared.answering.Instruments.{Instruments}
-use Rattle.operations.specs.Next.{instrumentsAfter}
 use Rattle.operations.specs.AnsweredHeld.{answeredHeld, instrumentsHeld}
 use Rattle.link.specs.declared.Receiver.{Receiver}
 use Rattle.link.specs.declared.Event.{Event}
@@ -42,7 +42,6 @@ use Rattle.link.proofs.Sound.{step-sound, reset-sound}
 use Rattle.link.proofs.Events.{kept-byte, whole-command, command-byte}
 use Rattle.target.specs.declared.state.Target.{Target}
 use Rattle.operations.specs.State.{gateOf}
-use Rattle.operations.specs.Operations.{operationOf}
 use Rattle.target.specs.Calls.{Turn, silent, keeping, heldBy, turn}
 use Rattle.target.proofs.TargetBounds.{Parts, parts-of, whole-of}
 use Rattle.target.proofs.TurnLaws.{nextOf, by-event}
@@ -51,6 +50,7 @@ use Rattle.demands.specs.House.{House, turned, served, servedAll, fromRe
 use Rattle.demands.specs.Within.{Within}
 use Rattle.demands.proofs.ByteLaws.{take-short, all-set, all-sets, all-take, all-range, all-values, all-masked, all-zeros, number-below}
 use Rattle.demands.proofs.Left.{held-left}
+use Rattle.demands.proofs.After.{Both, held-by}
 
 -- ---- the numbers that bytes of the memory or a message hold
 
@@ -68,26 +68,9 @@ value-fits r m all = number-below (bytesAt m (r .plan .address) (r .plan .size))
 
 -- ---- a message
 
-pub record Sound (i : Instruments) : Type 0 where
-  pub scope-part : scope.sound (i .scope) ≡ true
-  pub recorder-part : recorder.sound (i .recorder) ≡ true
-
-module _ (i : Instruments) (s : Sound i) (n c : ℕ) (body : List ℕ) (all : AllBytes body) where
-  instruments-sound : Sound (instrumentsAfter n i c body)
-  unfolding instrumentsAfter
-  instruments-sound =
-      record {
-        scope-part =
-            split (eqb n 6) (λ t. rw t (scope-set-up (isEx c) body (i .scope) (s .scope-part))) (λ f. rw f (s .scope-part));
-        recorder-part =
-            split (eqb n 8)
-            (λ t. rw t (recorder-set-up (i .recorder) (isEx c) body (s .recorder-part) (threshold-fits (isEx c) body all)))
-            (λ f. split (eqb n 9)
-            (λ t. rw (f, t) (started-sound (i .recorder) (s .recorder-part)))
-            (λ k. split (eqb n 10)
-            (λ t. rw (f, k, t) (halted-sound (i .recorder) (s .recorder-part)))
-            (λ l. rw (f, k, l) (s .recorder-part))));
-      }
+-- scope and recorder within their bounds
+abbrev Sound : Instruments → Type 0
+Sound i = Both (λ (s : Scope). scope.sound s ≡ true) (λ (r : RecorderState). recorder.sound r ≡ true) i
 
 -- a memory of the right length that holds bytes
 abbrev Good : List ℕ → Type 0
@@ -96,15 +79,16 @@ Good m = (length m ≡ memoryEnd) × AllBytes m
 good-stored : (m : List ℕ) (a : ℕ) (vs : List ℕ) → Good m → AllBytes vs → Good (stored m a vs)
 good-stored m a vs good all = (stored-length m (stored m a vs) vs a refl ∙ good .0, all-sets vs m a (good .1) all)
 
-module _ (i : Instruments) (s : Sound i) (h : Held) (all : AllBytes (h .kept)) where
-  held-sound : Sound (instrumentsHeld i h)
-  unfolding instrumentsHeld
-  held-sound =
-      split (eqb (h .sum) 0)
-      (λ right. split (ltb 64 (h .length))
-      (λ long. rw (right, long) s)
-      (λ short. rw (right, short) (instruments-sound i s (operationOf (h .command)) (h .command) (h .kept) all)))
-      (λ wrong. rw wrong s)
+held-sound : (i : Instruments) → Sound i → (h : Held) → AllBytes (h .kept) → Sound (instrumentsHeld i h)
+held-sound i s h all =
+    held-by (λ (q : Scope). scope.sound q ≡ true) (λ (r : RecorderState). recorder.sound r ≡ true) i s h
+    (record {
+      scope-set-up = scope-set-up (isEx (h .command)) (h .kept) (i .scope) (s .scope-part);
+      recorder-set-up =
+          recorder-set-up (i .recorder) (isEx (h .command)) (h .kept) (s .recorder-part) (threshold-fits (isEx (h .command)) (h .kept) all);
+      started = started-sound (i .recorder) (s .recorder-part);
+      halted = halted-sound (i .recorder) (s .recorder-part);
+    })
 
 held-good : (g : Gate) (h : Held) → h .command < 256 → AllBytes (h .kept) → Good (g .memory) → Good (answeredHeld g h .gate .memory)
 held-good g h small all good =

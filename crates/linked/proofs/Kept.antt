@@ -2,18 +2,15 @@
 use mathlib.Core.Path.{_≡_, refl, sym, subst}
 use mathlib.Core.List.{List, []}
 use Prim.Native.Nat.{ℕ}
-use lib.Dec.{eqb, ltb}
 use lib.ListN.{length, length-set}
 use Rattle.document.specs.Fields.{isEx}
 use Rattle.document.specs.Happenings.Happening.{tick}
-use Rattle.document.proofs.Cases.{split}
 use Rattle.link.specs.declared.Event.{Event}
 use Rattle.link.specs.declared.Event.the-variants.{Nothing, Keep, Whole, Refused}
 use Rattle.link.specs.Report.{Held}
 use Rattle.link.specs.Step.{stepped}
+use Rattle.scope.specs.declared.Scope.{Scope}
 use Rattle.operations.specs.declared.answering.Instruments.{Instruments}
-use Rattle.operations.specs.Operations.{operationOf}
-use Rattle.operations.specs.Next.{instrumentsAfter}
 use Rattle.operations.specs.AnsweredHeld.{instrumentsHeld}
 use Rattle.target.specs.declared.state.Target.{Target}
 use Rattle.target.specs.Bounds.{fresh}
@@ -25,42 +22,29 @@ use Rattle.demands.specs.Bytes.{AllBytes}
 use Rattle.demands.specs.House.{House, served}
 use Rattle.demands.specs.Within.{Within}
 use Rattle.demands.proofs.ByteLaws.{all-take}
+use Rattle.demands.proofs.After.{Both, held-by}
 use Rattle.demands.proofs.Within.{within-tick}
 use Rattle.linked.proofs.Fits.{RecorderFits, scope-fit, set-up-fit, started-fit, halted-fit, ticked-fit, kept-fit, no-recorder-fit}
 
-pub record InstrumentsFit (i : Instruments) : Type 0 where
-  pub scope : VariablesFit (i .scope .variables)
-  pub recorder : RecorderFits (i .recorder)
-
-after-fit : (i : Instruments) → InstrumentsFit i → (n c : ℕ) (body : List ℕ) → AllBytes body → InstrumentsFit (instrumentsAfter n i c body)
-unfolding instrumentsAfter
-after-fit i fits n c body all =
-    record {
-      scope = split (eqb n 6) (λ t. rw t (scope-fit (i .scope) (isEx c) body all (fits .scope))) (λ f. rw f (fits .scope));
-      recorder =
-          split (eqb n 8)
-          (λ t. rw t (set-up-fit (i .recorder) (isEx c) body all (fits .recorder)))
-          (λ f. split (eqb n 9)
-          (λ t. rw (f, t) (started-fit (i .recorder) (fits .recorder)))
-          (λ k. split (eqb n 10)
-          (λ t. rw (f, k, t) (halted-fit (i .recorder) (fits .recorder)))
-          (λ l. rw (f, k, l) (fits .recorder))));
-    }
+-- the numbers of scope and recorder fit
+abbrev InstrumentsFit : Instruments → Type 0
+InstrumentsFit i = Both (λ (s : Scope). VariablesFit (s .variables)) RecorderFits i
 
 held-fit : (i : Instruments) → InstrumentsFit i → (h : Held) → AllBytes (h .kept) → InstrumentsFit (instrumentsHeld i h)
-unfolding instrumentsHeld
 held-fit i fits h all =
-    split (eqb (h .sum) 0)
-    (λ right. split (ltb 64 (h .length))
-    (λ long. rw (right, long) fits)
-    (λ short. rw (right, short) (after-fit i fits (operationOf (h .command)) (h .command) (h .kept) all)))
-    (λ wrong. rw wrong fits)
+    held-by (λ (s : Scope). VariablesFit (s .variables)) RecorderFits i fits h
+    (record {
+      scope-set-up = scope-fit (i .scope) (isEx (h .command)) (h .kept) all (fits .scope-part);
+      recorder-set-up = set-up-fit (i .recorder) (isEx (h .command)) (h .kept) all (fits .recorder-part);
+      started = started-fit (i .recorder) (fits .recorder-part);
+      halted = halted-fit (i .recorder) (fits .recorder-part);
+    })
 
 instruments-of : (t : Target) → TargetFits t → InstrumentsFit (t .instruments)
-instruments-of t fits = record { scope = fits .scope; recorder = record { plan = fits .plan; run = fits .run } }
+instruments-of t fits = record { scope-part = fits .scope; recorder-part = record { plan = fits .plan; run = fits .run } }
 
 target-of : (t : Target) → length (t .body) ≡ 64 → InstrumentsFit (t .instruments) → TargetFits t
-target-of t body i = record { body = body; scope = i .scope; plan = i .recorder .plan; run = i .recorder .run }
+target-of t body i = record { body = body; scope = i .scope-part; plan = i .recorder-part .plan; run = i .recorder-part .run }
 
 module _ (buffer : List ℕ) (h : House) (w : Within h) (fits : TargetFits (h .target)) where
   pub fits-byte : (b : ℕ) → TargetFits (turn (h .target) b (h .memory) buffer .next)
@@ -87,12 +71,12 @@ module _ (buffer : List ℕ) (h : House) (w : Within h) (fits : TargetFits (h .t
   fits-tick =
       target-of (served buffer h tick .target) (fits .body)
       (record {
-        scope = fits .scope;
-        recorder =
+        scope-part = fits .scope;
+        recorder-part =
             ticked-fit (h .target .instruments .recorder) (h .memory)
             (parts-of (served buffer h tick .target) (within-tick buffer h w .state) .recorder-part)
-            (instruments-of (h .target) fits .recorder);
+            (instruments-of (h .target) fits .recorder-part);
       })
 
 pub fits-fresh : TargetFits fresh
-fits-fresh = target-of fresh refl (record { scope = kept-fit [] tt; recorder = no-recorder-fit })
+fits-fresh = target-of fresh refl (record { scope-part = kept-fit [] tt; recorder-part = no-recorder-fit })
