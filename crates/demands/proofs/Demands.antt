@@ -12,6 +12,9 @@ use lib.ListN.{length}
 use Rattle.document.specs.Numbers.{taken, sumWrong}
 use Rattle.document.specs.Calls.{byteRefusal, tickRefusal}
 use Rattle.document.specs.Message.{Message, sumRight, wellFormed, onWire}
+use Rattle.document.specs.Answer.{Answer}
+use Rattle.document.specs.AnswerWriter.{answerRefusal}
+use Rattle.document.specs.CommandWriter.{commandRefusal}
 use Rattle.document.specs.Plan.{Plan}
 use Rattle.document.specs.Run.{started}
 use Rattle.document.specs.Recorder.Recorder.{planned}
@@ -22,6 +25,13 @@ use Rattle.document.specs.Happenings.{Happening, Since, afterAll, fromReset as 
 use Rattle.document.specs.Happenings.Happening.{byte}
 use Rattle.history.specs.History.{memoriesLeft}
 use Rattle.link.specs.Runs.{oddRun}
+use Rattle.line.specs.declared.Written.{Written}
+use Rattle.line.specs.AnswerWritten.{AnswerWritten}
+use Rattle.commands.specs.CommandWritten.{CommandWritten}
+use Rattle.host.specs.declared.reader.AnswerReader.{AnswerReader}
+use Rattle.host.specs.declared.reader.Begun.{Begun}
+use Rattle.host.specs.declared.reader.Read.{Read}
+use Rattle.host.specs.Promises.{BeginDone, ReadDone}
 use Rattle.recorder.specs.State.{recorderOf}
 use Rattle.target.specs.declared.state.Target.{Target}
 use Rattle.target.specs.declared.byte.Taken.{Taken}
@@ -31,12 +41,13 @@ use Rattle.target.specs.Calls.{ByteTaken, TickTaken}
 use Rattle.demands.specs.Bytes.{AreBytes, bytesOf, besideBytes}
 use Rattle.demands.specs.House.{House, servedAll, fromReset, replyOf}
 use Rattle.demands.specs.Run.{Lent, Step, Run}
-use Rattle.demands.specs.Refused.{ByteRefused, TickRefused, WireRefused}
+use Rattle.demands.specs.Refused.{ByteRefused, TickRefused, WriteRefused, BeginRefused, ReadRefused, WireRefused}
 use Rattle.demands.specs.Stands.{Stands}
 use Rattle.demands.specs.Sent.{Sent}
 use Rattle.demands.specs.Fresh.{AnsweredFresh, NothingByHalf}
 use Rattle.demands.specs.Recording.{starts, Begins, events, AllUndisturbed, Recorded}
 use Rattle.demands.proofs.Refused as calls
+use Rattle.demands.proofs.EndsRefused as ends
 use Rattle.demands.proofs.Formed.{answered-sent}
 use Rattle.demands.proofs.Runs.{after-run, run-on, message-as, half-as, bytes-to, bytes-through, bytes-since, plan-fits}
 use Rattle.demands.proofs.Fresh.{fresh-even, fresh-next, by-half}
@@ -56,6 +67,23 @@ demand-1-byte = calls.byte-refused
 pub demand-1-tick : (t : Target) (memory : List ℕ) (r : Ticked) (left : List ℕ) → TickTaken t memory r left → TickRefused t memory r left
 demand-1-tick = calls.tick-refused
 
+-- both ends of the line: the answer writer, the command writer, the answer reader
+pub demand-1-answer : (a : Answer) (before : List ℕ) (r : Written) (after : List ℕ) → AnswerWritten a before r after
+    → WriteRefused (answerRefusal a before) before r after
+demand-1-answer = ends.answer-refused
+
+pub demand-1-command : (command : ℕ) (body before : List ℕ) (r : Written) (after : List ℕ) → CommandWritten command body before r after
+    → WriteRefused (commandRefusal command body before) before r after
+demand-1-command = ends.command-refused
+
+pub demand-1-begin : (reader : AnswerReader) (expected : ℕ) (r : Begun) → BeginDone reader expected r → BeginRefused reader expected r
+demand-1-begin = ends.begin-refused
+
+pub demand-1-read : (reader : AnswerReader) (b : ℕ) (before : List ℕ) (d : Read) (after : List ℕ) → ReadDone reader b before d after
+    → ReadRefused reader b before d after
+demand-1-read = ends.read-refused
+
+-- on the wire
 pub demand-1-wire : (g : Gate) (m : Message) → WireRefused g m
 demand-1-wire = calls.wire-refused
 

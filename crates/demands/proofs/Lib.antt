@@ -1,7 +1,9 @@
 -- The laws and theorems, lowest first.
 pub mod Outcomes
+pub mod Goes
 pub mod Carried
 pub mod Refused
+pub mod EndsRefused
 pub mod ByteLaws
 pub mod Numbered
 pub mod Left

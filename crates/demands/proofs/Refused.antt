@@ -20,6 +20,7 @@ use Rattle.target.specs.declared.tick.Ticked.{Ticked}
 use Rattle.target.specs.Bounds.{sound}
 use Rattle.target.specs.Calls.{Turn, turn, tickedTarget, ByteTaken, TickTaken}
 use Rattle.demands.proofs.Carried.{carried-by}
+use Rattle.demands.proofs.Goes.{stays}
 use Rattle.demands.specs.Refused.{ByteRefused, TickRefused, WireRefused}
 
 -- ---- calls
@@ -31,9 +32,6 @@ numbered number refusal x given kept goes stays e =
     split (eqb refusal taken)
     (λ t. ap number (e ∙ ap (λ (k : Bool). cond k given kept) t) ∙ goes ∙ sym (eqb-true refusal taken t))
     (λ f. ap number (e ∙ ap (λ (k : Bool). cond k given kept) f) ∙ stays)
-
-stays : {A : Type 0} (refusal : ℕ) (x given kept : A) → (refusal ≡ taken → ⊥) → x ≡ cond (eqb refusal taken) given kept → x ≡ kept
-stays refusal x given kept other e = e ∙ ap (λ (k : Bool). cond k given kept) (ne-eqb refusal taken other)
 
 module _ (t : Target) (b : ℕ) (memory buffer : List ℕ) (r : Taken) (left told : List ℕ) (promised : ByteTaken t b memory buffer r left told) where
   pub byte-refused : ByteRefused t memory buffer r left told

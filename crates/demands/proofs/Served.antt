@@ -1,10 +1,8 @@
 -- No call along a run is refused, so that a run is what the definitions of the calls give, one after the other.
-use mathlib.Core.Path.{_≡_, refl, ap, subst, _∙_}
-use mathlib.Core.Bool.{cond}
+use mathlib.Core.Path.{_≡_, refl, subst, _∙_}
 use mathlib.Core.List.{List, [], _∷_, _++_}
 use Prim.Native.Nat.{ℕ, _≤_}
 use borrow.Author.Tests.{eq-eqb, le-ltb}
-use lib.Dec.{eqb}
 use lib.ListN.{length}
 use Rattle.document.specs.Areas.{memoryEnd}
 use Rattle.document.specs.Numbers.{taken}
@@ -21,11 +19,8 @@ use Rattle.demands.specs.Bytes.{AreBytes}
 use Rattle.demands.specs.House.{House, served, servedAll}
 use Rattle.demands.specs.Run.{handedOut, ByByte, ByTick, Run}
 use Rattle.demands.specs.Within.{Within}
+use Rattle.demands.proofs.Goes.{goes}
 use Rattle.demands.proofs.Within.{within-byte, within-tick, within-write}
-
--- of what is left refused or not, where nothing refuses
-pub goes : {A : Type 0} (refusal : ℕ) (x given kept : A) → refusal ≡ taken → x ≡ cond (eqb refusal taken) given kept → x ≡ given
-goes refusal x given kept e h = h ∙ ap (λ (k : ℕ). cond (eqb k taken) given kept) e
 
 module _ (buffer : List ℕ) (room : 132 ≤ length buffer) (h : House) (w : Within h) where
   pub tick-taken : tickRefusal (sound (h .target)) (h .memory) ≡ taken

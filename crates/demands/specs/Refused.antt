@@ -5,10 +5,18 @@ use mathlib.Core.List.{List, []}
 use Prim.Native.Nat.{ℕ}
 use Rattle.document.specs.Numbers.{taken, done, isError}
 use Rattle.document.specs.Calls.{byteRefusal, tickRefusal}
+use Rattle.document.specs.AnswerReader.{beginRefusal, readRefusal}
+use Rattle.document.specs.AnswerReader.Brought.{wrong}
 use Rattle.document.specs.Message.{Message}
 use Rattle.document.specs.Gate.{Gate, says}
 use Rattle.document.specs.Refusals.{refusal}
 use Rattle.document.specs.Commands.{answered}
+use Rattle.line.specs.declared.Written.{Written}
+use Rattle.host.specs.declared.reader.AnswerReader.{AnswerReader}
+use Rattle.host.specs.declared.reader.Begun.{Begun}
+use Rattle.host.specs.declared.reader.Read.{Read}
+use Rattle.host.specs.Reader.{stepped}
+use Rattle.host.specs.Promises.{readerRefusal}
 use Rattle.target.specs.declared.state.Target.{Target}
 use Rattle.target.specs.declared.byte.Taken.{Taken}
 use Rattle.target.specs.declared.tick.Ticked.{Ticked}
@@ -28,3 +36,24 @@ pub record WireRefused (g : Gate) (m : Message) : Type 0 where
   pub refused : (refusal g m ≡ done → ⊥) → answered g m ≡ says g (refusal g m) []
   -- an error is said only where the document's table refuses
   pub exactly : isError (answered g m .answer .status) ≡ true → refusal g m ≡ done → ⊥
+
+-- ---- both ends of the line
+
+-- a writer, of which `number` is what the document refuses with
+pub record WriteRefused (number : ℕ) (before : List ℕ) (r : Written) (after : List ℕ) : Type 0 where
+  pub refusal : r .refusal ≡ number
+  pub unchanged : (r .refusal ≡ taken → ⊥) → (r .length ≡ 0) × (after ≡ before)
+
+pub record BeginRefused (reader : AnswerReader) (expected : ℕ) (r : Begun) : Type 0 where
+  pub refusal : r .refusal ≡ beginRefusal expected
+  pub unchanged : (r .refusal ≡ taken → ⊥) → r .next ≡ reader
+
+-- "6 alone consumes its byte and leaves the reader idle": 1 and 3 leave all as it was, 6 the lent buffer
+pub record ReadRefused (reader : AnswerReader) (b : ℕ) (before : List ℕ) (d : Read) (after : List ℕ) : Type 0 where
+  pub unchanged :
+      (readerRefusal reader before ≡ taken → ⊥)
+      → (d .refusal ≡ readerRefusal reader before) × (d .next ≡ reader) × (after ≡ before)
+  pub consumed :
+      readerRefusal reader before ≡ taken
+      → (d .refusal ≡ readRefusal (stepped reader b .brings)) × (d .next ≡ stepped reader b .next)
+  pub wrong-sum : readerRefusal reader before ≡ taken → stepped reader b .brings ≡ wrong → after ≡ before

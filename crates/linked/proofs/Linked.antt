@@ -30,7 +30,8 @@ use Rattle.demands.specs.Run as demands
 use Rattle.demands.specs.Run.{Lent}
 use Rattle.demands.specs.Within.{Within}
 use Rattle.demands.proofs.Within.{within-byte, within-tick, within-write, within-reset}
-use Rattle.demands.proofs.Served.{goes, byte-taken, tick-taken, step-byte, step-tick}
+use Rattle.demands.proofs.Goes.{goes}
+use Rattle.demands.proofs.Served.{byte-taken, tick-taken, step-byte, step-tick}
 use Rattle.linked.specs.Linked.{Gate, ByByte, ByTick, Run, houseOf}
 use Rattle.linked.proofs.Kept.{fits-byte, fits-tick, fits-fresh}
 
