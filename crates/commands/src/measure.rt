@@ -3,6 +3,7 @@ ghost use mathlib.Core.Path.{_≡_};
 ghost use mathlib.Core.List.{[], _∷_};
 ghost use Prim.Native.Nat.{_≤_, _<_};
 ghost use lib.ListN.{length};
+ghost use lib.Dec.{ltb};
 ghost use Rattle.document.specs.Message.{lengthPart};
 ghost use Rattle.document.specs.CommandWriter.{commandOnWire};
 ghost use Rattle.line.specs.Put.{progressed};
@@ -55,7 +56,7 @@ fn measured_length(from: Progress, command: u8, body: &[u8]) -> Progress
     from
 }
 
-pub fn wire_length(command: u8, body: &[u8]) -> usize
+fn wire_length(command: u8, body: &[u8]) -> usize
     requires { ⌜ length (now body) ≤ 255 ⌝ }
     ensures { λ r. ⌜ r ≡ length (commandOnWire command (now (body .entry))) ⌝ }
 {
@@ -67,4 +68,15 @@ pub fn wire_length(command: u8, body: &[u8]) -> usize
     let behind = measured_all(before, body);
     let end = measured(behind, sum_byte(behind.sum));
     end.at
+}
+
+// Whether so much room is too little. Where a message of which every byte is doubled would find room, nothing need be measured.
+pub fn is_short(command: u8, body: &[u8], room: usize) -> bool
+    requires { ⌜ length (now body) ≤ 255 ⌝ }
+    ensures { λ r. ⌜ r ≡ ltb room (length (commandOnWire command (now (body .entry)))) ⌝ }
+{
+    if room >= 2 * body.len() + 6 {
+        return false;
+    }
+    room < wire_length(command, body)
 }

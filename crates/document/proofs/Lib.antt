@@ -1,2 +1,5 @@
 pub mod Cases
+pub mod Order
+pub mod Places
 pub mod Staples
+pub mod Values

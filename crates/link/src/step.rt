@@ -142,8 +142,8 @@ impl Receiver {
         Event::Nothing
     }
 
-    // What `take` does within the bounds, for a caller that has checked them; any state is safe. State and event are
-    // made apart and put together once: that compiles to half the instructions of an answer made in each branch.
+    // A byte of the line. Any state is safe; who holds the whole state has checked its bounds. State and event are made apart
+    // and put together once: that compiles to half the instructions of an answer made in each branch.
     pub fn step(self, byte: u8) -> Taken
         ensures { λ r. ⌜ r ≡ stepped self byte ⌝ }
     {

@@ -1,17 +1,3 @@
--- The laws, lowest first.
-pub mod Telling
-pub mod Table
-pub mod FieldLaws
-pub mod BlockLaws
-pub mod Groups
-pub mod Operated
-pub mod Held
-pub mod Unless
-pub mod ReadLaws
-pub mod WriteLaws
-pub mod Words
-pub mod InstrumentLaws
-pub mod ScopeReads
-pub mod AnswerLaws
-pub mod OperateLaws
-pub mod RespondLaws
+-- The data of a message, and what is held of it.
+pub mod Copied
+pub mod Refusing
