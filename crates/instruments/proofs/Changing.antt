@@ -26,11 +26,11 @@ use Rattle.blocks.specs.Layout.{decodedInstruments, encodedInstruments}
 use Rattle.instruments.specs.Operates.{Operates}
 use Rattle.instruments.proofs.Statuses.{alone}
 
-pub operates : (o : Operation) → leavesMemory (changeOf o) ≡ true → (block memory : List ℕ) (s : Service) (body : List ℕ) (status : ℕ) (r : Reply) (after : List ℕ)
-    → alone status ≡ served (gateOf (decodedInstruments block) memory) (knownAs o s) body .answer → IsReply (alone status) r
+pub operates : (o : Operation) → leavesMemory (changeOf o) ≡ true → (block memory : List ℕ) (s : Service) (body : List ℕ) (status : ℕ) (r : Reply) (out after : List ℕ)
+    → alone status ≡ served (gateOf (decodedInstruments block) memory) (knownAs o s) body .answer → IsReply (alone status) r out
     → after ≡ sets block scopePlace (encodedInstruments (instrumentsAfter o (decodedInstruments block) s body))
-    → Operates (served (gateOf (decodedInstruments block) memory) (knownAs o s) body) (instrumentsAfter o (decodedInstruments block) s body) block r after memory
-operates o leaves block memory s body status r after said reply stored =
+    → Operates (served (gateOf (decodedInstruments block) memory) (knownAs o s) body) (instrumentsAfter o (decodedInstruments block) s body) block r out after memory
+operates o leaves block memory s body status r out after said reply stored =
     record {
       reply = reply-as _ _ said reply;
       memory = sym (served-memory-kept (gateOf (decodedInstruments block) memory) (knownAs o s) body leaves);

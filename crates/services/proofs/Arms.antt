@@ -49,11 +49,11 @@ module _ (q : Asked) where
   g = gateOf i (q .memory)
 
   module _ (o : Operation) (is : s .operation ≡ o) where
-    pub known : {r : Reply} {after left : List ℕ} → Operates (served g (knownAs o s) body) (instrumentsAfter o i (knownAs o s) body) block r after left
-        → Operates (served g s body) (instrumentsAfter (s .operation) i s body) block r after left
-    known {r} {after} {left} done =
+    pub known : {r : Reply} {out after left : List ℕ} → Operates (served g (knownAs o s) body) (instrumentsAfter o i (knownAs o s) body) block r out after left
+        → Operates (served g s body) (instrumentsAfter (s .operation) i s body) block r out after left
+    known {r} {out} {after} {left} done =
         let same : knownAs o s ≡ s = λ j. record { operation = sym is j; ex = s .ex; size = s .size } in
-        subst (λ (t : Service). Operates (served g t body) (instrumentsAfter (t .operation) i t body) block r after left) same done
+        subst (λ (t : Service). Operates (served g t body) (instrumentsAfter (t .operation) i t body) block r out after left) same done
 
     -- what is set up stays, so the block does
     same-block : (next : Instruments) → i ≡ next → block ≡ sets block scopePlace (encodedInstruments next)
@@ -61,8 +61,8 @@ module _ (q : Asked) where
         sym (same-instruments block (q .long) (q .small)) ∙ ap (λ (k : Instruments). sets block scopePlace (encodedInstruments k)) kept
 
     -- one that only answers
-    pub replied : changeOf o ≡ nothing → {r : Reply} → IsReply (served g (knownAs o s) body .answer) r
-        → Operates (served g s body) (instrumentsAfter (s .operation) i s body) block r block (q .memory)
+    pub replied : changeOf o ≡ nothing → {r : Reply} {out : List ℕ} → IsReply (served g (knownAs o s) body .answer) r out
+        → Operates (served g s body) (instrumentsAfter (s .operation) i s body) block r out block (q .memory)
     replied none reply =
         known
         (record {
@@ -72,9 +72,9 @@ module _ (q : Asked) where
         })
 
     -- one that writes, and says its status
-    pub wrote : i ≡ instrumentsAfter o i (knownAs o s) body → (status : ℕ) (left : List ℕ) {r : Reply} → Wrote (served g (knownAs o s) body) status left
-        → IsReply (record { status = status; body = [] }) r
-        → Operates (served g s body) (instrumentsAfter (s .operation) i s body) block r block left
+    pub wrote : i ≡ instrumentsAfter o i (knownAs o s) body → (status : ℕ) (left : List ℕ) {r : Reply} {out : List ℕ} → Wrote (served g (knownAs o s) body) status left
+        → IsReply (record { status = status; body = [] }) r out
+        → Operates (served g s body) (instrumentsAfter (s .operation) i s body) block r out block left
     wrote kept status left written reply =
         known
         (record {

@@ -3,6 +3,7 @@ ghost use mathlib.Core.Path.{_≡_};
 ghost use mathlib.Core.Bool.{true};
 ghost use Prim.Native.Nat.{_≤_};
 ghost use lib.ListN.{length};
+ghost use Rattle.document.specs.Numbers.{mostData};
 ghost use Rattle.document.specs.Areas.{memoryEnd};
 ghost use Rattle.document.specs.Commands.{served};
 ghost use Rattle.scope.specs.State.{sound};
@@ -30,24 +31,30 @@ use reads::read;
 use writes::write;
 use writes::write_masked;
 
-pub fn serve(service: Service, state: &mut [u8], body: &[u8], memory: &mut [u8]) -> Reply
-    requires { ⌜ Framed service (now body) × (stateLength ≤ length (now state)) × (sound (decodedScope (now state)) ≡ true) × (length (now memory) ≡ memoryEnd) ⌝ }
-    ensures { λ r. ⌜ Operates (served (gateOf (decodedInstruments (now (state .entry))) (now (memory .entry))) service (now (body .entry))) (instrumentsAfter (service .operation) (decodedInstruments (now (state .entry))) service (now (body .entry))) (now (state .entry)) r (now (state .exit)) (now (memory .exit)) ⌝ }
+pub fn serve(
+    service: Service,
+    state: &mut [u8],
+    body: &[u8],
+    memory: &mut [u8],
+    out: &mut [u8],
+) -> Reply
+    requires { ⌜ Framed service (now body) × (stateLength ≤ length (now state)) × (sound (decodedScope (now state)) ≡ true) × (length (now memory) ≡ memoryEnd) × (mostData ≤ length (now out)) ⌝ }
+    ensures { λ r. ⌜ Operates (served (gateOf (decodedInstruments (now (state .entry))) (now (memory .entry))) service (now (body .entry))) (instrumentsAfter (service .operation) (decodedInstruments (now (state .entry))) service (now (body .entry))) (now (state .entry)) r (now (out .exit)) (now (state .exit)) (now (memory .exit)) ⌝ }
 {
     let operation = service.operation;
     match operation {
         Operation::Unserved => unserved(),
-        Operation::Describe => describe(),
-        Operation::DescribeBriefly => describe_briefly(),
-        Operation::Read => read(service, body, memory),
+        Operation::Describe => describe(out),
+        Operation::DescribeBriefly => describe_briefly(out),
+        Operation::Read => read(service, body, memory, out),
         Operation::Write => alone(write(service, body, memory)),
         Operation::WriteMasked => alone(write_masked(service, body, memory)),
         Operation::SetUpScope => set_up_scope(state, service, body),
-        Operation::ReadScope => read_scope(state, memory),
+        Operation::ReadScope => read_scope(state, memory, out),
         Operation::SetUpRecorder => set_up_recorder(state, service, body),
         Operation::Start => start(state),
         Operation::Stop => stop(state),
         Operation::Status => status(state),
-        Operation::QueryBuffer => query_buffer(state, service),
+        Operation::QueryBuffer => query_buffer(state, service, out),
     }
 }

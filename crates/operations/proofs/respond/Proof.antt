@@ -25,7 +25,7 @@ use Rattle.operations.proofs.respond.Tie as tie
 -- ---- what is asked
 module _ (k : tie.After-struct-known) where
   abbrev begun : tie.Start
-  begun = k .before .before .before
+  begun = k .before .before .before .before
 
   abbrev block : List ℕ
   block = begun .args .state .now
@@ -34,7 +34,7 @@ module _ (k : tie.After-struct-known) where
   held = heldOf (begun .args .whole) (decodedBody block)
 
   same-block : block ≡ sets block scopePlace (encodedInstruments (decodedInstruments block))
-  same-block = sym (same-instruments block (begun .pre .1) (λ i. k .before .before .slice-known .given i .fits))
+  same-block = sym (same-instruments block (begun .pre .1) (λ i. k .before .before .before .slice-known .given i .fits))
 
 alone-requires : tie.Need-alone-requires
 alone-requires c κs = search needs
@@ -44,7 +44,7 @@ returns c =
     let k = c .before .before in
     let i = decodedInstruments (block k) in
     wrong-sum (gateOf i (begun k .args .memory .now)) i (held k) (c .before .if1 .taken)
-    (record { reply = c .alone .ensures; memory = refl; kept = same-block k })
+    (record { reply = c .alone .ensures _; memory = refl; kept = same-block k })
 
 usize-of-u8-requires : tie.Need-usize-of-u8-requires
 usize-of-u8-requires c κs = search needs
@@ -58,7 +58,7 @@ returns-2 c =
     let k = u .before .before in
     let i = decodedInstruments (block k) in
     too-long (gateOf i (begun k .args .memory .now)) i (held k) (u .before .if1 .left) (omega (arith, u .usize-of-u8 .ensures .0, c .before .if2 .taken))
-    (record { reply = c .alone2 .ensures; memory = refl; kept = same-block k })
+    (record { reply = c .alone2 .ensures _; memory = refl; kept = same-block k })
 
 service-of-requires : tie.Need-service-of-requires
 service-of-requires c κs = search needs
@@ -124,9 +124,9 @@ slice-aggregate-serve c =
 
 serve-requires : tie.Need-serve-requires
 serve-requires c κs =
-    let d = c .before .before .before .before in
+    let d = c .before .before .before .before .before in
     let s = begun (asked d) in
-    (handed d, s .pre .1, s .pre .2, s .pre .3)
+    (handed d, s .pre .1, s .pre .2, s .pre .3, s .pre .4)
 
 same-length : tie.Need-same-length
 same-length c = search needs
@@ -134,10 +134,13 @@ same-length c = search needs
 same-length-2 : tie.Need-same-length-2
 same-length-2 c = search needs
 
+same-length-3 : tie.Need-same-length-3
+same-length-3 c = search needs
+
 returns-3 : tie.Need-returns-3
 returns-3 c =
-    let served = c .before .before .before .before in
-    let d = served .before .before .before .before .before in
+    let served = c .before .before .before .before .before .before in
+    let d = served .before .before .before .before .before .before in
     let k = asked d in
     let i = decodedInstruments (block k) in
     carried (gateOf i (begun k .args .memory .now)) i (held k) (counted d .before .if1 .left) (few d)
@@ -164,4 +167,5 @@ respond-spec =
     serve-requires
     same-length
     same-length-2
+    same-length-3
     returns-3)

@@ -39,10 +39,10 @@ returns c =
     let is = found .recorder-in .ensures in
     let status = done .set-up .ensures .status ∙ ap (λ (q : Recorder). setUpStatus (recorderOf q) (a .service .ex) (a .body .now)) is in
     let next = done .set-up .ensures .next ∙ ap (λ (q : Recorder). setUpNext q (a .service .ex) (a .body .now)) is in
-    λ memory.
-    operates SetUpRecorder refl block memory (a .service) (a .body .now) (done .set-up .result .status) _ _
+    λ memory out.
+    operates SetUpRecorder refl block memory (a .service) (a .body .now) (done .set-up .result .status) _ out _
     (ap alone status ∙ recorder-set-up (gateOf (decodedInstruments block) memory) (a .service) (a .body .now))
-    (c .alone .ensures)
+    (c .alone .ensures out)
     (put .put-recorder .ensures ∙ (λ i. sets block scopePlace (encodedInstruments (record { scope = decodedScope block; recorder = next i }))))
 
 pub set-up-recorder-spec : {M : Type 1} → statement M

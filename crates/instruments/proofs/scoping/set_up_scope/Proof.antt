@@ -36,10 +36,10 @@ returns c =
     let a = found .before .before .before .before .args in
     let block = a .state .now in
     let next = done .set-up .ensures .next ∙ ap (λ (q : Scope). setUpNext q (a .service .ex) (a .body .now)) (found .scope-in .ensures) in
-    λ memory.
-    operates SetUpScope refl block memory (a .service) (a .body .now) (done .set-up .result .status) _ _
+    λ memory out.
+    operates SetUpScope refl block memory (a .service) (a .body .now) (done .set-up .result .status) _ out _
     (ap alone (done .set-up .ensures .status) ∙ scope-set-up (gateOf (decodedInstruments block) memory) (a .service) (a .body .now))
-    (c .alone .ensures)
+    (c .alone .ensures out)
     (put .put-scope .ensures ∙ (λ i. sets block scopePlace (encodedInstruments (record { scope = next i; recorder = decodedRecorder block }))))
 
 pub set-up-scope-spec : {M : Type 1} → statement M
