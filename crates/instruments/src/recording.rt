@@ -14,12 +14,13 @@ ghost use Rattle.outcomes.specs.Known.{knownAs};
 ghost use Rattle.answers.specs.IsReply.{IsReply};
 ghost use Rattle.state.specs.State.{gateOf};
 ghost use Rattle.target.specs.After.{instrumentsAfter};
-ghost use Rattle.blocks.specs.Places.{stateLength};
-ghost use Rattle.blocks.specs.Layout.{decodedInstruments};
+ghost use Rattle.blocks.specs.Places.{bodyPlace, scopePlace, stateLength};
+ghost use Rattle.blocks.specs.Layout.{dataTo, decodedInstruments};
 ghost use Rattle.instruments.specs.Operates.{Operates};
 use answers::Reply;
 use answers::alone;
 use answers::done_with;
+use blocks::BODY;
 use blocks::put_recorder;
 use blocks::put_run;
 use blocks::recorder_in;
@@ -28,14 +29,18 @@ use definitions::address_width;
 use document::Service;
 use memory::BUFFER_BEGIN;
 
-pub fn set_up_recorder(state: &mut [u8], service: Service, body: &[u8]) -> Reply
-    requires { ⌜ stateLength ≤ length (now state) ⌝ }
-    ensures { λ r. ⌜ ((memory out : List ℕ) → Operates (served (gateOf (decodedInstruments (now (state .entry))) memory) (knownAs SetUpRecorder service) (now (body .entry))) (instrumentsAfter SetUpRecorder (decodedInstruments (now (state .entry))) service (now (body .entry))) (now (state .entry)) r out (now (state .exit)) memory) ⌝ }
+// The message's data stand in the block, up to a place. What is refused stores nothing.
+pub fn set_up_recorder(state: &mut [u8], service: Service, to: usize) -> Reply
+    requires { ⌜ (stateLength ≤ length (now state)) × (bodyPlace ≤ to) × (to ≤ scopePlace) ⌝ }
+    ensures { λ r. ⌜ ((memory out : List ℕ) → Operates (served (gateOf (decodedInstruments (now (state .entry))) memory) (knownAs SetUpRecorder service) (dataTo (now (state .entry)) to)) (instrumentsAfter SetUpRecorder (decodedInstruments (now (state .entry))) service (dataTo (now (state .entry)) to)) (now (state .entry)) r out (now (state .exit)) memory) ⌝ }
 {
-    let set_up = recorder_in(state).set_up(service.ex, body);
+    let set_up = recorder_in(state).set_up(service.ex, &state[BODY..to]);
+    if set_up.status != DONE {
+        return alone(set_up.status);
+    }
     let next = set_up.next;
     put_recorder(state, next);
-    alone(set_up.status)
+    alone(DONE)
 }
 
 // A start and a stop leave the plan as it is.

@@ -16,12 +16,10 @@ ghost use Rattle.operations.specs.Held.{heldOf};
 use answers::Reply;
 use answers::alone;
 use blocks::BODY;
-use blocks::SCOPE;
 use codes::MESSAGE_TOO_LONG;
 use codes::MOST_DATA;
 use codes::SUM_WRONG;
 use codes::service_of;
-use memory::copy_in;
 use services::serve;
 use widths::usize_of_u8;
 
@@ -32,7 +30,6 @@ pub struct Whole {
     pub sum: u8,
 }
 
-// The data are copied out of the block, since a service may change the block while it looks at them.
 pub fn respond(whole: Whole, state: &mut [u8], memory: &mut [u8], out: &mut [u8]) -> Reply
     requires { ⌜ (lengthFits (whole .command) (whole .length) ≡ true) × (stateLength ≤ length (now state)) × (sound (decodedScope (now state)) ≡ true) × (length (now memory) ≡ memoryEnd) × (mostData ≤ length (now out)) ⌝ }
     ensures { λ r. ⌜ Operates (answeredHeld (gateOf (decodedInstruments (now (state .entry))) (now (memory .entry))) (heldOf whole (decodedBody (now (state .entry))))) (instrumentsHeld (decodedInstruments (now (state .entry))) (heldOf whole (decodedBody (now (state .entry))))) (now (state .entry)) r (now (out .exit)) (now (state .exit)) (now (memory .exit)) ⌝ }
@@ -44,8 +41,5 @@ pub fn respond(whole: Whole, state: &mut [u8], memory: &mut [u8], out: &mut [u8]
     if end > MOST_DATA {
         return alone(MESSAGE_TOO_LONG);
     }
-    let service = service_of(whole.command);
-    let mut body = [0u8; MOST_DATA];
-    copy_in(&mut body, 0, &state[BODY..SCOPE]);
-    serve(service, state, &body[..end], memory, out)
+    serve(service_of(whole.command), state, BODY + end, memory, out)
 }

@@ -1,9 +1,8 @@
 -- An arm of the dispatch: what its operation promises, with the operation known, is what its service does.
-use mathlib.Core.Path.{_≡_, sym, ap, subst, _∙_}
+use mathlib.Core.Path.{_≡_, sym, ap, subst}
 use mathlib.Core.List.{List, []}
 use Prim.Native.Nat.{ℕ, _<_, _≤_}
 use lib.ListN.{length, getD}
-use lib.Seq.{sets}
 use Rattle.document.specs.Gate.{Gate}
 use Rattle.document.specs.Commands.{served}
 use Rattle.document.specs.declared.Operation.{Operation}
@@ -18,10 +17,10 @@ use Rattle.answers.proofs.Replies.{reply-as}
 use Rattle.writes.specs.Wrote.{Wrote}
 use Rattle.state.specs.State.{Instruments, gateOf}
 use Rattle.target.specs.After.{instrumentsChanged, instrumentsAfter}
-use Rattle.blocks.specs.Places.{scopePlace, stateLength}
-use Rattle.blocks.specs.Layout.{decodedInstruments, encodedInstruments}
-use Rattle.blocks.proofs.Stored.{same-instruments}
+use Rattle.blocks.specs.Places.{stateLength}
+use Rattle.blocks.specs.Layout.{decodedInstruments}
 use Rattle.instruments.specs.Operates.{Operates}
+use Rattle.instruments.proofs.Changing.{same-block}
 
 -- what a dispatch is asked
 pub record Asked : Type 0 where
@@ -55,11 +54,6 @@ module _ (q : Asked) where
         let same : knownAs o s ≡ s = λ j. record { operation = sym is j; ex = s .ex; size = s .size } in
         subst (λ (t : Service). Operates (served g t body) (instrumentsAfter (t .operation) i t body) block r out after left) same done
 
-    -- what is set up stays, so the block does
-    same-block : (next : Instruments) → i ≡ next → block ≡ sets block scopePlace (encodedInstruments next)
-    same-block next kept =
-        sym (same-instruments block (q .long) (q .small)) ∙ ap (λ (k : Instruments). sets block scopePlace (encodedInstruments k)) kept
-
     -- one that only answers
     pub replied : changeOf o ≡ nothing → {r : Reply} {out : List ℕ} → IsReply (served g (knownAs o s) body .answer) r out
         → Operates (served g s body) (instrumentsAfter (s .operation) i s body) block r out block (q .memory)
@@ -68,7 +62,7 @@ module _ (q : Asked) where
         (record {
           reply = reply;
           memory = ap (λ (t : Gate). t .memory) (sym (served-same g (knownAs o s) body none));
-          kept = same-block _ (ap (λ (c : Change). instrumentsChanged c i (knownAs o s) body) (sym none));
+          kept = same-block block (q .long) (q .small) _ (ap (λ (c : Change). instrumentsChanged c i (knownAs o s) body) (sym none));
         })
 
     -- one that writes, and says its status
@@ -80,5 +74,5 @@ module _ (q : Asked) where
         (record {
           reply = reply-as _ _ (sym (written .answer)) reply;
           memory = written .memory;
-          kept = same-block _ kept;
+          kept = same-block block (q .long) (q .small) _ kept;
         })
