@@ -1,7 +1,7 @@
 -- The target's state as a block of bytes: every block is a state, and every state a block. docs/STATE.md has the table of places.
 use mathlib.Core.Bool.{true}
 use mathlib.Core.List.{List, [], _∷_, _++_}
-use Prim.Native.Nat.{ℕ, _+_}
+use Prim.Native.Nat.{ℕ, _+_, _-_}
 use lib.ListN.{getD, drop}
 use Rattle.document.specs.Numbers.{mostData}
 use Rattle.document.specs.Areas.{bytesAt}
@@ -32,6 +32,10 @@ decodedReceiver block =
 
 abbrev pub decodedBody : List ℕ → List ℕ
 decodedBody block = bytesAt block bodyPlace mostData
+
+-- the body up to a place: the data of a message that ends there
+abbrev pub dataTo : List ℕ → ℕ → List ℕ
+dataTo block to = bytesAt block bodyPlace (to - bodyPlace)
 
 -- a count, then size and address each, as an EX setup's data part has them; always eight
 unfoldable pub decodedDefinitions : List ℕ → ℕ → List Variable

@@ -89,12 +89,12 @@ module _ (block : List ℕ) (b : ℕ) (memory buffer : List ℕ) where
     pub outcome-formed : answerFormed (outcome .answer) ≡ true
     outcome-formed = held-formed (gateOf (decodedInstruments block) memory) held
 
-    pub whole-answered : (r : Reply) (between after left told : List ℕ) (written : ℕ)
-        → Operates outcome (instrumentsHeld (decodedInstruments block) held) block r between left
+    pub whole-answered : (r : Reply) (out between after left told : List ℕ) (written : ℕ)
+        → Operates outcome (instrumentsHeld (decodedInstruments block) held) block r out between left
         → after ≡ sets between 0 (encodedReceiver next)
-        → Told (answerIn r) buffer written told
+        → Told (answerIn r out) buffer written told
         → Turned (answering (withReceiver (decoded block) next) c n s memory buffer) block written after left told
-    whole-answered r between after left told written done stored said =
+    whole-answered r out between after left told written done stored said =
         let known : Told (outcome .answer) buffer written told = subst (λ (a : Answer). Told a buffer written told) (done .reply .answer) said in
         record {
           length = known .length;

@@ -15,6 +15,7 @@ ghost use Rattle.byte_call.specs.Promises.{Turned, ByteTaken};
 use block_fields::put_byte;
 use blocks::BODY;
 use checks::byte_refusal;
+use codes::MOST_DATA;
 use codes::TAKEN;
 use line::tell;
 use link::Event;
@@ -40,11 +41,11 @@ fn answer_whole(
     requires { ⌜ (lengthFits (whole .command) (whole .length) ≡ true) × (stateLength ≤ length (now state)) × (length (now memory) ≡ memoryEnd) × (scope.sound (decodedScope (now state)) ≡ true) × (answerRoom ≤ length (now answer)) ⌝ }
     ensures { λ r. ⌜ Turned (answering (withReceiver (decoded (now (state .entry))) next) (whole .command) (whole .length) (whole .sum) (now (memory .entry)) (now (answer .entry))) (now (state .entry)) r (now (state .exit)) (now (memory .exit)) (now (answer .exit)) ⌝ }
 {
-    let reply = respond(whole, state, memory);
+    let mut data = [0u8; MOST_DATA];
+    let reply = respond(whole, state, memory, &mut data);
     blocks::put_receiver(state, next);
-    let bytes = reply.bytes;
     let end = reply.length;
-    tell(reply.status, &bytes[..end], answer)
+    tell(reply.status, &data[..end], answer)
 }
 
 // A byte that nothing refuses. One that finishes no message writes the receiver and at most one byte of the body.

@@ -43,7 +43,7 @@ module _ (i : Instruments) (memory : List ℕ) (s : Service) (body : List ℕ) w
       (formed-few (served g (knownAs ReadScope s) body .answer) (served-formed g (knownAs ReadScope s) body))
 
   pub reading-replies : (out : List ℕ) (r : Reading) (after : List ℕ) → mostData ≤ length out → length after ≡ length out → IsRead scope memory out r after
-      → IsReply (served g (knownAs ReadScope s) body .answer) (record { status = r .status; length = r .length; bytes = after })
+      → IsReply (served g (knownAs ReadScope s) body .answer) (record { status = r .status; length = r .length }) after
   reading-replies out r after room kept read =
       let bytes = readBytes scope memory in
       let front : take (r .length) after ≡ bytes =

@@ -72,7 +72,7 @@ buffer-bytes n (planned p r) e = refl
 
 -- the bytes of a reply that holds them
 pub buffer-front : (ex : Bool) (at low high : ℕ) → at ≡ addressWidth ex
-    → take (at + 1 + 1) (set (set (set (set (replicate 64 0) 0 (bufferBegin % 256)) 1 (bufferBegin / 256)) at low) (at + 1) high)
+    → take (at + 1 + 1) (set (set (set (set (replicate 6 0) 0 (bufferBegin % 256)) 1 (bufferBegin / 256)) at low) (at + 1) high)
     ≡ littleEndian (addressWidth ex) bufferBegin ++ (low ∷ high ∷ [])
 buffer-front true at low high e = rw e refl
 buffer-front false at low high e = rw e refl

@@ -10,7 +10,7 @@ use Rattle.state.specs.State.{Instruments}
 use Rattle.blocks.specs.Places.{scopePlace}
 use Rattle.blocks.specs.Layout.{encodedInstruments}
 
-pub record Operates (o : Outcome) (next : Instruments) (block : List ℕ) (r : Reply) (after left : List ℕ) : Type 0 where
-  pub reply : IsReply (o .answer) r
+pub record Operates (o : Outcome) (next : Instruments) (block : List ℕ) (r : Reply) (out after left : List ℕ) : Type 0 where
+  pub reply : IsReply (o .answer) r out
   pub memory : left ≡ o .gate .memory
   pub kept : after ≡ sets block scopePlace (encodedInstruments next)

@@ -4,7 +4,7 @@ ghost use mathlib.Core.List.{List, _++_};
 ghost use Prim.Native.Nat.{ℕ, _≤_};
 ghost use lib.ListN.{length};
 ghost use Rattle.document.specs.Areas.{bufferBegin};
-ghost use Rattle.document.specs.Numbers.{done};
+ghost use Rattle.document.specs.Numbers.{mostData, done};
 ghost use Rattle.document.specs.Values.{littleEndian};
 ghost use Rattle.document.specs.Variables.{addressWidth};
 ghost use Rattle.document.specs.Commands.{served};
@@ -14,34 +14,39 @@ ghost use Rattle.outcomes.specs.Known.{knownAs};
 ghost use Rattle.answers.specs.IsReply.{IsReply};
 ghost use Rattle.state.specs.State.{gateOf};
 ghost use Rattle.target.specs.After.{instrumentsAfter};
-ghost use Rattle.blocks.specs.Places.{stateLength};
-ghost use Rattle.blocks.specs.Layout.{decodedInstruments};
+ghost use Rattle.blocks.specs.Places.{bodyPlace, scopePlace, stateLength};
+ghost use Rattle.blocks.specs.Layout.{dataTo, decodedInstruments};
 ghost use Rattle.instruments.specs.Operates.{Operates};
 use answers::Reply;
 use answers::alone;
+use answers::done_with;
+use blocks::BODY;
 use blocks::put_recorder;
 use blocks::put_run;
 use blocks::recorder_in;
 use codes::DONE;
-use codes::MOST_DATA;
 use definitions::address_width;
 use document::Service;
 use memory::BUFFER_BEGIN;
 
-pub fn set_up_recorder(state: &mut [u8], service: Service, body: &[u8]) -> Reply
-    requires { ⌜ stateLength ≤ length (now state) ⌝ }
-    ensures { λ r. ⌜ ((memory : List ℕ) → Operates (served (gateOf (decodedInstruments (now (state .entry))) memory) (knownAs SetUpRecorder service) (now (body .entry))) (instrumentsAfter SetUpRecorder (decodedInstruments (now (state .entry))) service (now (body .entry))) (now (state .entry)) r (now (state .exit)) memory) ⌝ }
+// The message's data stand in the block, up to a place. What is refused stores nothing.
+pub fn set_up_recorder(state: &mut [u8], service: Service, to: usize) -> Reply
+    requires { ⌜ (stateLength ≤ length (now state)) × (bodyPlace ≤ to) × (to ≤ scopePlace) ⌝ }
+    ensures { λ r. ⌜ ((memory out : List ℕ) → Operates (served (gateOf (decodedInstruments (now (state .entry))) memory) (knownAs SetUpRecorder service) (dataTo (now (state .entry)) to)) (instrumentsAfter SetUpRecorder (decodedInstruments (now (state .entry))) service (dataTo (now (state .entry)) to)) (now (state .entry)) r out (now (state .exit)) memory) ⌝ }
 {
-    let set_up = recorder_in(state).set_up(service.ex, body);
+    let set_up = recorder_in(state).set_up(service.ex, &state[BODY..to]);
+    if set_up.status != DONE {
+        return alone(set_up.status);
+    }
     let next = set_up.next;
     put_recorder(state, next);
-    alone(set_up.status)
+    alone(DONE)
 }
 
 // A start and a stop leave the plan as it is.
 pub fn start(state: &mut [u8]) -> Reply
     requires { ⌜ stateLength ≤ length (now state) ⌝ }
-    ensures { λ r. ⌜ ((memory : List ℕ) (s : Service) (body : List ℕ) → Operates (served (gateOf (decodedInstruments (now (state .entry))) memory) (knownAs Start s) body) (instrumentsAfter Start (decodedInstruments (now (state .entry))) s body) (now (state .entry)) r (now (state .exit)) memory) ⌝ }
+    ensures { λ r. ⌜ ((memory out : List ℕ) (s : Service) (body : List ℕ) → Operates (served (gateOf (decodedInstruments (now (state .entry))) memory) (knownAs Start s) body) (instrumentsAfter Start (decodedInstruments (now (state .entry))) s body) (now (state .entry)) r out (now (state .exit)) memory) ⌝ }
 {
     let started = recorder_in(state).start();
     let next = started.next;
@@ -51,7 +56,7 @@ pub fn start(state: &mut [u8]) -> Reply
 
 pub fn stop(state: &mut [u8]) -> Reply
     requires { ⌜ stateLength ≤ length (now state) ⌝ }
-    ensures { λ r. ⌜ ((memory : List ℕ) (s : Service) (body : List ℕ) → Operates (served (gateOf (decodedInstruments (now (state .entry))) memory) (knownAs Stop s) body) (instrumentsAfter Stop (decodedInstruments (now (state .entry))) s body) (now (state .entry)) r (now (state .exit)) memory) ⌝ }
+    ensures { λ r. ⌜ ((memory out : List ℕ) (s : Service) (body : List ℕ) → Operates (served (gateOf (decodedInstruments (now (state .entry))) memory) (knownAs Stop s) body) (instrumentsAfter Stop (decodedInstruments (now (state .entry))) s body) (now (state .entry)) r out (now (state .exit)) memory) ⌝ }
 {
     let stopped = recorder_in(state).stop();
     let next = stopped.next;
@@ -61,36 +66,34 @@ pub fn stop(state: &mut [u8]) -> Reply
 
 pub fn status(state: &[u8]) -> Reply
     requires { ⌜ stateLength ≤ length (now state) ⌝ }
-    ensures { λ r. ⌜ ((memory : List ℕ) (s : Service) (body : List ℕ) → IsReply (served (gateOf (decodedInstruments (now (state .entry))) memory) (knownAs Status s) body .answer) r) ⌝ }
+    ensures { λ r. ⌜ ((memory out : List ℕ) (s : Service) (body : List ℕ) → IsReply (served (gateOf (decodedInstruments (now (state .entry))) memory) (knownAs Status s) body .answer) r out) ⌝ }
 {
     alone(recorder_in(state).status())
 }
 
-pub fn query_buffer(state: &[u8], service: Service) -> Reply
-    requires { ⌜ stateLength ≤ length (now state) ⌝ }
-    ensures { λ r. ⌜ ((memory : List ℕ) (body : List ℕ) → IsReply (served (gateOf (decodedInstruments (now (state .entry))) memory) (knownAs QueryBuffer service) body .answer) r) ⌝ }
+pub fn query_buffer(state: &[u8], service: Service, out: &mut [u8]) -> Reply
+    requires { ⌜ (stateLength ≤ length (now state)) × (mostData ≤ length (now out)) ⌝ }
+    ensures { λ r. ⌜ ((memory : List ℕ) (body : List ℕ) → IsReply (served (gateOf (decodedInstruments (now (state .entry))) memory) (knownAs QueryBuffer service) body .answer) r (now (out .exit))) ⌝ }
 {
     let queried = recorder_in(state).query();
     if queried.status != DONE {
         return alone(queried.status);
     }
-    buffer_from(service.ex, queried.index)
+    buffer_from(service.ex, queried.index, out)
 }
 
 // Where the buffer begins, and the index of its oldest set, each low byte first.
-fn buffer_from(ex: bool, index: u16) -> Reply
-    ensures { λ r. ⌜ IsReply (record { status = done; body = littleEndian (addressWidth ex) bufferBegin ++ littleEndian 2 index }) r ⌝ }
+fn buffer_from(ex: bool, index: u16, out: &mut [u8]) -> Reply
+    requires { ⌜ mostData ≤ length (now out) ⌝ }
+    ensures { λ r. ⌜ IsReply (record { status = done; body = littleEndian (addressWidth ex) bufferBegin ++ littleEndian 2 index }) r (now (out .exit)) ⌝ }
 {
     let low = address_width(ex);
     let high = low + 1;
-    let mut bytes = [0u8; MOST_DATA];
+    let mut bytes = [0u8; 6];
     bytes[0] = (BUFFER_BEGIN % 256) as u8;
     bytes[1] = (BUFFER_BEGIN / 256) as u8;
     bytes[low] = (index % 256) as u8;
     bytes[high] = (index / 256 % 256) as u8;
-    Reply {
-        status: DONE,
-        length: high + 1,
-        bytes,
-    }
+    let end = high + 1;
+    done_with(&bytes[..end], out)
 }

@@ -1,3 +1,2 @@
--- The data of a message, and what is held of it.
-pub mod Copied
+-- What is held of a message.
 pub mod Refusing

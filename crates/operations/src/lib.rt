@@ -3,6 +3,7 @@ ghost use mathlib.Core.Path.{_≡_};
 ghost use mathlib.Core.Bool.{true};
 ghost use Prim.Native.Nat.{_≤_};
 ghost use lib.ListN.{length};
+ghost use Rattle.document.specs.Numbers.{mostData};
 ghost use Rattle.document.specs.Areas.{memoryEnd};
 ghost use Rattle.document.specs.Message.{lengthFits};
 ghost use Rattle.scope.specs.State.{sound};
@@ -15,12 +16,10 @@ ghost use Rattle.operations.specs.Held.{heldOf};
 use answers::Reply;
 use answers::alone;
 use blocks::BODY;
-use blocks::SCOPE;
 use codes::MESSAGE_TOO_LONG;
 use codes::MOST_DATA;
 use codes::SUM_WRONG;
 use codes::service_of;
-use memory::copy_in;
 use services::serve;
 use widths::usize_of_u8;
 
@@ -31,10 +30,9 @@ pub struct Whole {
     pub sum: u8,
 }
 
-// The data are copied out of the block, since a service may change the block while it looks at them.
-pub fn respond(whole: Whole, state: &mut [u8], memory: &mut [u8]) -> Reply
-    requires { ⌜ (lengthFits (whole .command) (whole .length) ≡ true) × (stateLength ≤ length (now state)) × (sound (decodedScope (now state)) ≡ true) × (length (now memory) ≡ memoryEnd) ⌝ }
-    ensures { λ r. ⌜ Operates (answeredHeld (gateOf (decodedInstruments (now (state .entry))) (now (memory .entry))) (heldOf whole (decodedBody (now (state .entry))))) (instrumentsHeld (decodedInstruments (now (state .entry))) (heldOf whole (decodedBody (now (state .entry))))) (now (state .entry)) r (now (state .exit)) (now (memory .exit)) ⌝ }
+pub fn respond(whole: Whole, state: &mut [u8], memory: &mut [u8], out: &mut [u8]) -> Reply
+    requires { ⌜ (lengthFits (whole .command) (whole .length) ≡ true) × (stateLength ≤ length (now state)) × (sound (decodedScope (now state)) ≡ true) × (length (now memory) ≡ memoryEnd) × (mostData ≤ length (now out)) ⌝ }
+    ensures { λ r. ⌜ Operates (answeredHeld (gateOf (decodedInstruments (now (state .entry))) (now (memory .entry))) (heldOf whole (decodedBody (now (state .entry))))) (instrumentsHeld (decodedInstruments (now (state .entry))) (heldOf whole (decodedBody (now (state .entry))))) (now (state .entry)) r (now (out .exit)) (now (state .exit)) (now (memory .exit)) ⌝ }
 {
     if whole.sum != 0 {
         return alone(SUM_WRONG);
@@ -43,8 +41,5 @@ pub fn respond(whole: Whole, state: &mut [u8], memory: &mut [u8]) -> Reply
     if end > MOST_DATA {
         return alone(MESSAGE_TOO_LONG);
     }
-    let service = service_of(whole.command);
-    let mut body = [0u8; MOST_DATA];
-    copy_in(&mut body, 0, &state[BODY..SCOPE]);
-    serve(service, state, &body[..end], memory)
+    serve(service_of(whole.command), state, BODY + end, memory, out)
 }

@@ -1,11 +1,9 @@
 -- What a read answers: its status alone, or the bytes of its range.
 use mathlib.Core.Path.{_≡_, refl, sym, ap, _∙_}
-use mathlib.Core.List.{List, [], _++_}
-use Prim.Native.Nat.{ℕ, _+_, _-_, _≤_}
+use mathlib.Core.List.{List, []}
+use Prim.Native.Nat.{ℕ, _+_, _≤_}
 use native.Mathlib.Omega.{arith}
 use borrow.Author.Tests.{ltb-false, leb-true, not-false}
-use lib.ListN.{length, take, drop, length-take, length-drop}
-use lib.Seq.{sets, sets-eq, take-append-seam}
 use Rattle.document.specs.Numbers.{mostData, done}
 use Rattle.document.specs.Areas.{memoryEnd, bytesAt}
 use Rattle.document.specs.Fields.{sizeField, addressField}
@@ -52,13 +50,3 @@ module _ (s : Service) (body : List ℕ) (b : Block) (found : IsBlock s body 0 b
     read-done g =
         (λ i. record { status = right i; body = bytesAt (g .memory) (found .address own i) (found .size i) })
         ∙ sym (ap (λ (o : Outcome). o .answer) (unless-none g (readLines s body) (readAnswer g s body) none))
-
--- bytes of a memory that were copied to the front of a buffer
-pub read-back : (memory out copied : List ℕ) (from size : ℕ) → from + size ≤ length memory → size ≤ length out
-    → copied ≡ sets out 0 (take (from + size - from) (drop from memory)) → take size copied ≡ bytesAt memory from size
-read-back memory out copied from size inside room e =
-    let width : from + size - from ≡ size = omega arith in
-    let part : length (bytesAt memory from size) ≡ size = simp (length-take, length-drop) (omega arith) in
-    ap (take size) (e ∙ ap (λ (n : ℕ). sets out 0 (take n (drop from memory))) width ∙ sets-eq (bytesAt memory from size) out 0 (omega (arith, part)))
-    ∙ ap (λ (n : ℕ). take n (bytesAt memory from size ++ drop (0 + length (bytesAt memory from size)) out)) (sym part)
-    ∙ take-append-seam (bytesAt memory from size) (drop (0 + length (bytesAt memory from size)) out)

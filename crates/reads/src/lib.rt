@@ -1,6 +1,8 @@
 // Reads: 1, 2 or 4 bytes at an address, or a block.
 ghost use mathlib.Core.Path.{_≡_};
+ghost use Prim.Native.Nat.{_≤_};
 ghost use lib.ListN.{length};
+ghost use Rattle.document.specs.Numbers.{mostData};
 ghost use Rattle.document.specs.Areas.{memoryEnd};
 ghost use Rattle.document.specs.Commands.{served};
 ghost use Rattle.document.specs.Gate.{Gate};
@@ -11,6 +13,7 @@ ghost use Rattle.fields.specs.Blocks.{OwnFits};
 ghost use Rattle.reads.specs.ReadStatus.{readStatus};
 use answers::Reply;
 use answers::alone;
+use answers::done_with;
 use codes::ANSWER_TOO_LONG;
 use codes::DONE;
 use codes::MOST_DATA;
@@ -18,7 +21,6 @@ use codes::RANGE_WRONG;
 use document::Service;
 use fields::Block;
 use fields::block_in;
-use memory::copy_in;
 use memory::may_be_read;
 use widths::usize_of_u32;
 
@@ -37,9 +39,9 @@ fn read_status(block: Block) -> u8
     DONE
 }
 
-pub fn read(service: Service, body: &[u8], memory: &[u8]) -> Reply
-    requires { ⌜ OwnFits service 0 (now body) × (length (now memory) ≡ memoryEnd) ⌝ }
-    ensures { λ r. ⌜ ((g : Gate) → g .memory ≡ now (memory .entry) → IsReply (served g (knownAs Read service) (now (body .entry)) .answer) r) ⌝ }
+pub fn read(service: Service, body: &[u8], memory: &[u8], out: &mut [u8]) -> Reply
+    requires { ⌜ OwnFits service 0 (now body) × (length (now memory) ≡ memoryEnd) × (mostData ≤ length (now out)) ⌝ }
+    ensures { λ r. ⌜ ((g : Gate) → g .memory ≡ now (memory .entry) → IsReply (served g (knownAs Read service) (now (body .entry)) .answer) r (now (out .exit))) ⌝ }
 {
     let block = block_in(service, body, 0);
     let status = read_status(block);
@@ -48,11 +50,5 @@ pub fn read(service: Service, body: &[u8], memory: &[u8]) -> Reply
     }
     let from = usize_of_u32(block.address);
     let to = from + block.size;
-    let mut bytes = [0u8; 64];
-    copy_in(&mut bytes, 0, &memory[from..to]);
-    Reply {
-        status,
-        length: block.size,
-        bytes,
-    }
+    done_with(&memory[from..to], out)
 }

@@ -1,14 +1,14 @@
 -- The status alone, or the bytes of the range, for every gate that has this memory.
 use mathlib.Core.Path.{_≡_, sym, _∙_}
-use Prim.Native.Nat.{_+_, _-_, _≤_}
+use Prim.Native.Nat.{ℕ, _+_, _-_, _≤_}
 use native.Mathlib.Nat.{zero-mul}
 use native.Mathlib.Omega.{arith}
 use borrow.Author.Needs.{needs}
-use lib.ListN.{length, take, length-take}
+use lib.ListN.{length, take, drop, length-take}
 use Rattle.document.specs.Areas.{bytesAt}
 use Rattle.answers.proofs.Replies.{reply-as}
 use Rattle.fields.specs.Blocks.{IsBlock}
-use Rattle.reads.proofs.ReadLaws.{read-refused, read-few, read-inside, read-done, read-back}
+use Rattle.reads.proofs.ReadLaws.{read-refused, read-few, read-inside, read-done}
 use Rattle.reads.proofs.read.Statement.{statement}
 use Rattle.reads.proofs.read.Tie as tie
 
@@ -21,19 +21,23 @@ read-status-requires c κs = search needs
 alone-requires : tie.Need-alone-requires
 alone-requires c κs = search needs
 
+-- what is asked
+abbrev begun : tie.After-block-in → tie.Start
+begun b = b .before .before .before .before
+
 -- no part stands behind the address
-found : (b : tie.After-block-in) → IsBlock (b .before .before .before .args .service) (b .before .before .before .args .body .now) 0 (b .block-in .result)
+found : (b : tie.After-block-in) → IsBlock (begun b .args .service) (begun b .args .body .now) 0 (b .block-in .result)
 found b = b .block-in .ensures 0 (sym (zero-mul _))
 
 returns : tie.Need-returns
 returns c =
     let r = c .before .before in
     let b = r .before in
-    let a = b .before .before .before .args in
+    let a = begun b .args in
     λ g same.
     reply-as _ _
     (read-refused (a .service) (a .body .now) (b .block-in .result) (found b) (r .read-status .result) (r .read-status .ensures) g (c .before .if1 .taken))
-    (c .alone .ensures)
+    (c .alone .ensures _)
 
 -- ---- nothing refuses it
 module _ (e : tie.Else1) where
@@ -41,7 +45,7 @@ module _ (e : tie.Else1) where
   looked = e .before .before
 
   abbrev start : tie.Start
-  start = looked .before .before .before
+  start = begun looked
 
   few : looked .block-in .result .size ≤ 64
   few =
@@ -58,41 +62,43 @@ usize-of-u32-requires c κs = search needs
 add-to : tie.Need-add-to
 add-to c = record { fits = omega (arith, few (c .before .before), c .before .usize-of-u32 .ensures .1) }
 
-slice-aggregate-copy-in : tie.Need-slice-aggregate-copy-in
-slice-aggregate-copy-in c = search needs
+sub-done-with : tie.Need-sub-done-with
+sub-done-with c = search needs
 
-sub-copy-in : tie.Need-sub-copy-in
-sub-copy-in c = search needs
+part-done-with-start : tie.Need-part-done-with-start
+part-done-with-start c = search needs
 
-part-copy-in-start : tie.Need-part-copy-in-start
-part-copy-in-start c = search needs
-
-part-copy-in-end : tie.Need-part-copy-in-end
-part-copy-in-end c =
-    let u = c .before .before in
+part-done-with-end : tie.Need-part-done-with-end
+part-done-with-end c =
+    let u = c .before in
     omega (arith, inside (u .before), u .usize-of-u32 .ensures .0)
 
-copy-in-requires : tie.Need-copy-in-requires
-copy-in-requires c κs = simp length-take (omega (arith, few (c .before .before .before .before)))
+done-with-requires : tie.Need-done-with-requires
+done-with-requires c κs =
+    let e = c .before .before .before .before in
+    simp length-take (omega (arith, few e, start e .pre .2))
+
+same-length : tie.Need-same-length
+same-length c = search needs
+
+size-of : (from size : ℕ) → from + size - from ≡ size
+size-of from size = omega arith
 
 returns-2 : tie.Need-returns-2
 returns-2 c =
-    let copied = c .before .copy-in in
-    let u = c .before .before .before .before .before in
+    let replied = c .before .before .done-with in
+    let u = c .before .before .before .before .before .before in
     let e = u .before in
     let a = start e .args in
-    let b = looked e .block-in in
+    let b = looked e .block-in .result in
     let from = u .usize-of-u32 in
     λ g same.
-    let bytes : take (b .result .size) (copied .last .0) ≡ bytesAt (g .memory) (b .result .address) (b .result .size) =
-    read-back (a .memory .now) _ (copied .last .0) (from .result) (b .result .size) (omega (arith, inside e, from .ensures .0)) (few e) (copied .ensures)
-    ∙ (λ i. bytesAt (sym same i) (from .ensures .0 i) (b .result .size)) in
-    record {
-      answer =
-          (λ i. record { status = e .before .read-status .result; body = bytes i })
-          ∙ read-done (a .service) (a .body .now) (b .result) (found (looked e)) (e .before .read-status .result) (e .before .read-status .ensures) (e .if1 .left) g;
-      short = omega (arith, few e, copied .kept .0);
-    }
+    let bytes : take (from .result + b .size - from .result) (drop (from .result) (a .memory .now)) ≡ bytesAt (g .memory) (b .address) (b .size) =
+    (λ i. take (size-of (from .result) (b .size) i) (drop (from .ensures .0 i) (sym same i))) in
+    reply-as _ _
+    ((λ i. record { status = sym (e .if1 .left) i; body = bytes i })
+    ∙ read-done (a .service) (a .body .now) b (found (looked e)) (e .before .read-status .result) (e .before .read-status .ensures) (e .if1 .left) g)
+    (replied .ensures)
 
 pub read-spec : {M : Type 1} → statement M
 read-spec =
@@ -104,9 +110,9 @@ read-spec =
     returns
     usize-of-u32-requires
     add-to
-    slice-aggregate-copy-in
-    sub-copy-in
-    part-copy-in-start
-    part-copy-in-end
-    copy-in-requires
+    sub-done-with
+    part-done-with-start
+    part-done-with-end
+    done-with-requires
+    same-length
     returns-2)

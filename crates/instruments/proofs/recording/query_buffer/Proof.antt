@@ -28,8 +28,11 @@ alone-requires : tie.Need-alone-requires
 alone-requires c κs = search needs
 
 -- the block that is asked, and what the recorder in it says
+abbrev begun : tie.After-query → tie.Start
+begun q = q .before .before .before .before
+
 block : tie.After-query → List ℕ
-block q = q .before .before .before .args .state .now
+block q = begun q .args .state .now
 
 said : (q : tie.After-query) → QuerySettled (decodedRecorder (block q)) (q .query .result)
 unfolding block
@@ -39,23 +42,27 @@ returns : tie.Need-returns
 unfolding block
 returns c =
     let q = c .before .before .before in
-    let service = q .before .before .before .args .service in
+    let service = begun q .args .service in
     λ memory body.
     reply-as _ _
     (ap alone (said q .status)
     ∙ query-refused (gateOf (decodedInstruments (block q)) memory) service body (λ e. c .before .if1 .taken (said q .status ∙ e)))
-    (c .alone .ensures)
+    (c .alone .ensures _)
 
 buffer-from-requires : tie.Need-buffer-from-requires
 buffer-from-requires c κs = search needs
 
+same-length : tie.Need-same-length
+same-length c = search needs
+
 returns-2 : tie.Need-returns-2
 unfolding block
 returns-2 c =
-    let q = c .before .before .before in
-    let service = q .before .before .before .args .service in
+    let told = c .before .before in
+    let q = told .before .before .before .before in
+    let service = begun q .args .service in
     let r = recorderOf (decodedRecorder (block q)) in
-    let right : queryStatus r ≡ done = sym (said q .status) ∙ c .before .if1 .left in
+    let right : queryStatus r ≡ done = sym (said q .status) ∙ told .before .before .if1 .left in
     let index : q .query .result .index ≡ indexOf r = said q .index ∙ rw (eq-eqb (queryStatus r) done right) in
     let n = addressWidth (service .ex) in
     λ memory body.
@@ -63,7 +70,7 @@ returns-2 c =
     ((λ i. record { status = done; body = littleEndian n bufferBegin ++ littleEndian 2 (index i) })
     ∙ (λ i. record { status = done; body = buffer-bytes n r right i })
     ∙ query-answered (gateOf (decodedInstruments (block q)) memory) service body right)
-    (c .buffer-from .ensures)
+    (told .buffer-from .ensures)
 
 pub query-buffer-spec : {M : Type 1} → statement M
 query-buffer-spec =
@@ -74,4 +81,5 @@ query-buffer-spec =
     alone-requires
     returns
     buffer-from-requires
+    same-length
     returns-2)

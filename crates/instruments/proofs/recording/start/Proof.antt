@@ -46,9 +46,9 @@ returns c =
     ∙ (λ i. sets block runPlace (encodedRun (next i .run)))
     ∙ run-stored block (known .before .pre) (λ i. known .slice-known .given i .fits) (startedState (decodedRecorder block) .run)
     ∙ (λ i. sets block scopePlace (encodedInstruments (record { scope = decodedScope block; recorder = started-run (decodedRecorder block) i }))) in
-    λ memory s body.
-    operates Start refl block memory s body (done .start .result .status) _ _
-    (ap alone status ∙ recorder-started (gateOf (decodedInstruments block) memory) s body) (c .alone .ensures) stored
+    λ memory out s body.
+    operates Start refl block memory s body (done .start .result .status) _ out _
+    (ap alone status ∙ recorder-started (gateOf (decodedInstruments block) memory) s body) (c .alone .ensures out) stored
 
 pub start-spec : {M : Type 1} → statement M
 start-spec =

@@ -25,11 +25,11 @@ returns c =
     let asked = c .before in
     let found = asked .before in
     let block = found .before .before .args .state .now in
-    λ memory s body.
+    λ memory out s body.
     reply-as _ _
     (ap alone (asked .status .ensures ∙ ap (λ (q : Recorder). statusStatus (recorderOf q)) (found .recorder-in .ensures))
     ∙ recorder-asked (gateOf (decodedInstruments block) memory) s body)
-    (c .alone .ensures)
+    (c .alone .ensures out)
 
 pub status-spec : {M : Type 1} → statement M
 status-spec = tie.close (tie.spec recorder-in-requires status-requires alone-requires returns)

@@ -46,9 +46,9 @@ returns c =
     ∙ (λ i. sets block runPlace (encodedRun (next i .run)))
     ∙ run-stored block (known .before .pre) (λ i. known .slice-known .given i .fits) (haltedState (decodedRecorder block) .run)
     ∙ (λ i. sets block scopePlace (encodedInstruments (record { scope = decodedScope block; recorder = halted-run (decodedRecorder block) i }))) in
-    λ memory s body.
-    operates Stop refl block memory s body (done .stop .result .status) _ _
-    (ap alone status ∙ recorder-stopped (gateOf (decodedInstruments block) memory) s body) (c .alone .ensures) stored
+    λ memory out s body.
+    operates Stop refl block memory s body (done .stop .result .status) _ out _
+    (ap alone status ∙ recorder-stopped (gateOf (decodedInstruments block) memory) s body) (c .alone .ensures out) stored
 
 pub stop-spec : {M : Type 1} → statement M
 stop-spec =

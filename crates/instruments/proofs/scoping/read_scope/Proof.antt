@@ -14,23 +14,24 @@ use Rattle.instruments.proofs.scoping.read_scope.Tie as tie
 scope-in-requires : tie.Need-scope-in-requires
 scope-in-requires c κs = search needs
 
-slice-aggregate-read : tie.Need-slice-aggregate-read
-slice-aggregate-read c = search needs
-
 read-requires : tie.Need-read-requires
 read-requires c κs =
     let found = c .before in
-    let s = found .before .before .before in
-    (subst (λ (q : Scope). sound q ≡ true) (sym (found .scope-in .ensures)) (s .pre .1), s .pre .2, omega arith)
+    let s = found .before .before .before .before in
+    (subst (λ (q : Scope). sound q ≡ true) (sym (found .scope-in .ensures)) (s .pre .1), s .pre .2, s .pre .3)
+
+same-length : tie.Need-same-length
+same-length c = search needs
 
 returns : tie.Need-returns
 returns c =
-    let r = c .before in
+    let r = c .before .before in
     let found = r .before .before in
-    let a = found .before .before .before .args in
-    λ s body.
-    reading-replies (decodedInstruments (a .state .now)) (a .memory .now) s body _ (r .read .result) (r .read .last .1 .1 .0) (omega arith) (r .read .kept .1 .1 .0)
-    (subst (λ (q : Scope). IsRead q (a .memory .now) _ (r .read .result) (r .read .last .1 .1 .0)) (found .scope-in .ensures) (r .read .ensures))
+    let s = found .before .before .before .before in
+    let a = s .args in
+    λ service body.
+    reading-replies (decodedInstruments (a .state .now)) (a .memory .now) service body (a .out .now) (r .read .result) (r .read .last .1 .1 .0) (s .pre .3) (r .read .kept .1 .1 .0)
+    (subst (λ (q : Scope). IsRead q (a .memory .now) (a .out .now) (r .read .result) (r .read .last .1 .1 .0)) (found .scope-in .ensures) (r .read .ensures))
 
 pub read-scope-spec : {M : Type 1} → statement M
-read-scope-spec = tie.close (tie.spec scope-in-requires slice-aggregate-read read-requires returns)
+read-scope-spec = tie.close (tie.spec scope-in-requires read-requires same-length returns)
