@@ -1,3 +1,4 @@
+pub mod Areas
 pub mod Cases
 pub mod Order
 pub mod Places

@@ -9,6 +9,10 @@ use lib.Dec.{leb}
 abbrev pub variablesEnd : ℕ
 variablesEnd = 8192
 
+-- "8,192 to 12,287 calibration": the first byte behind it, below which all that is kept there ends, registered tables too
+abbrev pub calibrationEnd : ℕ
+calibrationEnd = 12288
+
 -- "12,288 to 16,383 recorder buffer": where it begins
 abbrev pub bufferBegin : ℕ
 bufferBegin = 12288
