@@ -6,8 +6,8 @@ ghost use Rattle.document.specs.Doubling.{stuffed};
 ghost use Rattle.document.specs.Message.{lengthPart, summed, wellFormed};
 ghost use Rattle.line.specs.Put.{Put};
 ghost use Rattle.commands.specs.CommandWritten.{CommandWritten};
-use crate::measure::FAST;
 use crate::measure::is_short;
+use codes::FIRST_FAST;
 use codes::FORM_REFUSED;
 use codes::Length;
 use codes::ROOM_REFUSED;
@@ -40,7 +40,7 @@ fn put_length(from: Progress, command: u8, body: &[u8], out: &mut [u8]) -> Progr
     requires { ⌜ (length (now body) ≤ 255) × (from .at + length (stuffed (lengthPart command (now body))) ≤ length (now out)) ⌝ }
     ensures { λ r. ⌜ Put from (lengthPart command (now (body .entry))) (now (out .entry)) r (now (out .exit)) ⌝ }
 {
-    if command < FAST {
+    if command < FIRST_FAST {
         return put(from, body.len() as u8, out);
     }
     from

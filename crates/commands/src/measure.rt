@@ -7,13 +7,11 @@ ghost use lib.Dec.{ltb};
 ghost use Rattle.document.specs.Message.{lengthPart};
 ghost use Rattle.document.specs.CommandWriter.{commandOnWire};
 ghost use Rattle.line.specs.Put.{progressed};
+use codes::FIRST_FAST;
 use line::doubling::PLUS;
 use line::doubling::Progress;
 use line::sum::added;
 use line::sum::sum_byte;
-
-// Commands from here on are fast: their code gives the data length, and no length byte follows.
-pub const FAST: u8 = 0xC0;
 
 // Where a writer will be once it has put this byte.
 fn measured(progress: Progress, byte: u8) -> Progress
@@ -50,7 +48,7 @@ fn measured_length(from: Progress, command: u8, body: &[u8]) -> Progress
     requires { ⌜ (from .at ≤ 2) × (length (now body) ≤ 255) ⌝ }
     ensures { λ r. ⌜ r ≡ progressed from (lengthPart command (now (body .entry))) ⌝ }
 {
-    if command < FAST {
+    if command < FIRST_FAST {
         return measured(from, body.len() as u8);
     }
     from

@@ -11,12 +11,10 @@ ghost use Rattle.variables.specs.State.{variablesOf, upTo};
 ghost use Rattle.scope.specs.State.{sound};
 ghost use Rattle.scope.specs.Read.{IsRead};
 use crate::Scope;
+use codes::MOST_DATA;
 use variables::Variables;
 use widths::usize_of_u8;
 use widths::usize_of_u32;
-
-// A data part holds at most so many bytes.
-const MOST_DATA: usize = 64;
 
 // What a reading answers: the status, and how many bytes stand in the buffer.
 pub struct Reading {
