@@ -1,6 +1,7 @@
 // The staples of document 01 through the exported calls: what goes over the wire, what comes back, and whether that is right.
 mod case;
 mod long;
+mod messages;
 mod rising;
 mod show;
 mod table;

@@ -1,6 +1,7 @@
 // Case 13: rising over 0x7000, from 0x6000 to 0x8000 in the two bytes at 16, which are recorded too. With post-trigger 0 the
 // recorder stops when it fires, and the status that 0xC3 gives is the sign of it.
 ghost use Prim.Native.Nat.{_≤_};
+use crate::messages::read_messages;
 use crate::show::Left;
 use crate::show::put_case;
 use crate::show::put_outcome;
@@ -19,14 +20,6 @@ const HIGH: usize = 17;
 const KEPT: usize = 12291;
 
 const STATUS: [u8; 3] = [0x2B, 0xC3, 0x3D];
-
-// Rising, four samples, post-trigger and divider 0, the trigger of two bytes at 16 with this sign and threshold, and the same two
-// bytes recorded.
-const SETUP: [u8; 23] = *b"\x2B\x09\x13\x01\x04\0\0\0\0\0\x10\0\x02\0\0\x70\0\0\x01\x02\x10\0\x4A";
-
-const SIGN: usize = 13;
-
-const SUM: usize = 22;
 
 // The setup, the value from below to above with a tick at each, and the question for the status: where the answers end.
 fn run(
@@ -52,27 +45,40 @@ fn put_messages(setup: &[u8], out: &mut [u8; 65536], at: usize) -> usize {
     put_bytes(&STATUS, out, ticked)
 }
 
-fn show(sign: u8, sum: u8, expected: &[u8], out: &mut [u8; 65536], at: usize) -> usize {
-    let mut setup = SETUP;
-    setup[SIGN] = sign;
-    setup[SUM] = sum;
+fn show_setup(setup: &[u8], expected: &[u8], out: &mut [u8; 65536], at: usize) -> usize {
     let mut state = [0u8; STATE];
     let mut memory = [0u8; MEMORY];
     let mut came = [0u8; CAME];
-    let end = run(&setup, &mut state, &mut memory, &mut came);
+    let end = run(setup, &mut state, &mut memory, &mut came);
     let left = Left {
         address: KEPT,
         value: memory[KEPT],
         said: 0x80,
     };
-    let shown = put_messages(&setup, out, at);
+    let shown = put_messages(setup, out, at);
     put_outcome(&came, end, expected, left, out, shown)
 }
 
-// With sign 0 it fires, with sign 1 it does not.
+fn show_line(line: &[u8], out: &mut [u8; 65536], at: usize) -> usize {
+    let mut setup = [0u8; 32];
+    let mut expected = [0u8; 16];
+    let read = read_messages(line, 0, &mut setup, &mut expected);
+    let given = read.given;
+    let wanted = read.wanted;
+    show_setup(&setup[0..given], &expected[0..wanted], out, at)
+}
+
+// Rising, four samples, post-trigger and divider 0, the trigger of two bytes at 16, and the same two bytes recorded. With sign 0 it
+// fires, with sign 1 it does not.
 pub fn show_signs(out: &mut [u8; 65536], at: usize) -> usize {
-    let fires = [0x2B, 0x00, 0x00, 0x2B, 0x02, 0xFE];
-    let runs = [0x2B, 0x00, 0x00, 0x2B, 0x01, 0xFF];
-    let unsigned = show(0, 0x4A, &fires, out, at);
-    show(1, 0x49, &runs, out, unsigned)
+    let unsigned = show_line(
+        b"2B 09 13 01 04 00 00 00 00 00 10 00 02 00 00 70 00 00 01 02 10 00 4A > 2B 00 00 2B 02 FE",
+        out,
+        at,
+    );
+    show_line(
+        b"2B 09 13 01 04 00 00 00 00 00 10 00 02 01 00 70 00 00 01 02 10 00 49 > 2B 00 00 2B 01 FF",
+        out,
+        unsigned,
+    )
 }

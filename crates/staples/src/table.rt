@@ -3,27 +3,13 @@ ghost use Prim.Native.Nat.{_≤_, _<_};
 ghost use lib.ListN.{length};
 use crate::case::Case;
 use crate::case::show;
+use crate::messages::mark_from;
+use crate::messages::read_messages;
 use crate::target::MEMORY;
 use words::operands::ByteRead;
 use words::operands::NumberRead;
 use words::operands::read_byte;
-use words::operands::read_bytes;
 use words::operands::read_number;
-
-// Where a mark stands from a place on, or else the end.
-fn mark_from(text: &[u8], from: usize, mark: u8) -> usize
-    requires { ⌜ from ≤ length (now text) ⌝ }
-    ensures { λ r. ⌜ (from ≤ r) × (r ≤ length (now (text .entry))) ⌝ }
-{
-    let mut i = from;
-    while i < text.len() {
-        if text[i] == mark {
-            return i;
-        }
-        i += 1;
-    }
-    i
-}
 
 // The messages of a line, whose first stands from a place on.
 fn show_messages(case: Case, line: &[u8], from: usize, out: &mut [u8; 65536], at: usize) -> usize
@@ -31,12 +17,10 @@ fn show_messages(case: Case, line: &[u8], from: usize, out: &mut [u8; 65536], at
 {
     let mut wire = [0u8; 16];
     let mut expected = [0u8; 16];
-    let back = mark_from(line, 0, b'>');
-    let given = read_bytes(&line[0..back], from, &mut wire);
-    let wanted = read_bytes(&line[back..], 1, &mut expected);
-    let given_end = given.count;
-    let wanted_end = wanted.count;
-    show(case, &wire[0..given_end], &expected[0..wanted_end], out, at)
+    let read = read_messages(line, from, &mut wire, &mut expected);
+    let given = read.given;
+    let wanted = read.wanted;
+    show(case, &wire[0..given], &expected[0..wanted], out, at)
 }
 
 // A line that names no case is skipped.

@@ -2,8 +2,8 @@
 use Prim.Native.Nat.{_-_, _≤_}
 use borrow.Author.Needs.{needs}
 use lib.ListN.{length}
-use Rattle.staples.proofs.table.mark_from.Statement.{statement}
-use Rattle.staples.proofs.table.mark_from.Tie as tie
+use Rattle.staples.proofs.messages.mark_from.Statement.{statement}
+use Rattle.staples.proofs.messages.mark_from.Tie as tie
 
 abbrev Inv-loop : tie.InvT-loop
 Inv-loop text from mark i₀ i = (from ≤ i) × (i ≤ length text)
