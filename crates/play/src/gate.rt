@@ -2,6 +2,7 @@
 ghost use Prim.Native.Nat.{_≤_};
 ghost use lib.ListN.{length};
 ghost use Rattle.play.specs.Bounds.{Bounded};
+use crate::lengths::ANSWER;
 use crate::lengths::MEMORY;
 use crate::lengths::STATE;
 use crate::order::Order;
@@ -24,6 +25,7 @@ fn put_answer(index: u64, answer: &[u8], length: usize, out: &mut [u8; 65536], a
     put(b'\n', out, shown)
 }
 
+// No byte and no tick is refused: the state has been through the calls alone since reset, and every block has its length.
 fn give_byte(
     index: u64,
     byte: u8,
@@ -32,7 +34,7 @@ fn give_byte(
     out: &mut [u8; 65536],
     at: usize,
 ) -> usize {
-    let mut answer = [0u8; 132];
+    let mut answer = [0u8; ANSWER];
     let taken = log_gate_byte(state, byte, memory, &mut answer);
     put_answer(index, &answer, taken.length, out, at)
 }

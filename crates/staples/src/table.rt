@@ -1,4 +1,5 @@
-// Cases 1 to 12, a line each: the case, the address of a byte and what it is before and after, what goes over the wire, and what comes back.
+// Cases 1 to 12, each a line of the table: the case, the address of a byte of the memory and what it is before and after, what goes
+// over the wire, and what comes back.
 ghost use Prim.Native.Nat.{_≤_, _<_};
 ghost use lib.ListN.{length};
 use crate::case::Case;
