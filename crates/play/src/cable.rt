@@ -2,9 +2,9 @@
 ghost use Prim.Native.Nat.{_≤_};
 ghost use Rattle.play.specs.Bounds.{Bounded};
 use crate::lengths::LENT;
-use crate::lengths::READER;
 use crate::order::Order;
 use line::Written;
+use log_gate::LOG_GATE_READER;
 use log_gate::log_gate_reader_begin;
 use log_gate::log_gate_reader_byte;
 use log_gate::log_gate_write_answer;
@@ -52,7 +52,12 @@ fn write(letter: u8, code: u8, body: &[u8], room: usize, out: &mut [u8; 65536], 
     put_writing(letter, code, body, &mut lent[0..room], out, at)
 }
 
-fn begin(expected: u64, reader: &mut [u8; READER], out: &mut [u8; 65536], at: usize) -> usize {
+fn begin(
+    expected: u64,
+    reader: &mut [u8; LOG_GATE_READER],
+    out: &mut [u8; 65536],
+    at: usize,
+) -> usize {
     let refusal = log_gate_reader_begin(reader, expected as usize);
     let named = put_text(b"E ", out, at);
     let refused = put_decimal(refusal as u64, out, named);
@@ -86,7 +91,7 @@ fn put_read(index: u64, read: ReadByte, lent: &[u8], out: &mut [u8; 65536], at: 
 fn put_reading(
     index: u64,
     byte: u8,
-    reader: &mut [u8; READER],
+    reader: &mut [u8; LOG_GATE_READER],
     lent: &mut [u8],
     out: &mut [u8; 65536],
     at: usize,
@@ -99,7 +104,7 @@ fn read_byte(
     index: u64,
     byte: u8,
     room: usize,
-    reader: &mut [u8; READER],
+    reader: &mut [u8; LOG_GATE_READER],
     out: &mut [u8; 65536],
     at: usize,
 ) -> usize
@@ -114,7 +119,7 @@ fn read(
     first: u64,
     bytes: &[u8],
     room: usize,
-    reader: &mut [u8; READER],
+    reader: &mut [u8; LOG_GATE_READER],
     out: &mut [u8; 65536],
     from: usize,
 ) -> usize
@@ -136,7 +141,7 @@ pub fn carry_out(
     order: Order,
     first: u64,
     bytes: &[u8],
-    reader: &mut [u8; READER],
+    reader: &mut [u8; LOG_GATE_READER],
     out: &mut [u8; 65536],
     at: usize,
 ) -> usize

@@ -2,10 +2,10 @@
 ghost use Prim.Native.Nat.{_≤_};
 ghost use lib.ListN.{length};
 ghost use Rattle.play.specs.Bounds.{Bounded};
-use crate::lengths::ANSWER;
-use crate::lengths::MEMORY;
-use crate::lengths::STATE;
 use crate::order::Order;
+use log_gate::LOG_GATE_ANSWER_ROOM;
+use log_gate::LOG_GATE_MEMORY;
+use log_gate::LOG_GATE_STATE;
 use log_gate::log_gate_byte;
 use log_gate::log_gate_tick;
 use script::output::put;
@@ -29,12 +29,12 @@ fn put_answer(index: u64, answer: &[u8], length: usize, out: &mut [u8; 65536], a
 fn give_byte(
     index: u64,
     byte: u8,
-    state: &mut [u8; STATE],
-    memory: &mut [u8; MEMORY],
+    state: &mut [u8; LOG_GATE_STATE],
+    memory: &mut [u8; LOG_GATE_MEMORY],
     out: &mut [u8; 65536],
     at: usize,
 ) -> usize {
-    let mut answer = [0u8; ANSWER];
+    let mut answer = [0u8; LOG_GATE_ANSWER_ROOM];
     let taken = log_gate_byte(state, byte, memory, &mut answer);
     put_answer(index, &answer, taken.length, out, at)
 }
@@ -43,8 +43,8 @@ fn give_byte(
 fn give(
     first: u64,
     bytes: &[u8],
-    state: &mut [u8; STATE],
-    memory: &mut [u8; MEMORY],
+    state: &mut [u8; LOG_GATE_STATE],
+    memory: &mut [u8; LOG_GATE_MEMORY],
     out: &mut [u8; 65536],
     from: usize,
 ) -> usize {
@@ -59,7 +59,7 @@ fn give(
     at
 }
 
-fn tick(times: u64, state: &mut [u8; STATE], memory: &mut [u8; MEMORY]) {
+fn tick(times: u64, state: &mut [u8; LOG_GATE_STATE], memory: &mut [u8; LOG_GATE_MEMORY]) {
     let mut left = times;
     while left > 0 {
         log_gate_tick(state, memory);
@@ -68,10 +68,10 @@ fn tick(times: u64, state: &mut [u8; STATE], memory: &mut [u8; MEMORY]) {
 }
 
 // What the gate's own program writes, as far as the memory goes.
-fn poke(start: usize, bytes: &[u8], memory: &mut [u8; MEMORY]) {
+fn poke(start: usize, bytes: &[u8], memory: &mut [u8; LOG_GATE_MEMORY]) {
     let mut place = start;
     let mut i = 0;
-    while i < bytes.len() && place < MEMORY {
+    while i < bytes.len() && place < LOG_GATE_MEMORY {
         memory[place] = bytes[i];
         place += 1;
         i += 1;
@@ -92,8 +92,8 @@ pub fn carry_out(
     order: Order,
     first: u64,
     bytes: &[u8],
-    state: &mut [u8; STATE],
-    memory: &mut [u8; MEMORY],
+    state: &mut [u8; LOG_GATE_STATE],
+    memory: &mut [u8; LOG_GATE_MEMORY],
     out: &mut [u8; 65536],
     at: usize,
 ) -> usize
@@ -115,7 +115,12 @@ pub fn carry_out(
 }
 
 // The digest of the whole memory ends the output of a script that has a gate.
-pub fn put_digest(concerned: u8, memory: &[u8; MEMORY], out: &mut [u8; 65536], at: usize) -> usize {
+pub fn put_digest(
+    concerned: u8,
+    memory: &[u8; LOG_GATE_MEMORY],
+    out: &mut [u8; 65536],
+    at: usize,
+) -> usize {
     if concerned == 0 {
         return at;
     }

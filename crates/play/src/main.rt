@@ -9,10 +9,10 @@ mod play;
 ghost use Rattle.play.specs.Bounds.{Bounded};
 use complaint::complain;
 use lengths::BYTES;
-use lengths::MEMORY;
-use lengths::READER;
-use lengths::STATE;
 use lengths::TEXT;
+use log_gate::LOG_GATE_MEMORY;
+use log_gate::LOG_GATE_READER;
+use log_gate::LOG_GATE_STATE;
 use log_gate::log_gate_reader_begin;
 use log_gate::log_gate_reset;
 use order::Order;
@@ -51,9 +51,9 @@ fn turn(
     run: Run,
     text: &mut [u8],
     bytes: &mut [u8; BYTES],
-    state: &mut [u8; STATE],
-    memory: &mut [u8; MEMORY],
-    reader: &mut [u8; READER],
+    state: &mut [u8; LOG_GATE_STATE],
+    memory: &mut [u8; LOG_GATE_MEMORY],
+    reader: &mut [u8; LOG_GATE_READER],
     out: &mut [u8; 65536],
 ) -> Run {
     let found = next_line(run.input, text);
@@ -84,9 +84,9 @@ fn turn(
 fn play_all(
     text: &mut [u8; TEXT],
     bytes: &mut [u8; BYTES],
-    state: &mut [u8; STATE],
-    memory: &mut [u8; MEMORY],
-    reader: &mut [u8; READER],
+    state: &mut [u8; LOG_GATE_STATE],
+    memory: &mut [u8; LOG_GATE_MEMORY],
+    reader: &mut [u8; LOG_GATE_READER],
     out: &mut [u8; 65536],
 ) {
     let mut run = Run {
@@ -106,9 +106,9 @@ fn play_all(
 fn main() {
     let mut text = [0u8; TEXT];
     let mut bytes = [0u8; BYTES];
-    let mut state = [0u8; STATE];
-    let mut memory = [0u8; MEMORY];
-    let mut reader = [0u8; READER];
+    let mut state = [0u8; LOG_GATE_STATE];
+    let mut memory = [0u8; LOG_GATE_MEMORY];
+    let mut reader = [0u8; LOG_GATE_READER];
     let mut out = [0u8; 65536];
     log_gate_reset(&mut state);
     log_gate_reader_begin(&mut reader, 0);

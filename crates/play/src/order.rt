@@ -9,7 +9,7 @@ use crate::complaint::ROOM;
 use crate::complaint::SURPLUS;
 use crate::lengths::BYTES;
 use crate::lengths::LENT;
-use crate::lengths::MEMORY;
+use log_gate::LOG_GATE_MEMORY;
 use words::operands::ByteRead;
 use words::operands::NumberRead;
 use words::operands::read_byte;
@@ -123,10 +123,10 @@ fn with_part(order: Order, from: u64, count: u64) -> Order
     requires { ⌜ Bounded order ⌝ }
     ensures { λ r. ⌜ Bounded r ⌝ }
 {
-    if from > MEMORY as u64 {
+    if from > LOG_GATE_MEMORY as u64 {
         return refused(RANGE);
     }
-    if count > MEMORY as u64 - from {
+    if count > LOG_GATE_MEMORY as u64 - from {
         return refused(RANGE);
     }
     let mut meant = order;

@@ -4,10 +4,10 @@ ghost use lib.ListN.{length};
 ghost use Rattle.play.specs.Bounds.{Bounded};
 use crate::cable;
 use crate::gate;
-use crate::lengths::MEMORY;
-use crate::lengths::READER;
-use crate::lengths::STATE;
 use crate::order::Order;
+use log_gate::LOG_GATE_MEMORY;
+use log_gate::LOG_GATE_READER;
+use log_gate::LOG_GATE_STATE;
 
 pub struct Play {
     // how many bytes the gate was given
@@ -51,9 +51,9 @@ pub fn carry_out(
     play: Play,
     order: Order,
     bytes: &[u8],
-    state: &mut [u8; STATE],
-    memory: &mut [u8; MEMORY],
-    reader: &mut [u8; READER],
+    state: &mut [u8; LOG_GATE_STATE],
+    memory: &mut [u8; LOG_GATE_MEMORY],
+    reader: &mut [u8; LOG_GATE_READER],
     out: &mut [u8; 65536],
 ) -> Play
     requires { ⌜ Bounded order × (length (now bytes) ≡ 524288) ⌝ }

@@ -4,9 +4,9 @@ use crate::show::Left;
 use crate::show::put_case;
 use crate::show::put_outcome;
 use crate::target::CAME;
-use crate::target::MEMORY;
-use crate::target::STATE;
 use crate::target::give;
+use log_gate::LOG_GATE_MEMORY;
+use log_gate::LOG_GATE_STATE;
 use log_gate::log_gate_reset;
 
 // Its number, and the byte of the memory that it names, before and after. The others are zero before.
@@ -21,8 +21,8 @@ pub fn show(case: Case, wire: &[u8], expected: &[u8], out: &mut [u8; 65536], at:
     requires { ⌜ case .address < 16384 ⌝ }
 {
     let address = case.address;
-    let mut state = [0u8; STATE];
-    let mut memory = [0u8; MEMORY];
+    let mut state = [0u8; LOG_GATE_STATE];
+    let mut memory = [0u8; LOG_GATE_MEMORY];
     let mut came = [0u8; CAME];
     log_gate_reset(&mut state);
     memory[address] = case.before;

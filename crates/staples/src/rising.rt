@@ -6,9 +6,9 @@ use crate::show::Left;
 use crate::show::put_case;
 use crate::show::put_outcome;
 use crate::target::CAME;
-use crate::target::MEMORY;
-use crate::target::STATE;
 use crate::target::give;
+use log_gate::LOG_GATE_MEMORY;
+use log_gate::LOG_GATE_STATE;
 use log_gate::log_gate_reset;
 use log_gate::log_gate_tick;
 use script::output::put_bytes;
@@ -24,8 +24,8 @@ const STATUS: [u8; 3] = [0x2B, 0xC3, 0x3D];
 // The setup, the value from below to above with a tick at each, and the question for the status: where the answers end.
 fn run(
     setup: &[u8],
-    state: &mut [u8; STATE],
-    memory: &mut [u8; MEMORY],
+    state: &mut [u8; LOG_GATE_STATE],
+    memory: &mut [u8; LOG_GATE_MEMORY],
     came: &mut [u8; CAME],
 ) -> usize
     ensures { λ r. ⌜ r ≤ 600 ⌝ }
@@ -46,8 +46,8 @@ fn put_messages(setup: &[u8], out: &mut [u8; 65536], at: usize) -> usize {
 }
 
 fn show_setup(setup: &[u8], expected: &[u8], out: &mut [u8; 65536], at: usize) -> usize {
-    let mut state = [0u8; STATE];
-    let mut memory = [0u8; MEMORY];
+    let mut state = [0u8; LOG_GATE_STATE];
+    let mut memory = [0u8; LOG_GATE_MEMORY];
     let mut came = [0u8; CAME];
     let end = run(setup, &mut state, &mut memory, &mut came);
     let left = Left {

@@ -6,7 +6,7 @@ use crate::case::Case;
 use crate::case::show;
 use crate::messages::mark_from;
 use crate::messages::read_messages;
-use crate::target::MEMORY;
+use log_gate::LOG_GATE_MEMORY;
 use words::operands::ByteRead;
 use words::operands::NumberRead;
 use words::operands::read_byte;
@@ -50,7 +50,7 @@ fn show_line(line: &[u8], out: &mut [u8; 65536], at: usize) -> usize {
     let ByteRead::Is { value: after, next } = read_byte(line, begun) else {
         return at;
     };
-    if address >= MEMORY as u64 {
+    if address >= LOG_GATE_MEMORY as u64 {
         return at;
     }
     let case = Case {

@@ -1,12 +1,9 @@
 // The target over lent blocks, and the answers that come back one behind the other.
 ghost use Prim.Native.Nat.{_≤_};
 ghost use lib.ListN.{length};
+use log_gate::LOG_GATE_MEMORY;
+use log_gate::LOG_GATE_STATE;
 use log_gate::log_gate_byte;
-
-// LOG_GATE_STATE and LOG_GATE_MEMORY of include/log_gate.h.
-pub const STATE: usize = 181;
-
-pub const MEMORY: usize = 16384;
 
 // Room for all answers of a case.
 pub const CAME: usize = 600;
@@ -25,8 +22,8 @@ fn further(at: usize, length: usize, room: usize) -> usize
 
 fn give_byte(
     byte: u8,
-    state: &mut [u8; STATE],
-    memory: &mut [u8; MEMORY],
+    state: &mut [u8; LOG_GATE_STATE],
+    memory: &mut [u8; LOG_GATE_MEMORY],
     came: &mut [u8],
     at: usize,
 ) -> usize
@@ -40,8 +37,8 @@ fn give_byte(
 // Bytes one by one, with their answers from a place on: where these end.
 pub fn give(
     wire: &[u8],
-    state: &mut [u8; STATE],
-    memory: &mut [u8; MEMORY],
+    state: &mut [u8; LOG_GATE_STATE],
+    memory: &mut [u8; LOG_GATE_MEMORY],
     came: &mut [u8; CAME],
     from: usize,
 ) -> usize
