@@ -1,4 +1,4 @@
-# Wrong usage of ./run and ./bench gets one plain sentence on standard error, nothing on standard output, and a status that is not 0.
+# Wrong usage of ./run, ./bench and ./test gets one plain sentence on standard error, nothing on standard output, and a status that is not 0.
 refuses() {
     if "$@" >$built/said 2>$built/complained; then fail "'$*' is taken"; fi
     [ ! -s $built/said ] || fail "'$*' is refused and prints all the same"
@@ -16,5 +16,7 @@ refuses ./run play crates/play/stdin crates/play/stdin
 refuses ./bench $built/no-such-archive
 refuses ./bench one two
 refuses tests/run.sh
+refuses ./test fly
+refuses ./test long times
 ./run --help | grep -q '^\./run play FILE ' || fail "./run --help does not list what it can do"
 echo "usage: wrong words are refused with a sentence"

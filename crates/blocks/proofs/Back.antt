@@ -4,10 +4,10 @@ use mathlib.Core.Path.{_≡_, refl, sym, ap, _∙_}
 use mathlib.Core.Bool.{true}
 use mathlib.Core.List.{List, [], _∷_, _++_, append-assoc}
 use Prim.Native.Nat.{ℕ, zero, suc, _+_, _/_, _^_, _<_, _≤_}
-use native.Mathlib.Nat.{pow-suc}
 use native.Mathlib.Omega.{arith}
 use lib.ListN.{length, getD, take, drop, length-append}
 use lib.Seq.{sets, sets-eq, drop-at, take-at, drop-drop, getD-drop}
+use Rattle.document.specs.Numbers.{mostData}
 use Rattle.document.specs.Areas.{bytesAt}
 use Rattle.document.specs.Values.{number, littleEndian}
 use Rattle.document.specs.declared.Variable.{Variable}
@@ -16,45 +16,16 @@ use Rattle.variables.specs.declared.Variables.{Variables}
 use Rattle.link.specs.declared.Receiver.{Receiver}
 use Rattle.scope.specs.declared.Scope.{Scope}
 use Rattle.plans.specs.declared.plan.Plan.{Plan}
-use Rattle.recorder.specs.declared.state.Run.{Run}
+use Rattle.runs.specs.declared.run.Run.{Run}
 use Rattle.recorder.specs.declared.state.Recorder.{Recorder}
-use Rattle.target.specs.declared.state.Target.{Target}
-use Rattle.host.specs.declared.reader.AnswerReader.{AnswerReader}
-use Rattle.blocks.specs.Layout.{decodedReceiver, decodedDefinitions, decodedScope, decodedPlan, decodedRun, decodedRecorder, decoded, decodedReader, encodedReceiver, encodedDefinitions, encodedScope, encodedRun, encodedRecorder, encoded, encodedReader}
-use Rattle.blocks.proofs.Parts.{receiver-length, definitions-length, scope-length, recorder-length, reader-length}
+use Rattle.document.proofs.Values.{number-back}
+use Rattle.state.specs.State.{Target}
+use Rattle.state.specs.Widths.{VariablesFit, PlanFits, RunFits, TargetFits}
+use Rattle.blocks.specs.Places.{definitionsLength, variablesLength, numbersLength, planLength, bodyPlace, scopePlace, recorderPlace, recordedPlace, runPlace, stateLength}
+use Rattle.blocks.specs.Layout.{decodedReceiver, decodedDefinitions, decodedScope, decodedPlan, decodedRun, decodedRecorder, decoded, encodedReceiver, encodedDefinitions, encodedScope, encodedRun, encodedRecorder, encoded}
+use Rattle.blocks.proofs.Parts.{receiver-length, definitions-length, scope-length, recorder-length}
 
--- ---- the states that fit: numbers of their widths, lists of their lengths
-
-pub record VariablesFit (v : Variables) : Type 0 where
-  pub eight : length (v .list) ≡ 8
-  pub addresses : (i : ℕ) → getD (v .list) i (record { address = 0; size = 0 }) .address < 256 ^ 4
-
-pub record PlanFits (p : Plan) : Type 0 where
-  pub samples : p .samples < 256 ^ 2
-  pub after : p .«post_trigger» < 256 ^ 2
-  pub divider : p .divider < 256 ^ 2
-  pub address : p .address < 256 ^ 4
-  pub threshold : p .threshold < 256 ^ 4
-  pub variables : VariablesFit (p .variables)
-
-pub record RunFits (r : Run) : Type 0 where
-  pub wait : r .wait < 256 ^ 2
-  pub place : r .place < 256 ^ 2
-  pub value : r .value < 256 ^ 4
-
-pub record TargetFits (t : Target) : Type 0 where
-  pub body : length (t .body) ≡ 64
-  pub scope : VariablesFit (t .instruments .scope .variables)
-  pub plan : PlanFits (t .instruments .recorder .plan)
-  pub run : RunFits (t .instruments .recorder .run)
-
--- ---- numbers and definitions
-
-pub number-back : (n x : ℕ) → x < 256 ^ n → number (littleEndian n x) ≡ x
-number-back zero x h = omega arith
-number-back (suc n) x h =
-    let small : x / 256 < 256 ^ n = omega (arith, pow-suc 256 n) in
-    omega (arith, number-back n (x / 256) small)
+-- ---- definitions
 
 definitions-back : (vs : List Variable) (rest : List ℕ) → ((i : ℕ) → getD vs i (record { address = 0; size = 0 }) .address < 256 ^ 4)
     → definitionsIn true (length vs) (encodedDefinitions vs ++ rest) ≡ vs
@@ -72,30 +43,16 @@ receiver-back : (r : Receiver) (rest : List ℕ) → decodedReceiver (encodedRec
 unfolding decodedReceiver encodedReceiver
 receiver-back r rest = refl
 
-pub reader-back : (r : AnswerReader) (rest : List ℕ) → length (r .body) ≡ 64 → decodedReader (encodedReader r ++ rest) ≡ r
-unfolding decodedReader encodedReader
-reader-back r rest e =
-    λ i.
-    record {
-      waiting = r .waiting;
-      phase = r .phase;
-      status = r .status;
-      expected = r .expected;
-      have = r .have;
-      sum = r .sum;
-      body = take-at (r .body) rest 64 e i;
-    }
-
-scope-back : (l rest : List ℕ) (s : Scope) → VariablesFit (s .variables) → drop 70 l ≡ encodedScope s ++ rest → decodedScope l ≡ s
+scope-back : (l rest : List ℕ) (s : Scope) → VariablesFit (s .variables) → drop scopePlace l ≡ encodedScope s ++ rest → decodedScope l ≡ s
 unfolding decodedScope encodedScope decodedDefinitions
 scope-back l rest s fits e = λ i. record { variables = record { count = counted i; list = listed i } }
   where
-    counted : getD l 70 0 ≡ s .variables .count
-    counted = sym (getD-drop 70 l 0 0) ∙ ap (λ (k : List ℕ). getD k 0 0) e
+    counted : getD l scopePlace 0 ≡ s .variables .count
+    counted = sym (getD-drop scopePlace l 0 0) ∙ ap (λ (k : List ℕ). getD k 0 0) e
 
-    listed : definitionsIn true 8 (drop 71 l) ≡ s .variables .list
+    listed : definitionsIn true 8 (drop (scopePlace + 1) l) ≡ s .variables .list
     listed =
-        ap (definitionsIn true 8) (sym (drop-drop 1 70 l) ∙ ap (drop 1) e)
+        ap (definitionsIn true 8) (sym (drop-drop 1 scopePlace l) ∙ ap (drop 1) e)
         ∙ eight-back (s .variables .list) rest (fits .eight) (fits .addresses)
 
 -- a byte and a number behind a place from which the block is known
@@ -105,12 +62,12 @@ byte-there l q base k x e h = sym (getD-drop base l k 0) ∙ ap (λ (m : List �
 number-there : (l q : List ℕ) (base k n x : ℕ) → drop base l ≡ q → number (bytesAt q k n) ≡ x → number (bytesAt l (base + k) n) ≡ x
 number-there l q base k n x e h = ap (λ (m : List ℕ). number (take n m)) (sym (drop-drop k base l) ∙ ap (drop k) e) ∙ h
 
-module _ (l rest : List ℕ) (r : Run) (e : drop 170 l ≡ encodedRun r ++ rest) where
-  byte-of-run : (k x : ℕ) → getD (encodedRun r ++ rest) k 0 ≡ x → getD l (170 + k) 0 ≡ x
-  byte-of-run k x h = byte-there l (encodedRun r ++ rest) 170 k x e h
+module _ (l rest : List ℕ) (r : Run) (e : drop runPlace l ≡ encodedRun r ++ rest) where
+  byte-of-run : (k x : ℕ) → getD (encodedRun r ++ rest) k 0 ≡ x → getD l (runPlace + k) 0 ≡ x
+  byte-of-run k x h = byte-there l (encodedRun r ++ rest) runPlace k x e h
 
-  number-of-run : (k n x : ℕ) → number (bytesAt (encodedRun r ++ rest) k n) ≡ x → number (bytesAt l (170 + k) n) ≡ x
-  number-of-run k n x h = number-there l (encodedRun r ++ rest) 170 k n x e h
+  number-of-run : (k n x : ℕ) → number (bytesAt (encodedRun r ++ rest) k n) ≡ x → number (bytesAt l (runPlace + k) n) ≡ x
+  number-of-run k n x h = number-there l (encodedRun r ++ rest) runPlace k n x e h
 
   run-back : RunFits r → decodedRun l ≡ r
   unfolding encodedRun
@@ -125,31 +82,31 @@ module _ (l rest : List ℕ) (r : Run) (e : drop 170 l ≡ encodedRun r ++ rest)
         value = number-of-run 7 4 (r .value) (number-back 4 (r .value) (fits .value)) i;
       }
 
-module _ (l rest : List ℕ) (r : Recorder) (e : drop 111 l ≡ encodedRecorder r ++ rest) where
-  byte-of-plan : (k x : ℕ) → getD (encodedRecorder r ++ rest) k 0 ≡ x → getD l (111 + k) 0 ≡ x
-  byte-of-plan k x h = byte-there l (encodedRecorder r ++ rest) 111 k x e h
+module _ (l rest : List ℕ) (r : Recorder) (e : drop recorderPlace l ≡ encodedRecorder r ++ rest) where
+  byte-of-plan : (k x : ℕ) → getD (encodedRecorder r ++ rest) k 0 ≡ x → getD l (recorderPlace + k) 0 ≡ x
+  byte-of-plan k x h = byte-there l (encodedRecorder r ++ rest) recorderPlace k x e h
 
-  number-of-plan : (k n x : ℕ) → number (bytesAt (encodedRecorder r ++ rest) k n) ≡ x → number (bytesAt l (111 + k) n) ≡ x
-  number-of-plan k n x h = number-there l (encodedRecorder r ++ rest) 111 k n x e h
+  number-of-plan : (k n x : ℕ) → number (bytesAt (encodedRecorder r ++ rest) k n) ≡ x → number (bytesAt l (recorderPlace + k) n) ≡ x
+  number-of-plan k n x h = number-there l (encodedRecorder r ++ rest) recorderPlace k n x e h
 
   module _ (fits : PlanFits (r .plan)) where
-    listed : decodedDefinitions l 130 ≡ r .plan .variables .list
+    listed : decodedDefinitions l (recordedPlace + 1) ≡ r .plan .variables .list
     unfolding decodedDefinitions encodedRecorder
     listed =
         ap (definitionsIn true 8)
-        (sym (drop-drop 19 111 l)
-        ∙ ap (drop 19) e
+        (sym (drop-drop (2 + numbersLength) recorderPlace l)
+        ∙ ap (drop (2 + numbersLength)) e
         ∙ append-assoc (encodedDefinitions (r .plan .variables .list)) (encodedRun (r .run)) rest)
         ∙ eight-back (r .plan .variables .list) (encodedRun (r .run) ++ rest) (fits .variables .eight) (fits .variables .addresses)
 
     -- what stands behind the definitions
-    behind : drop 170 l ≡ encodedRun (r .run) ++ rest
+    behind : drop runPlace l ≡ encodedRun (r .run) ++ rest
     unfolding encodedRecorder
     behind =
-        sym (drop-drop 59 111 l)
-        ∙ ap (drop 59) e
-        ∙ ap (drop 40) (append-assoc (encodedDefinitions (r .plan .variables .list)) (encodedRun (r .run)) rest)
-        ∙ drop-at (encodedDefinitions (r .plan .variables .list)) (encodedRun (r .run) ++ rest) 40 (omega (arith, definitions-length (r .plan .variables .list), fits .variables .eight))
+        sym (drop-drop (1 + planLength) recorderPlace l)
+        ∙ ap (drop (1 + planLength)) e
+        ∙ ap (drop definitionsLength) (append-assoc (encodedDefinitions (r .plan .variables .list)) (encodedRun (r .run)) rest)
+        ∙ drop-at (encodedDefinitions (r .plan .variables .list)) (encodedRun (r .run) ++ rest) definitionsLength (omega (arith, definitions-length (r .plan .variables .list), fits .variables .eight))
 
     plan-back : decodedPlan l ≡ r .plan
     unfolding encodedRecorder
@@ -184,7 +141,7 @@ decoded-encoded t rest fits =
       instruments =
           record {
             scope = scope-back l (encodedRecorder (t .instruments .recorder) ++ rest) (t .instruments .scope) (fits .scope) behind-body i;
-            recorder = recorder-back l rest (t .instruments .recorder) behind-scope (fits .plan) (fits .run) i;
+            recorder = recorder-back l rest (t .instruments .recorder) behind-scope (fits .recorder .plan) (fits .recorder .run) i;
           };
     }
   where
@@ -197,37 +154,32 @@ decoded-encoded t rest fits =
     parts : l ≡ encodedReceiver (t .receiver) ++ (t .body ++ instruments)
     parts = simp append-assoc
 
-    behind-receiver : drop 6 l ≡ t .body ++ instruments
-    behind-receiver = ap (drop 6) parts ∙ drop-at (encodedReceiver (t .receiver)) (t .body ++ instruments) 6 (receiver-length (t .receiver))
+    behind-receiver : drop bodyPlace l ≡ t .body ++ instruments
+    behind-receiver = ap (drop bodyPlace) parts ∙ drop-at (encodedReceiver (t .receiver)) (t .body ++ instruments) bodyPlace (receiver-length (t .receiver))
 
-    behind-body : drop 70 l ≡ instruments
-    behind-body = sym (drop-drop 64 6 l) ∙ ap (drop 64) behind-receiver ∙ drop-at (t .body) instruments 64 (fits .body)
+    behind-body : drop scopePlace l ≡ instruments
+    behind-body = sym (drop-drop mostData bodyPlace l) ∙ ap (drop mostData) behind-receiver ∙ drop-at (t .body) instruments mostData (fits .body)
 
-    behind-scope : drop 111 l ≡ encodedRecorder (t .instruments .recorder) ++ rest
+    behind-scope : drop recorderPlace l ≡ encodedRecorder (t .instruments .recorder) ++ rest
     behind-scope =
-        sym (drop-drop 41 70 l)
-        ∙ ap (drop 41) behind-body
-        ∙ drop-at (encodedScope (t .instruments .scope)) (encodedRecorder (t .instruments .recorder) ++ rest) 41 (scope-length (t .instruments .scope) (fits .scope .eight))
+        sym (drop-drop variablesLength scopePlace l)
+        ∙ ap (drop variablesLength) behind-body
+        ∙ drop-at (encodedScope (t .instruments .scope)) (encodedRecorder (t .instruments .recorder) ++ rest) variablesLength (scope-length (t .instruments .scope) (fits .scope .eight))
 
     receiver-there : decodedReceiver l ≡ t .receiver
     receiver-there = ap decodedReceiver parts ∙ receiver-back (t .receiver) (t .body ++ instruments)
 
-    body-there : bytesAt l 6 64 ≡ t .body
-    body-there = ap (take 64) behind-receiver ∙ take-at (t .body) instruments 64 (fits .body)
+    body-there : bytesAt l bodyPlace mostData ≡ t .body
+    body-there = ap (take mostData) behind-receiver ∙ take-at (t .body) instruments mostData (fits .body)
 
 -- ---- a state that was stored is the state that the block holds
 
-pub encoded-length : (t : Target) → TargetFits t → length (encoded t) ≡ 181
+pub encoded-length : (t : Target) → TargetFits t → length (encoded t) ≡ stateLength
 encoded-length t fits =
     simp length-append
-    (omega (arith, receiver-length (t .receiver), fits .body, scope-length (t .instruments .scope) (fits .scope .eight), recorder-length (t .instruments .recorder) (fits .plan .variables .eight)))
+    (omega (arith, receiver-length (t .receiver), fits .body, scope-length (t .instruments .scope) (fits .scope .eight), recorder-length (t .instruments .recorder) (fits .recorder .plan .variables .eight)))
 
-pub stored-decoded : (block : List ℕ) (t : Target) → 181 ≤ length block → TargetFits t → decoded (sets block 0 (encoded t)) ≡ t
+pub stored-decoded : (block : List ℕ) (t : Target) → stateLength ≤ length block → TargetFits t → decoded (sets block 0 (encoded t)) ≡ t
 stored-decoded block t long fits =
     ap decoded (sets-eq (encoded t) block 0 (omega (arith, encoded-length t fits)))
     ∙ decoded-encoded t (drop (0 + length (encoded t)) block) fits
-
-pub stored-reader : (block : List ℕ) (r : AnswerReader) → 70 ≤ length block → length (r .body) ≡ 64 → decodedReader (sets block 0 (encodedReader r)) ≡ r
-stored-reader block r long e =
-    ap decodedReader (sets-eq (encodedReader r) block 0 (omega (arith, reader-length r)))
-    ∙ reader-back r (drop (0 + length (encodedReader r)) block) e

@@ -4,11 +4,13 @@ use mathlib.Core.List.{List, [], _∷_, _++_}
 use Prim.Native.Nat.{ℕ, zero, suc, _+_, _<_, _≤_}
 use native.Mathlib.Omega.{arith}
 use lib.ListN.{length, getD, take}
+use Rattle.document.specs.Numbers.{mostData}
 use Rattle.document.specs.Areas.{bytesAt}
-use Rattle.recorder.specs.declared.state.Run.{Run}
-use Rattle.blocks.specs.Layout.{decodedReceiver, decodedDefinitions, decodedVariables, decodedScope, decodedPlan, decodedRecorder, decodedInstruments, decoded, decodedReader, encodedReceiver, encodedVariables, encodedScope, encodedNumbers, encodedRun, encodedRecorder, encodedInstruments, encoded, encodedReader}
-use Rattle.blocks.proofs.Ranges.{bytes-cons, bytes-append}
-use Rattle.blocks.proofs.Numbers.{number-kept}
+use Rattle.runs.specs.declared.run.Run.{Run}
+use Rattle.blocks.specs.Layout.{decodedReceiver, decodedDefinitions, decodedVariables, decodedScope, decodedPlan, decodedRecorder, decodedInstruments, decoded, encodedReceiver, encodedVariables, encodedScope, encodedNumbers, encodedRun, encodedRecorder, encodedInstruments, encoded}
+use Rattle.blocks.specs.Places.{receiverLength, definitionsLength, variablesLength, numbersLength, planLength, runLength, recorderLength, instrumentsLength, bodyPlace, scopePlace, recorderPlace, planPlace, samplesPlace, postTriggerPlace, dividerPlace, triggerAddressPlace, triggerSizePlace, signPlace, thresholdPlace, recordedPlace, runPlace, fullPlace, watchPlace, waitPlace, placePlace, valuePlace, stateLength}
+use Rattle.block_fields.proofs.Ranges.{bytes-cons, bytes-append}
+use Rattle.block_fields.proofs.Numbers.{number-kept}
 use Rattle.blocks.proofs.Definitions.{definitions-kept}
 
 -- n bytes one by one
@@ -22,71 +24,72 @@ each-bytes (suc n) l i h =
     ap (λ (k : List ℕ). getD l i 0 ∷ k) (each-bytes n l (suc i) (omega arith)) ∙ bytes-cons l i n (omega arith)
 
 module _ (l : List ℕ) (small : (i : ℕ) → getD l i 0 < 256) where
-  pub reader-kept : 70 ≤ length l → encodedReader (decodedReader l) ≡ bytesAt l 0 70
-  unfolding encodedReader decodedReader
-  reader-kept h = ap (λ (k : List ℕ). k ++ bytesAt l 6 64) (each-bytes 6 l 0 (omega arith)) ∙ bytes-append l 0 6 64
-
-  module _ (long : 181 ≤ length l) where
-    pub receiver-kept : encodedReceiver (decodedReceiver l) ≡ bytesAt l 0 6
+  module _ (long : stateLength ≤ length l) where
+    pub receiver-kept : encodedReceiver (decodedReceiver l) ≡ bytesAt l 0 receiverLength
     unfolding encodedReceiver decodedReceiver
-    receiver-kept = each-bytes 6 l 0 (omega arith)
+    receiver-kept = each-bytes receiverLength l 0 (omega arith)
 
-    variables-kept : (at : ℕ) → at + 41 ≤ length l → encodedVariables (decodedVariables l at) ≡ bytesAt l at 41
+    variables-kept : (at : ℕ) → at + variablesLength ≤ length l → encodedVariables (decodedVariables l at) ≡ bytesAt l at variablesLength
     unfolding decodedDefinitions
     variables-kept at h =
         let e : at + 1 ≡ suc at = omega arith in
-        ap (λ (k : List ℕ). getD l at 0 ∷ k) (definitions-kept 8 l (at + 1) small (omega arith) ∙ ap (λ (k : ℕ). bytesAt l k 40) e)
-        ∙ bytes-cons l at 40 (omega arith)
+        ap (λ (k : List ℕ). getD l at 0 ∷ k) (definitions-kept 8 l (at + 1) small (omega arith) ∙ ap (λ (k : ℕ). bytesAt l k definitionsLength) e)
+        ∙ bytes-cons l at definitionsLength (omega arith)
 
-    pub scope-kept : encodedScope (decodedScope l) ≡ bytesAt l 70 41
+    pub scope-kept : encodedScope (decodedScope l) ≡ bytesAt l scopePlace variablesLength
     unfolding encodedScope decodedScope
-    scope-kept = variables-kept 70 (omega arith)
+    scope-kept = variables-kept scopePlace (omega arith)
 
-    trigger-kept : getD l 123 0 ∷ getD l 124 0 ∷ bytesAt l 125 4 ≡ bytesAt l 123 6
-    trigger-kept = ap (λ (k : List ℕ). getD l 123 0 ∷ k) (bytes-cons l 124 4 (omega arith)) ∙ bytes-cons l 123 5 (omega arith)
+    trigger-kept : getD l triggerSizePlace 0 ∷ getD l signPlace 0 ∷ bytesAt l thresholdPlace 4 ≡ bytesAt l triggerSizePlace 6
+    trigger-kept = ap (λ (k : List ℕ). getD l triggerSizePlace 0 ∷ k) (bytes-cons l signPlace 4 (omega arith)) ∙ bytes-cons l triggerSizePlace 5 (omega arith)
 
-    numbers-kept : encodedNumbers (decodedPlan l) ≡ bytesAt l 112 17
+    numbers-kept : encodedNumbers (decodedPlan l) ≡ bytesAt l planPlace numbersLength
     numbers-kept =
         (λ i.
-        (getD l 112 0 ∷ number-kept l small 113 2 (omega arith) i)
-        ++ number-kept l small 115 2 (omega arith) i
-        ++ number-kept l small 117 2 (omega arith) i
-        ++ number-kept l small 119 4 (omega arith) i
-        ++ (getD l 123 0 ∷ getD l 124 0 ∷ number-kept l small 125 4 (omega arith) i))
-        ∙ (λ i. bytes-cons l 112 2 (omega arith) i ++ bytesAt l 115 2 ++ bytesAt l 117 2 ++ bytesAt l 119 4 ++ trigger-kept i)
-        ∙ (λ i. bytes-append l 112 3 2 i ++ bytesAt l 117 2 ++ bytesAt l 119 4 ++ bytesAt l 123 6)
-        ∙ (λ i. bytes-append l 112 5 2 i ++ bytesAt l 119 4 ++ bytesAt l 123 6)
-        ∙ (λ i. bytes-append l 112 7 4 i ++ bytesAt l 123 6)
-        ∙ bytes-append l 112 11 6
+        (getD l planPlace 0 ∷ number-kept l small samplesPlace 2 (omega arith) i)
+        ++ number-kept l small postTriggerPlace 2 (omega arith) i
+        ++ number-kept l small dividerPlace 2 (omega arith) i
+        ++ number-kept l small triggerAddressPlace 4 (omega arith) i
+        ++ (getD l triggerSizePlace 0 ∷ getD l signPlace 0 ∷ number-kept l small thresholdPlace 4 (omega arith) i))
+        ∙ (λ i. bytes-cons l planPlace 2 (omega arith) i ++ bytesAt l postTriggerPlace 2 ++ bytesAt l dividerPlace 2 ++ bytesAt l triggerAddressPlace 4 ++ trigger-kept i)
+        ∙ (λ i. bytes-append l planPlace 3 2 i ++ bytesAt l dividerPlace 2 ++ bytesAt l triggerAddressPlace 4 ++ bytesAt l triggerSizePlace 6)
+        ∙ (λ i. bytes-append l planPlace 5 2 i ++ bytesAt l triggerAddressPlace 4 ++ bytesAt l triggerSizePlace 6)
+        ∙ (λ i. bytes-append l planPlace 7 4 i ++ bytesAt l triggerSizePlace 6)
+        ∙ bytes-append l planPlace 11 6
 
     -- a recorder with another run
     pub recorder-kept : (run : Run)
-        → encodedRecorder (record { ready = decodedRecorder l .ready; plan = decodedRecorder l .plan; run = run }) ≡ bytesAt l 111 59 ++ encodedRun run
+        → encodedRecorder (record { ready = decodedRecorder l .ready; plan = decodedRecorder l .plan; run = run }) ≡ bytesAt l recorderPlace (1 + planLength) ++ encodedRun run
     unfolding encodedRecorder decodedRecorder
     recorder-kept run =
-        (λ i. (getD l 111 0 ∷ numbers-kept i) ++ variables-kept 129 (omega arith) i ++ encodedRun run)
-        ∙ (λ i. bytes-cons l 111 17 (omega arith) i ++ bytesAt l 129 41 ++ encodedRun run)
-        ∙ (λ i. bytes-append l 111 18 41 i ++ encodedRun run)
+        (λ i. (getD l recorderPlace 0 ∷ numbers-kept i) ++ variables-kept recordedPlace (omega arith) i ++ encodedRun run)
+        ∙ (λ i. bytes-cons l recorderPlace numbersLength (omega arith) i ++ bytesAt l recordedPlace variablesLength ++ encodedRun run)
+        ∙ (λ i. bytes-append l recorderPlace (1 + numbersLength) variablesLength i ++ encodedRun run)
 
-    run-kept : encodedRun (decodedRecorder l .run) ≡ bytesAt l 170 11
+    run-kept : encodedRun (decodedRecorder l .run) ≡ bytesAt l runPlace runLength
     unfolding encodedRun decodedRecorder
     run-kept =
         (λ i.
-        (getD l 170 0 ∷ getD l 171 0 ∷ getD l 172 0 ∷ number-kept l small 173 2 (omega arith) i)
-        ++ number-kept l small 175 2 (omega arith) i
-        ++ number-kept l small 177 4 (omega arith) i)
-        ∙ (λ i. each-bytes 3 l 170 (omega arith) i ++ bytesAt l 173 2 ++ bytesAt l 175 2 ++ bytesAt l 177 4)
-        ∙ (λ i. bytes-append l 170 3 2 i ++ bytesAt l 175 2 ++ bytesAt l 177 4)
-        ∙ (λ i. bytes-append l 170 5 2 i ++ bytesAt l 177 4)
-        ∙ bytes-append l 170 7 4
+        (getD l runPlace 0 ∷ getD l fullPlace 0 ∷ getD l watchPlace 0 ∷ number-kept l small waitPlace 2 (omega arith) i)
+        ++ number-kept l small placePlace 2 (omega arith) i
+        ++ number-kept l small valuePlace 4 (omega arith) i)
+        ∙ (λ i. each-bytes 3 l runPlace (omega arith) i ++ bytesAt l waitPlace 2 ++ bytesAt l placePlace 2 ++ bytesAt l valuePlace 4)
+        ∙ (λ i. bytes-append l runPlace 3 2 i ++ bytesAt l placePlace 2 ++ bytesAt l valuePlace 4)
+        ∙ (λ i. bytes-append l runPlace 5 2 i ++ bytesAt l valuePlace 4)
+        ∙ bytes-append l runPlace 7 4
 
-    pub instruments-kept : encodedInstruments (decodedInstruments l) ≡ bytesAt l 70 111
+    pub same-recorder-kept : encodedRecorder (decodedRecorder l) ≡ bytesAt l recorderPlace recorderLength
+    same-recorder-kept =
+        recorder-kept (decodedRecorder l .run)
+        ∙ ap (λ (k : List ℕ). bytesAt l recorderPlace (1 + planLength) ++ k) run-kept
+        ∙ bytes-append l recorderPlace (1 + planLength) runLength
+
+    pub instruments-kept : encodedInstruments (decodedInstruments l) ≡ bytesAt l scopePlace instrumentsLength
     instruments-kept =
-        (λ i. scope-kept i ++ (recorder-kept (decodedRecorder l .run) ∙ ap (λ (k : List ℕ). bytesAt l 111 59 ++ k) run-kept ∙ bytes-append l 111 59 11) i)
-        ∙ bytes-append l 70 41 70
+        (λ i. scope-kept i ++ same-recorder-kept i) ∙ bytes-append l scopePlace variablesLength recorderLength
 
     -- the whole
-    pub encoded-decoded : encoded (decoded l) ≡ take 181 l
+    pub encoded-decoded : encoded (decoded l) ≡ take stateLength l
     encoded-decoded =
-        (λ i. receiver-kept i ++ (ap (λ (k : List ℕ). bytesAt l 6 64 ++ k) instruments-kept ∙ bytes-append l 6 64 111) i)
-        ∙ bytes-append l 0 6 175
+        (λ i. receiver-kept i ++ (ap (λ (k : List ℕ). bytesAt l bodyPlace mostData ++ k) instruments-kept ∙ bytes-append l bodyPlace mostData instrumentsLength) i)
+        ∙ bytes-append l 0 receiverLength (mostData + instrumentsLength)

@@ -1,7 +1,6 @@
-pub mod Ranges
-pub mod Numbers
-pub mod Definitions
-pub mod Within
+-- Blocks and states: each is the other's way back.
 pub mod Parts
+pub mod Definitions
 pub mod Kept
 pub mod Back
+pub mod Stored

@@ -10,48 +10,44 @@ use Rattle.variables.specs.declared.Variables.{Variables}
 use Rattle.link.specs.declared.Receiver.{Receiver}
 use Rattle.scope.specs.declared.Scope.{Scope}
 use Rattle.recorder.specs.declared.state.Recorder.{Recorder}
-use Rattle.host.specs.declared.reader.AnswerReader.{AnswerReader}
-use Rattle.target.specs.Bounds.{fresh}
+use Rattle.state.specs.Bounds.{fresh}
 use Rattle.memory.proofs.Copies.{stored-append}
-use Rattle.blocks.specs.Layout.{encodedDefinitions, encodedVariables, encodedNumbers, encodedRun, encodedReceiver, encodedScope, encodedRecorder, encoded, encodedReader}
+use Rattle.blocks.specs.Layout.{encodedDefinitions, encodedVariables, encodedNumbers, encodedRun, encodedReceiver, encodedScope, encodedRecorder, encoded}
+use Rattle.blocks.specs.Places.{receiverLength, variablesLength, numbersLength, recorderLength, recorderPlace, planPlace, recordedPlace, runPlace, stateLength}
 
 pub definitions-length : (vs : List Variable) → length (encodedDefinitions vs) ≡ length vs * 5
 definitions-length [] = refl
 definitions-length (v ∷ vs) = omega (arith, definitions-length vs)
 
-pub variables-length : (v : Variables) → length (v .list) ≡ 8 → length (encodedVariables v) ≡ 41
+pub variables-length : (v : Variables) → length (v .list) ≡ 8 → length (encodedVariables v) ≡ variablesLength
 variables-length v e = omega (arith, definitions-length (v .list))
 
-pub scope-length : (s : Scope) → length (s .variables .list) ≡ 8 → length (encodedScope s) ≡ 41
+pub scope-length : (s : Scope) → length (s .variables .list) ≡ 8 → length (encodedScope s) ≡ variablesLength
 unfolding encodedScope
 scope-length s e = variables-length (s .variables) e
 
-pub receiver-length : (r : Receiver) → length (encodedReceiver r) ≡ 6
+pub receiver-length : (r : Receiver) → length (encodedReceiver r) ≡ receiverLength
 unfolding encodedReceiver
 receiver-length r = refl
 
-pub recorder-length : (r : Recorder) → length (r .plan .variables .list) ≡ 8 → length (encodedRecorder r) ≡ 70
+pub recorder-length : (r : Recorder) → length (r .plan .variables .list) ≡ 8 → length (encodedRecorder r) ≡ recorderLength
 unfolding encodedRecorder encodedRun
 recorder-length r e = simp length-append (omega (arith, definitions-length (r .plan .variables .list)))
-
-pub reader-length : (r : AnswerReader) → length (encodedReader r) ≡ 6 + length (r .body)
-unfolding encodedReader
-reader-length r = omega arith
 
 -- two stores, the second where the first ends
 pub sets-two : (l xs ys : List ℕ) (i n j : ℕ) → length xs ≡ n → i + n ≡ j → sets l i (xs ++ ys) ≡ sets (sets l i xs) j ys
 sets-two l xs ys i n j e f = stored-append xs ys l i ∙ ap (λ (k : ℕ). sets (sets l i xs) k ys) (omega arith)
 
 pub recorder-put : (l : List ℕ) (r : Recorder) → length (r .plan .variables .list) ≡ 8
-    → sets (sets (sets (set l 111 (r .ready)) 112 (encodedNumbers (r .plan))) 129 (encodedVariables (r .plan .variables))) 170 (encodedRun (r .run))
-    ≡ sets l 111 (encodedRecorder r)
+    → sets (sets (sets (set l recorderPlace (r .ready)) planPlace (encodedNumbers (r .plan))) recordedPlace (encodedVariables (r .plan .variables))) runPlace (encodedRun (r .run))
+    ≡ sets l recorderPlace (encodedRecorder r)
 unfolding encodedRecorder
 recorder-put l r e =
     sym
-    (sets-two (set l 111 (r .ready)) (encodedNumbers (r .plan)) (encodedVariables (r .plan .variables) ++ encodedRun (r .run)) 112 17 129 refl refl
-    ∙ sets-two (sets (set l 111 (r .ready)) 112 (encodedNumbers (r .plan))) (encodedVariables (r .plan .variables)) (encodedRun (r .run)) 129 41 170 (variables-length (r .plan .variables) e) refl)
+    (sets-two (set l recorderPlace (r .ready)) (encodedNumbers (r .plan)) (encodedVariables (r .plan .variables) ++ encodedRun (r .run)) planPlace numbersLength recordedPlace refl refl
+    ∙ sets-two (sets (set l recorderPlace (r .ready)) planPlace (encodedNumbers (r .plan))) (encodedVariables (r .plan .variables)) (encodedRun (r .run)) recordedPlace variablesLength runPlace (variables-length (r .plan .variables) e) refl)
 
 -- reset is all zeros
-pub fresh-zeros : replicate 181 0 ≡ encoded fresh
+pub fresh-zeros : replicate stateLength 0 ≡ encoded fresh
 unfolding encodedReceiver encodedScope encodedRecorder encodedRun
 fresh-zeros = refl

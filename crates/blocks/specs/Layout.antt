@@ -1,8 +1,9 @@
--- The states as blocks of bytes: every block is a state, and every state a block. docs/STATE.md has the table of places.
+-- The target's state as a block of bytes: every block is a state, and every state a block. docs/STATE.md has the table of places.
 use mathlib.Core.Bool.{true}
 use mathlib.Core.List.{List, [], _∷_, _++_}
-use Prim.Native.Nat.{ℕ, _+_}
+use Prim.Native.Nat.{ℕ, _+_, _-_}
 use lib.ListN.{getD, drop}
+use Rattle.document.specs.Numbers.{mostData}
 use Rattle.document.specs.Areas.{bytesAt}
 use Rattle.document.specs.Values.{number, littleEndian}
 use Rattle.document.specs.declared.Variable.{Variable}
@@ -11,19 +12,10 @@ use Rattle.variables.specs.declared.Variables.{Variables}
 use Rattle.link.specs.declared.Receiver.{Receiver}
 use Rattle.scope.specs.declared.Scope.{Scope}
 use Rattle.plans.specs.declared.plan.Plan.{Plan}
-use Rattle.recorder.specs.declared.state.Run.{Run}
+use Rattle.runs.specs.declared.run.Run.{Run}
 use Rattle.recorder.specs.declared.state.Recorder.{Recorder}
-use Rattle.operations.specs.declared.answering.Instruments.{Instruments}
-use Rattle.target.specs.declared.state.Target.{Target}
-use Rattle.host.specs.declared.head.Head.{Head}
-use Rattle.host.specs.declared.reader.AnswerReader.{AnswerReader}
-
--- how many bytes a target's state takes, and an answer reader's
-abbrev pub stateLength : ℕ
-stateLength = 181
-
-abbrev pub readerLength : ℕ
-readerLength = 70
+use Rattle.state.specs.State.{Instruments, Target}
+use Rattle.blocks.specs.Places.{bodyPlace, scopePlace, recorderPlace, planPlace, samplesPlace, postTriggerPlace, dividerPlace, triggerAddressPlace, triggerSizePlace, signPlace, thresholdPlace, recordedPlace, runPlace, fullPlace, watchPlace, waitPlace, placePlace, valuePlace}
 
 -- ---- from a block to the state that it is
 
@@ -39,7 +31,11 @@ decodedReceiver block =
     }
 
 abbrev pub decodedBody : List ℕ → List ℕ
-decodedBody block = bytesAt block 6 64
+decodedBody block = bytesAt block bodyPlace mostData
+
+-- the body up to a place: the data of a message that ends there
+abbrev pub dataTo : List ℕ → ℕ → List ℕ
+dataTo block to = bytesAt block bodyPlace (to - bodyPlace)
 
 -- a count, then size and address each, as an EX setup's data part has them; always eight
 unfoldable pub decodedDefinitions : List ℕ → ℕ → List Variable
@@ -49,36 +45,36 @@ abbrev pub decodedVariables : List ℕ → ℕ → Variables
 decodedVariables block at = record { count = getD block at 0; list = decodedDefinitions block (at + 1) }
 
 unfoldable pub decodedScope : List ℕ → Scope
-decodedScope block = record { variables = decodedVariables block 70 }
+decodedScope block = record { variables = decodedVariables block scopePlace }
 
 -- in the order of the data part of 0x0B
 abbrev pub decodedPlan : List ℕ → Plan
 decodedPlan block =
     record {
-      mode = getD block 112 0;
-      samples = number (bytesAt block 113 2);
-      «post_trigger» = number (bytesAt block 115 2);
-      divider = number (bytesAt block 117 2);
-      address = number (bytesAt block 119 4);
-      size = getD block 123 0;
-      sign = getD block 124 0;
-      threshold = number (bytesAt block 125 4);
-      variables = decodedVariables block 129;
+      mode = getD block planPlace 0;
+      samples = number (bytesAt block samplesPlace 2);
+      «post_trigger» = number (bytesAt block postTriggerPlace 2);
+      divider = number (bytesAt block dividerPlace 2);
+      address = number (bytesAt block triggerAddressPlace 4);
+      size = getD block triggerSizePlace 0;
+      sign = getD block signPlace 0;
+      threshold = number (bytesAt block thresholdPlace 4);
+      variables = decodedVariables block recordedPlace;
     }
 
 abbrev pub decodedRun : List ℕ → Run
 decodedRun block =
     record {
-      running = getD block 170 0;
-      full = getD block 171 0;
-      watch = getD block 172 0;
-      wait = number (bytesAt block 173 2);
-      place = number (bytesAt block 175 2);
-      value = number (bytesAt block 177 4);
+      running = getD block runPlace 0;
+      full = getD block fullPlace 0;
+      watch = getD block watchPlace 0;
+      wait = number (bytesAt block waitPlace 2);
+      place = number (bytesAt block placePlace 2);
+      value = number (bytesAt block valuePlace 4);
     }
 
 unfoldable pub decodedRecorder : List ℕ → Recorder
-decodedRecorder block = record { ready = getD block 111 0; plan = decodedPlan block; run = decodedRun block }
+decodedRecorder block = record { ready = getD block recorderPlace 0; plan = decodedPlan block; run = decodedRun block }
 
 abbrev pub decodedInstruments : List ℕ → Instruments
 decodedInstruments block = record { scope = decodedScope block; recorder = decodedRecorder block }
@@ -86,18 +82,6 @@ decodedInstruments block = record { scope = decodedScope block; recorder = decod
 abbrev pub decoded : List ℕ → Target
 decoded block =
     record { receiver = decodedReceiver block; body = decodedBody block; instruments = decodedInstruments block }
-
-unfoldable pub decodedReader : List ℕ → AnswerReader
-decodedReader block =
-    record {
-      waiting = getD block 0 0;
-      phase = getD block 1 0;
-      status = getD block 2 0;
-      expected = getD block 3 0;
-      have = getD block 4 0;
-      sum = getD block 5 0;
-      body = bytesAt block 6 64;
-    }
 
 -- ---- from a state to its block
 
@@ -139,10 +123,3 @@ encodedInstruments i = encodedScope (i .scope) ++ encodedRecorder (i .recorder)
 
 abbrev pub encoded : Target → List ℕ
 encoded t = encodedReceiver (t .receiver) ++ (t .body ++ encodedInstruments (t .instruments))
-
-abbrev pub encodedHead : Head → List ℕ
-encodedHead h = h .waiting ∷ h .phase ∷ h .status ∷ h .expected ∷ h .have ∷ h .sum ∷ []
-
-unfoldable pub encodedReader : AnswerReader → List ℕ
-encodedReader r =
-    r .waiting ∷ r .phase ∷ r .status ∷ r .expected ∷ r .have ∷ r .sum ∷ r .body

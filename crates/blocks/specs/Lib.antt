@@ -1,3 +1,3 @@
--- What stands where in a lent block, and what is asked of it.
+-- What stands where in a target's block.
+pub mod Places
 pub mod Layout
-pub mod Measured

@@ -1,44 +1,53 @@
-// Where the parts of a target's state begin in its block; docs/STATE.md has the same as a table.
+// Where the parts of a target's state lie in its block: each begins where the one before it ends, and a new part is appended.
+// docs/STATE.md has the same as a table.
+use codes::MOST_DATA;
 
-// The data of a message, behind the receiver; and of an answer, behind the reader's head.
-pub const BODY: usize = 6;
+const RECEIVER_LENGTH: usize = 6;
 
-pub const SCOPE: usize = 70;
+// A count, then eight definitions of a size and an address of 4 bytes.
+const VARIABLES_LENGTH: usize = 1 + 8 * 5;
 
-pub const SCOPE_DEFINITIONS: usize = 71;
+// The data of the message that the receiver is in.
+pub const BODY: usize = RECEIVER_LENGTH;
 
-pub const READY: usize = 111;
+pub const SCOPE: usize = BODY + MOST_DATA;
 
-// The plan.
-pub const MODE: usize = 112;
+pub const SCOPE_DEFINITIONS: usize = SCOPE + 1;
 
-pub const SAMPLES: usize = 113;
+// The recorder: whether it is ready, its plan, and its run.
+pub const READY: usize = SCOPE + VARIABLES_LENGTH;
 
-pub const POST_TRIGGER: usize = 115;
+pub const MODE: usize = READY + 1;
 
-pub const DIVIDER: usize = 117;
+pub const SAMPLES: usize = MODE + 1;
 
-pub const TRIGGER_ADDRESS: usize = 119;
+pub const POST_TRIGGER: usize = SAMPLES + 2;
 
-pub const TRIGGER_SIZE: usize = 123;
+pub const DIVIDER: usize = POST_TRIGGER + 2;
 
-pub const SIGN: usize = 124;
+pub const TRIGGER_ADDRESS: usize = DIVIDER + 2;
 
-pub const THRESHOLD: usize = 125;
+pub const TRIGGER_SIZE: usize = TRIGGER_ADDRESS + 4;
 
-pub const RECORDED: usize = 129;
+pub const SIGN: usize = TRIGGER_SIZE + 1;
 
-pub const RECORDED_DEFINITIONS: usize = 130;
+pub const THRESHOLD: usize = SIGN + 1;
 
-// The run.
-pub const RUNNING: usize = 170;
+pub const RECORDED: usize = THRESHOLD + 4;
 
-pub const FULL: usize = 171;
+pub const RECORDED_DEFINITIONS: usize = RECORDED + 1;
 
-pub const WATCH: usize = 172;
+pub const RUNNING: usize = RECORDED + VARIABLES_LENGTH;
 
-pub const WAIT: usize = 173;
+pub const FULL: usize = RUNNING + 1;
 
-pub const PLACE: usize = 175;
+pub const WATCH: usize = FULL + 1;
 
-pub const VALUE: usize = 177;
+pub const WAIT: usize = WATCH + 1;
+
+pub const PLACE: usize = WAIT + 2;
+
+pub const VALUE: usize = PLACE + 2;
+
+// How many bytes a target's state takes.
+pub const STATE_LENGTH: usize = VALUE + 4;

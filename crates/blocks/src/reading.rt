@@ -3,12 +3,9 @@ ghost use mathlib.Core.Path.{_≡_};
 ghost use mathlib.Core.Bool.{true};
 ghost use Prim.Native.Nat.{_+_, _≤_};
 ghost use lib.ListN.{length, drop};
-ghost use Rattle.document.specs.Areas.{bytesAt};
 ghost use Rattle.document.specs.Variables.{definitionIn};
-ghost use Rattle.host.specs.Head.{withBody};
-ghost use Rattle.blocks.specs.Layout.{decodedReceiver, decodedDefinitions, decodedVariables, decodedScope, decodedPlan, decodedRun, decodedRecorder, decodedReader};
-use crate::fields::long_at;
-use crate::fields::word_at;
+ghost use Rattle.blocks.specs.Layout.{decodedReceiver, decodedDefinitions, decodedVariables, decodedScope, decodedPlan, decodedRun, decodedRecorder};
+ghost use Rattle.blocks.specs.Places.{definitionsLength, variablesLength, stateLength};
 use crate::places::DIVIDER;
 use crate::places::FULL;
 use crate::places::MODE;
@@ -26,9 +23,11 @@ use crate::places::TRIGGER_SIZE;
 use crate::places::VALUE;
 use crate::places::WAIT;
 use crate::places::WATCH;
+use block_fields::long_at;
+use block_fields::word_at;
 
 pub fn receiver_in(block: &[u8]) -> link::Receiver
-    requires { ⌜ 181 ≤ length (now block) ⌝ }
+    requires { ⌜ stateLength ≤ length (now block) ⌝ }
     ensures { λ r. ⌜ r ≡ decodedReceiver (now (block .entry)) ⌝ }
 {
     link::Receiver {
@@ -52,7 +51,7 @@ fn definition_at(block: &[u8], at: usize) -> document::Variable
 }
 
 fn definitions_at(block: &[u8], from: usize) -> [document::Variable; 8]
-    requires { ⌜ from + 40 ≤ length (now block) ⌝ }
+    requires { ⌜ from + definitionsLength ≤ length (now block) ⌝ }
     ensures { λ r. ⌜ r ≡ decodedDefinitions (now (block .entry)) from ⌝ }
 {
     let mut list = [document::Variable {
@@ -70,7 +69,7 @@ fn definitions_at(block: &[u8], from: usize) -> [document::Variable; 8]
 }
 
 fn variables_at(block: &[u8], at: usize) -> variables::Variables
-    requires { ⌜ at + 41 ≤ length (now block) ⌝ }
+    requires { ⌜ at + variablesLength ≤ length (now block) ⌝ }
     ensures { λ r. ⌜ r ≡ decodedVariables (now (block .entry)) at ⌝ }
 {
     let list = definitions_at(block, at + 1);
@@ -81,7 +80,7 @@ fn variables_at(block: &[u8], at: usize) -> variables::Variables
 }
 
 fn plan_in(block: &[u8]) -> plans::Plan
-    requires { ⌜ 181 ≤ length (now block) ⌝ }
+    requires { ⌜ stateLength ≤ length (now block) ⌝ }
     ensures { λ r. ⌜ r ≡ decodedPlan (now (block .entry)) ⌝ }
 {
     let variables = variables_at(block, RECORDED);
@@ -98,11 +97,11 @@ fn plan_in(block: &[u8]) -> plans::Plan
     }
 }
 
-pub(crate) fn run_in(block: &[u8]) -> recorder::Run
-    requires { ⌜ 181 ≤ length (now block) ⌝ }
+pub fn run_in(block: &[u8]) -> runs::Run
+    requires { ⌜ stateLength ≤ length (now block) ⌝ }
     ensures { λ r. ⌜ r ≡ decodedRun (now (block .entry)) ⌝ }
 {
-    recorder::Run {
+    runs::Run {
         running: block[RUNNING],
         full: block[FULL],
         watch: block[WATCH],
@@ -113,7 +112,7 @@ pub(crate) fn run_in(block: &[u8]) -> recorder::Run
 }
 
 pub fn recorder_in(block: &[u8]) -> recorder::Recorder
-    requires { ⌜ 181 ≤ length (now block) ⌝ }
+    requires { ⌜ stateLength ≤ length (now block) ⌝ }
     ensures { λ r. ⌜ r ≡ decodedRecorder (now (block .entry)) ⌝ }
 {
     let plan = plan_in(block);
@@ -125,29 +124,10 @@ pub fn recorder_in(block: &[u8]) -> recorder::Recorder
     }
 }
 
-pub fn instruments_in(block: &[u8]) -> operations::Instruments
-    requires { ⌜ 181 ≤ length (now block) ⌝ }
-    ensures { λ r. ⌜ r ≡ record { scope = decodedScope (now (block .entry)); recorder = decodedRecorder (now (block .entry)) } ⌝ }
+pub fn scope_in(block: &[u8]) -> scope::Scope
+    requires { ⌜ stateLength ≤ length (now block) ⌝ }
+    ensures { λ r. ⌜ r ≡ decodedScope (now (block .entry)) ⌝ }
 {
     let variables = variables_at(block, SCOPE);
-    let recorder = recorder_in(block);
-    operations::Instruments {
-        scope: scope::Scope { variables },
-        recorder,
-    }
-}
-
-// The head of a reader; its data stay where they lie.
-pub fn head_in(block: &[u8]) -> host::Head
-    requires { ⌜ 70 ≤ length (now block) ⌝ }
-    ensures { λ r. ⌜ withBody r (bytesAt (now (block .entry)) 6 64) ≡ decodedReader (now (block .entry)) ⌝ }
-{
-    host::Head {
-        waiting: block[0],
-        phase: block[1],
-        status: block[2],
-        expected: block[3],
-        have: block[4],
-        sum: block[5],
-    }
+    scope::Scope { variables }
 }

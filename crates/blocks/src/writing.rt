@@ -1,17 +1,11 @@
 // From a state to its block. Who asks has seen that the block is long enough; bytes of other fields keep their values.
 ghost use mathlib.Core.Path.{_≡_};
-ghost use mathlib.Core.List.{[], _∷_};
 ghost use Prim.Native.Nat.{_+_, _≤_};
-ghost use lib.ListN.{length, replicate};
+ghost use lib.ListN.{length};
 ghost use lib.Seq.{sets};
-ghost use Rattle.target.specs.Bounds.{fresh};
-ghost use Rattle.host.specs.Reader as reader;
-ghost use Rattle.blocks.specs.Layout.{encodedReceiver, encodedDefinitions, encodedVariables, encodedNumbers, encodedRun, encodedRecorder, encodedInstruments, encoded, encodedHead, encodedReader};
-use crate::STATE_LENGTH;
-use crate::fields::put_byte;
-use crate::fields::put_long;
-use crate::fields::put_word;
-use crate::places::BODY;
+ghost use Rattle.state.specs.Bounds.{fresh};
+ghost use Rattle.blocks.specs.Layout.{decodedScope, decodedRecorder, encodedReceiver, encodedDefinitions, encodedVariables, encodedNumbers, encodedRun, encodedInstruments, encoded};
+ghost use Rattle.blocks.specs.Places.{receiverLength, definitionsLength, variablesLength, scopePlace, planPlace, runPlace, stateLength};
 use crate::places::DIVIDER;
 use crate::places::FULL;
 use crate::places::MODE;
@@ -23,28 +17,21 @@ use crate::places::RUNNING;
 use crate::places::SAMPLES;
 use crate::places::SCOPE;
 use crate::places::SIGN;
+use crate::places::STATE_LENGTH;
 use crate::places::THRESHOLD;
 use crate::places::TRIGGER_ADDRESS;
 use crate::places::TRIGGER_SIZE;
 use crate::places::VALUE;
 use crate::places::WAIT;
 use crate::places::WATCH;
-
-// The six bytes in front of a body.
-fn put_head(block: &mut [u8], a: u8, b: u8, c: u8, d: u8, e: u8, f: u8)
-    requires { ⌜ 6 ≤ length (now block) ⌝ }
-    ensures { λ _. ⌜ now (block .exit) ≡ sets (now (block .entry)) 0 (a ∷ b ∷ c ∷ d ∷ e ∷ f ∷ []) ⌝ }
-{
-    block[0] = a;
-    block[1] = b;
-    block[2] = c;
-    block[3] = d;
-    block[4] = e;
-    block[5] = f;
-}
+use block_fields::clear;
+use block_fields::put_byte;
+use block_fields::put_head;
+use block_fields::put_long;
+use block_fields::put_word;
 
 pub fn put_receiver(block: &mut [u8], r: link::Receiver)
-    requires { ⌜ 6 ≤ length (now block) ⌝ }
+    requires { ⌜ receiverLength ≤ length (now block) ⌝ }
     ensures { λ _. ⌜ now (block .exit) ≡ sets (now (block .entry)) 0 (encodedReceiver r) ⌝ }
 {
     put_head(
@@ -59,7 +46,7 @@ pub fn put_receiver(block: &mut [u8], r: link::Receiver)
 }
 
 fn put_definitions(block: &mut [u8], from: usize, v: variables::Variables)
-    requires { ⌜ from + 40 ≤ length (now block) ⌝ }
+    requires { ⌜ from + definitionsLength ≤ length (now block) ⌝ }
     ensures { λ _. ⌜ now (block .exit) ≡ sets (now (block .entry)) from (encodedDefinitions (v .list)) ⌝ }
 {
     let mut at = from;
@@ -74,7 +61,7 @@ fn put_definitions(block: &mut [u8], from: usize, v: variables::Variables)
 }
 
 fn put_variables(block: &mut [u8], at: usize, v: variables::Variables)
-    requires { ⌜ at + 41 ≤ length (now block) ⌝ }
+    requires { ⌜ at + variablesLength ≤ length (now block) ⌝ }
     ensures { λ _. ⌜ now (block .exit) ≡ sets (now (block .entry)) at (encodedVariables v) ⌝ }
 {
     put_byte(block, at, v.count);
@@ -82,8 +69,8 @@ fn put_variables(block: &mut [u8], at: usize, v: variables::Variables)
 }
 
 fn put_numbers(block: &mut [u8], plan: plans::Plan)
-    requires { ⌜ 181 ≤ length (now block) ⌝ }
-    ensures { λ _. ⌜ now (block .exit) ≡ sets (now (block .entry)) 112 (encodedNumbers plan) ⌝ }
+    requires { ⌜ stateLength ≤ length (now block) ⌝ }
+    ensures { λ _. ⌜ now (block .exit) ≡ sets (now (block .entry)) planPlace (encodedNumbers plan) ⌝ }
 {
     put_byte(block, MODE, plan.mode);
     put_word(block, SAMPLES, plan.samples);
@@ -96,9 +83,9 @@ fn put_numbers(block: &mut [u8], plan: plans::Plan)
 }
 
 // What a tick changes.
-pub fn put_run(block: &mut [u8], run: recorder::Run)
-    requires { ⌜ 181 ≤ length (now block) ⌝ }
-    ensures { λ _. ⌜ now (block .exit) ≡ sets (now (block .entry)) 170 (encodedRun run) ⌝ }
+pub fn put_run(block: &mut [u8], run: runs::Run)
+    requires { ⌜ stateLength ≤ length (now block) ⌝ }
+    ensures { λ _. ⌜ now (block .exit) ≡ sets (now (block .entry)) runPlace (encodedRun run) ⌝ }
 {
     put_byte(block, RUNNING, run.running);
     put_byte(block, FULL, run.full);
@@ -108,9 +95,10 @@ pub fn put_run(block: &mut [u8], run: recorder::Run)
     put_long(block, VALUE, run.value);
 }
 
-fn put_recorder(block: &mut [u8], recorder: recorder::Recorder)
-    requires { ⌜ 181 ≤ length (now block) ⌝ }
-    ensures { λ _. ⌜ now (block .exit) ≡ sets (now (block .entry)) 111 (encodedRecorder recorder) ⌝ }
+// One of the instruments: the other stays as it is there.
+pub fn put_recorder(block: &mut [u8], recorder: recorder::Recorder)
+    requires { ⌜ stateLength ≤ length (now block) ⌝ }
+    ensures { λ _. ⌜ now (block .exit) ≡ sets (now (block .entry)) scopePlace (encodedInstruments (record { scope = decodedScope (now (block .entry)); recorder = recorder })) ⌝ }
 {
     let plan = recorder.plan;
     let v = plan.variables;
@@ -121,57 +109,18 @@ fn put_recorder(block: &mut [u8], recorder: recorder::Recorder)
     put_run(block, run);
 }
 
-pub fn put_instruments(block: &mut [u8], instruments: operations::Instruments)
-    requires { ⌜ 181 ≤ length (now block) ⌝ }
-    ensures { λ _. ⌜ now (block .exit) ≡ sets (now (block .entry)) 70 (encodedInstruments instruments) ⌝ }
+pub fn put_scope(block: &mut [u8], scope: scope::Scope)
+    requires { ⌜ stateLength ≤ length (now block) ⌝ }
+    ensures { λ _. ⌜ now (block .exit) ≡ sets (now (block .entry)) scopePlace (encodedInstruments (record { scope = scope; recorder = decodedRecorder (now (block .entry)) })) ⌝ }
 {
-    let scope = instruments.scope;
     let v = scope.variables;
-    let recorder = instruments.recorder;
     put_variables(block, SCOPE, v);
-    put_recorder(block, recorder);
-}
-
-fn clear(block: &mut [u8], from: usize, n: usize)
-    requires { ⌜ from + n ≤ length (now block) ⌝ }
-    ensures { λ _. ⌜ now (block .exit) ≡ sets (now (block .entry)) from (replicate n 0) ⌝ }
-{
-    let mut k = 0;
-    while k < n {
-        block[from + k] = 0;
-        k += 1;
-    }
 }
 
 // The state at reset is all zeros: an idle link, and nothing set up.
 pub fn reset(block: &mut [u8])
-    requires { ⌜ 181 ≤ length (now block) ⌝ }
+    requires { ⌜ stateLength ≤ length (now block) ⌝ }
     ensures { λ _. ⌜ now (block .exit) ≡ sets (now (block .entry)) 0 (encoded fresh) ⌝ }
 {
     clear(block, 0, STATE_LENGTH);
-}
-
-// The reader as a reading of so many data begins.
-pub fn begin_reader(block: &mut [u8], expected: u8)
-    requires { ⌜ 70 ≤ length (now block) ⌝ }
-    ensures { λ _. ⌜ now (block .exit) ≡ sets (now (block .entry)) 0 (encodedReader (reader.fresh expected)) ⌝ }
-{
-    put_head(block, 0, 0, 0, expected, 0, 0);
-    clear(block, BODY, 64);
-}
-
-// The head of a reader; its data stay as they are.
-pub fn put_reader_head(block: &mut [u8], h: host::Head)
-    requires { ⌜ 70 ≤ length (now block) ⌝ }
-    ensures { λ _. ⌜ now (block .exit) ≡ sets (now (block .entry)) 0 (encodedHead h) ⌝ }
-{
-    put_head(
-        block,
-        h.waiting,
-        h.phase,
-        h.status,
-        h.expected,
-        h.have,
-        h.sum,
-    );
 }

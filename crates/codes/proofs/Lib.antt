@@ -1,4 +1,5 @@
--- What follows from the definitions: the table is its rule, and its halves are the kind and the length.
+-- What follows from the definitions: the table is its rule, and its columns say what the rule put into them.
 pub mod Entries
-pub mod Halves
-pub mod Outcomes
+pub mod Matches
+pub mod Commands
+pub mod Numbering

@@ -1,31 +1,49 @@
--- The table's rule, and what its two readings mean.
-use mathlib.Core.Bool.{cond}
-use Prim.Native.Nat.{ℕ, _+_, _*_}
-use Rattle.document.specs.Kinds.{Kind as DocumentKind, kindOf, hasLengthByte, fastLength}
+-- The table's rule, and what an entry of it says.
+use mathlib.Core.Bool.{Bool, false, cond}
+use Prim.Native.Nat.{ℕ, _+_, _*_, _/_, _%_}
+use lib.Dec.{eqb, ltb}
+use Rattle.document.specs.Services.{serviceOf}
+use Rattle.document.specs.Kinds.{Kind, kindOf, hasLengthByte, fastLength}
 use Rattle.document.specs.Kinds.Kind.{fast, standard, unserved}
-use Rattle.codes.specs.declared.kinds.Kind.{Kind}
-use Rattle.codes.specs.declared.kinds.Kind.the-variants.{Fast, Standard, Unserved}
-use Rattle.codes.specs.declared.kinds.Length.{Length}
-use Rattle.codes.specs.declared.kinds.Length.the-variants.{Told, Fixed}
-
--- "fast, standard or not served"
-abbrev pub kindMeant : Kind → DocumentKind
-kindMeant Fast = fast
-kindMeant Standard = standard
-kindMeant Unserved = unserved
+use Rattle.document.specs.declared.Operation.the-variants.{Unserved}
+use Rattle.document.specs.declared.Service.{Service}
+use Rattle.codes.specs.declared.reading.Length.{Length}
+use Rattle.codes.specs.declared.reading.Length.the-variants.{Told, Fixed}
+use Rattle.codes.specs.Numbering.{numberOf, operationNumbered}
 
 -- "Below 0xC0 the next literal is the length"; at 0xC0 and above, "bits 5 and 4 give the data length"
 abbrev pub lengthOf : ℕ → Length
 lengthOf c = cond (hasLengthByte c) Told (Fixed (fastLength c))
 
--- the two halves of an entry
-abbrev pub kindNumber : DocumentKind → ℕ
+-- ---- the rule: an entry is the sum of its columns
+
+abbrev kindNumber : Kind → ℕ
+kindNumber unserved = 0
 kindNumber fast = 1
 kindNumber standard = 2
-kindNumber unserved = 0
 
-abbrev pub lengthNumber : ℕ → ℕ
-lengthNumber c = cond (hasLengthByte c) 15 (fastLength c)
+abbrev lengthNumber : ℕ → ℕ
+lengthNumber c = cond (hasLengthByte c) 7 (fastLength c)
+
+abbrev exNumber : Bool → ℕ
+exNumber ex = cond ex 1 0
 
 unfoldable pub entryOf : ℕ → ℕ
-entryOf c = 16 * kindNumber (kindOf c) + lengthNumber c
+entryOf c =
+    8192 * kindNumber (kindOf c)
+    + 1024 * lengthNumber c
+    + 512 * exNumber (serviceOf c .ex)
+    + 64 * serviceOf c .size
+    + numberOf (serviceOf c .operation)
+
+-- ---- what an entry says
+
+abbrev pub lengthIn : ℕ → Length
+lengthIn entry = cond (eqb (entry / 1024 % 8) 7) Told (Fixed (entry / 1024 % 8))
+
+-- the kind stands highest, and lowest is the kind that is not served: then nothing else is looked at
+abbrev pub serviceIn : ℕ → Service
+serviceIn entry =
+    cond (ltb entry 8192)
+    (record { operation = Unserved; ex = false; size = 0 })
+    (record { operation = operationNumbered (entry % 64); ex = eqb (entry / 512 % 2) 1; size = entry / 64 % 8 })

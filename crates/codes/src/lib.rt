@@ -1,6 +1,10 @@
-// The numbers of the protocol: the kinds of the 256 commands, the statuses, the numbers with which calls refuse.
+// The numbers of the protocol: what is known of each of the 256 commands, the statuses, the numbers with which calls refuse, and the
+// limits of a message and its answer.
 mod calls;
-mod kinds;
+mod columns;
+mod limits;
+mod reading;
+mod rows;
 mod statuses;
 mod table;
 
@@ -11,10 +15,11 @@ pub use calls::ROOM_REFUSED;
 pub use calls::STATE_REFUSED;
 pub use calls::SUM_REFUSED;
 pub use calls::TAKEN;
-pub use kinds::Kind;
-pub use kinds::Length;
-pub use kinds::data_length;
-pub use kinds::kind_of;
+pub use limits::ANSWER_ROOM;
+pub use limits::FIRST_FAST;
+pub use limits::MOST_DATA;
+pub use limits::MOST_DATA_BYTE;
+pub use reading::Length;
 pub use statuses::ANSWER_TOO_LONG;
 pub use statuses::BUSY;
 pub use statuses::DONE;
@@ -27,3 +32,5 @@ pub use statuses::RECORDER_RUNS;
 pub use statuses::RECORDER_STOPPED;
 pub use statuses::SIZE_WRONG;
 pub use statuses::SUM_WRONG;
+pub use table::data_length;
+pub use table::service_of;

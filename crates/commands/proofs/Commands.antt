@@ -2,7 +2,7 @@
 use mathlib.Core.Path.{_≡_, refl, ap, _∙_}
 use mathlib.Core.Bool.{true, not}
 use mathlib.Core.List.{List, [], _∷_, _++_, append-assoc}
-use Prim.Native.Nat.{ℕ, _+_, _≤_}
+use Prim.Native.Nat.{ℕ, _+_, _*_, _≤_}
 use native.Mathlib.Omega.{arith}
 use borrow.Author.Tests.{leb-true, eqb-true, le-ltb}
 use lib.Dec.{eqb}
@@ -18,7 +18,7 @@ use Rattle.line.specs.declared.doubling.Progress.{Progress}
 use Rattle.line.specs.Put.{progressed}
 use Rattle.document.proofs.Cases.{split, and-right}
 use Rattle.line.proofs.Pairing.{framed}
-use Rattle.line.proofs.Stuffed.{stuffed-append, stuffed-one}
+use Rattle.line.proofs.Stuffed.{stuffed-append, stuffed-one, stuffed-length}
 use Rattle.line.proofs.Writing.{front, progressed-append, sum-front}
 
 -- what goes between the command and the sum byte
@@ -42,6 +42,11 @@ length-part-short c body =
     split (hasLengthByte c)
     (λ standard. rw standard (stuffed-one (length body)))
     (λ fast. rw fast (omega arith))
+
+-- a start, a command, and every other byte doubled
+pub command-most : (c : ℕ) (body : List ℕ) → length (commandOnWire c body) ≤ 2 * length body + 6
+command-most c body =
+    omega (arith, command-length c body, length-part-short c body, stuffed-length body, stuffed-one (sumByteOf (c ∷ between c body)))
 
 -- ---- measured: the length byte, the data, the sum byte
 

@@ -1,5 +1,5 @@
 -- A message's form by its command's entry in the table of lengths.
-use mathlib.Core.Path.{_≡_, refl, sym, ap, _∙_}
+use mathlib.Core.Path.{_≡_, refl, sym, ap}
 use mathlib.Core.Bool.{Bool, true, false}
 use Prim.Native.Nat.{ℕ}
 use borrow.Author.Tests.{ne-eqb}
@@ -9,8 +9,8 @@ use mathlib.Core.List.{List}
 use Rattle.document.specs.Kinds.{hasLengthByte, fastLength}
 use Rattle.document.specs.Message.{summed, wellFormed}
 use Rattle.document.proofs.Cases.{split, neither}
-use Rattle.codes.specs.declared.kinds.Length.{Length}
-use Rattle.codes.specs.declared.kinds.Length.the-variants.{Told, Fixed}
+use Rattle.codes.specs.declared.reading.Length.{Length}
+use Rattle.codes.specs.declared.reading.Length.the-variants.{Told, Fixed}
 use Rattle.codes.specs.Table.{lengthOf}
 
 abbrev isTold : Length → Bool

@@ -6,8 +6,8 @@ ghost use Rattle.document.specs.Doubling.{stuffed};
 ghost use Rattle.document.specs.Message.{lengthPart, summed, wellFormed};
 ghost use Rattle.line.specs.Put.{Put};
 ghost use Rattle.commands.specs.CommandWritten.{CommandWritten};
-use crate::measure::FAST;
-use crate::measure::wire_length;
+use crate::measure::is_short;
+use codes::FIRST_FAST;
 use codes::FORM_REFUSED;
 use codes::Length;
 use codes::ROOM_REFUSED;
@@ -19,12 +19,7 @@ use line::doubling::Progress;
 use line::doubling::put;
 use line::doubling::put_all;
 use line::doubling::put_sum;
-
-fn wide(n: u8) -> usize
-    ensures { λ r. ⌜ r ≡ n ⌝ }
-{
-    n as usize
-}
+use widths::usize_of_u8;
 
 // Whether the message can be formed: a command that is no start byte, and as many data as it takes.
 fn is_formed(command: u8, body: &[u8]) -> bool
@@ -36,7 +31,7 @@ fn is_formed(command: u8, body: &[u8]) -> bool
     let length = data_length(command);
     match length {
         Length::Told => body.len() <= 255,
-        Length::Fixed(n) => body.len() == wide(n),
+        Length::Fixed(n) => body.len() == usize_of_u8(n),
     }
 }
 
@@ -45,7 +40,7 @@ fn put_length(from: Progress, command: u8, body: &[u8], out: &mut [u8]) -> Progr
     requires { ⌜ (length (now body) ≤ 255) × (from .at + length (stuffed (lengthPart command (now body))) ≤ length (now out)) ⌝ }
     ensures { λ r. ⌜ Put from (lengthPart command (now (body .entry))) (now (out .entry)) r (now (out .exit)) ⌝ }
 {
-    if command < FAST {
+    if command < FIRST_FAST {
         return put(from, body.len() as u8, out);
     }
     from
@@ -61,8 +56,7 @@ pub fn write_command(command: u8, body: &[u8], out: &mut [u8]) -> Written
             length: 0,
         };
     }
-    let needed = wire_length(command, body);
-    let short = out.len() < needed;
+    let short = is_short(command, body, out.len());
     if short {
         return Written {
             refusal: ROOM_REFUSED,

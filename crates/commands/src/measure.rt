@@ -3,16 +3,15 @@ ghost use mathlib.Core.Path.{_≡_};
 ghost use mathlib.Core.List.{[], _∷_};
 ghost use Prim.Native.Nat.{_≤_, _<_};
 ghost use lib.ListN.{length};
+ghost use lib.Dec.{ltb};
 ghost use Rattle.document.specs.Message.{lengthPart};
 ghost use Rattle.document.specs.CommandWriter.{commandOnWire};
 ghost use Rattle.line.specs.Put.{progressed};
+use codes::FIRST_FAST;
 use line::doubling::PLUS;
 use line::doubling::Progress;
 use line::sum::added;
 use line::sum::sum_byte;
-
-// Commands from here on are fast: their code gives the data length, and no length byte follows.
-pub const FAST: u8 = 0xC0;
 
 // Where a writer will be once it has put this byte.
 fn measured(progress: Progress, byte: u8) -> Progress
@@ -49,13 +48,13 @@ fn measured_length(from: Progress, command: u8, body: &[u8]) -> Progress
     requires { ⌜ (from .at ≤ 2) × (length (now body) ≤ 255) ⌝ }
     ensures { λ r. ⌜ r ≡ progressed from (lengthPart command (now (body .entry))) ⌝ }
 {
-    if command < FAST {
+    if command < FIRST_FAST {
         return measured(from, body.len() as u8);
     }
     from
 }
 
-pub fn wire_length(command: u8, body: &[u8]) -> usize
+fn wire_length(command: u8, body: &[u8]) -> usize
     requires { ⌜ length (now body) ≤ 255 ⌝ }
     ensures { λ r. ⌜ r ≡ length (commandOnWire command (now (body .entry))) ⌝ }
 {
@@ -67,4 +66,15 @@ pub fn wire_length(command: u8, body: &[u8]) -> usize
     let behind = measured_all(before, body);
     let end = measured(behind, sum_byte(behind.sum));
     end.at
+}
+
+// Whether so much room is too little. Where a message of which every byte is doubled would find room, nothing need be measured.
+pub fn is_short(command: u8, body: &[u8], room: usize) -> bool
+    requires { ⌜ length (now body) ≤ 255 ⌝ }
+    ensures { λ r. ⌜ r ≡ ltb room (length (commandOnWire command (now (body .entry)))) ⌝ }
+{
+    if room >= 2 * body.len() + 6 {
+        return false;
+    }
+    room < wire_length(command, body)
 }

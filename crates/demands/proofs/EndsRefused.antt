@@ -1,6 +1,6 @@
 -- At both ends of the line a refused call leaves all as it was.
-use mathlib.Core.Path.{_≡_, ap, _∙_}
-use mathlib.Core.Bool.{cond}
+use mathlib.Core.Path.{_≡_, refl, sym, ap, _∙_}
+use mathlib.Core.Bool.{true, false, cond}
 use mathlib.Core.List.{List}
 use Prim.Native.Nat.{ℕ}
 use lib.Dec.{eqb}
@@ -10,16 +10,16 @@ use Rattle.document.specs.Numbers.{taken}
 use Rattle.document.specs.Answer.{Answer, answerOnWire}
 use Rattle.document.specs.AnswerWriter.{answerRefusal, answerWritten, answerBuffer}
 use Rattle.document.specs.CommandWriter.{commandOnWire, commandRefusal, commandWritten, commandBuffer}
-use Rattle.document.specs.AnswerReader.{Brought, beginRefusal, readBuffer}
+use Rattle.document.specs.AnswerReader.{Brought, readBuffer}
+use Rattle.document.specs.AnswerReader.Brought.{wrong}
 use Rattle.line.specs.declared.Written.{Written}
 use Rattle.line.specs.AnswerWritten.{AnswerWritten}
 use Rattle.commands.specs.CommandWritten.{CommandWritten}
-use Rattle.host.specs.declared.reader.AnswerReader.{AnswerReader}
-use Rattle.host.specs.declared.reader.Begun.{Begun}
-use Rattle.host.specs.declared.reader.Read.{Read}
-use Rattle.host.specs.declared.reader.Event.the-variants as event
-use Rattle.host.specs.Reader.{fresh, stepped}
-use Rattle.host.specs.Promises.{BeginDone, ReadDone, beginResult, gives, readerRefusal, readResult, bufferLeft}
+use Rattle.host.specs.Reader.{Step, fresh, stepped}
+use Rattle.host.proofs.Idle.{wrong-idle}
+use Rattle.reader.specs.declared.calls.ReadByte.{ReadByte}
+use Rattle.reader.specs.Layout.{decodedReader, encodedReader}
+use Rattle.reader.specs.Promises.{beginNumber, BeginDone, readNumber, without, readOf, ReadDone}
 use Rattle.demands.specs.Refused.{WriteRefused, BeginRefused, ReadRefused}
 use Rattle.demands.proofs.Goes.{goes, stays}
 
@@ -51,41 +51,39 @@ command-refused command body before r after promised =
           );
     }
 
-pub begin-refused : (reader : AnswerReader) (expected : ℕ) (r : Begun) → BeginDone reader expected r → BeginRefused reader expected r
-unfolding beginResult
-begin-refused reader expected r promised =
-    let number : r .refusal ≡ beginRefusal expected = ap (λ (b : Begun). b .refusal) (promised .result) in
+pub begin-refused : (block : List ℕ) (expected r : ℕ) (after : List ℕ) → BeginDone block expected r after → BeginRefused block expected r after
+begin-refused block expected r after promised =
     record {
-      refusal = number;
+      number = promised .result;
       unchanged = λ other.
-          stays (beginRefusal expected) (r .next) (fresh expected) reader (λ e. other (number ∙ e)) (ap (λ (b : Begun). b .next) (promised .result));
+          stays (beginNumber block expected) after (sets block 0 (encodedReader (fresh expected))) block (λ e. other (promised .result ∙ e)) (promised .reader);
     }
 
-module _ (reader : AnswerReader) (b : ℕ) (before : List ℕ) (d : Read) (after : List ℕ) (promised : ReadDone reader b before d after) where
-  abbrev kept : Read
-  kept = record { refusal = readerRefusal reader before; next = reader; event = event.Nothing }
+module _ (block : List ℕ) (b : ℕ) (buffer : List ℕ) (r : ReadByte) (after told : List ℕ) (promised : ReadDone block b buffer r after told) where
+  abbrev step : Step
+  step = stepped (decodedReader block) b
 
-  is : d ≡ cond (eqb (readerRefusal reader before) taken) (gives (stepped reader b)) kept
-  unfolding readResult
-  is = promised .result
+  abbrev number : ℕ
+  number = readNumber block buffer
 
-  left : after ≡ cond (eqb (readerRefusal reader before) taken) (readBuffer (stepped reader b .brings) before) before
-  unfolding bufferLeft
-  left = promised .buffer
-
-  pub read-refused : ReadRefused reader b before d after
+  pub read-refused : ReadRefused block b buffer r after told
   read-refused =
       record {
         unchanged = λ no.
-            let same : d ≡ kept = stays (readerRefusal reader before) d (gives (stepped reader b)) kept no is in (
-              ap (λ (q : Read). q .refusal) same,
-              ap (λ (q : Read). q .next) same,
-              stays (readerRefusal reader before) after (readBuffer (stepped reader b .brings) before) before no left,
+            let same : r ≡ without number = stays number r (readOf (step .brings)) (without number) no (promised .result) in (
+              ap (λ (q : ReadByte). q .refusal) same,
+              ap (λ (q : ReadByte). q .whole) same,
+              stays number after (sets block 0 (encodedReader (step .next))) block no (promised .reader),
+              stays number told (readBuffer (step .brings) buffer) buffer no (promised .buffer-told),
             );
-        consumed = λ yes.
-            let same : d ≡ gives (stepped reader b) = goes (readerRefusal reader before) d (gives (stepped reader b)) kept yes is in
-            (ap (λ (q : Read). q .refusal) same, ap (λ (q : Read). q .next) same);
         wrong-sum = λ yes bad.
-            goes (readerRefusal reader before) after (readBuffer (stepped reader b .brings) before) before yes left
-            ∙ ap (λ (k : Brought). readBuffer k before) bad;
+            let same : r ≡ readOf wrong =
+            goes number r (readOf (step .brings)) (without number) yes (promised .result) ∙ ap readOf bad in (
+              ap (λ (q : ReadByte). q .refusal) same,
+              ap (λ (q : ReadByte). q .whole) same,
+              goes number after (sets block 0 (encodedReader (step .next))) block yes (promised .reader),
+              wrong-idle (decodedReader block) b bad,
+              goes number told (readBuffer (step .brings) buffer) buffer yes (promised .buffer-told)
+                  ∙ ap (λ (k : Brought). readBuffer k buffer) bad,
+            );
       }

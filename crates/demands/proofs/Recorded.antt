@@ -1,7 +1,7 @@
 -- The recorder's history of a house: from its start on it goes through the events among what happens, so its buffer holds the
 -- last sets of them.
 use mathlib.Core.Path.{_≡_, sym, ap, _∙_}
-use mathlib.Core.List.{List, _++_}
+use mathlib.Core.List.{List}
 use Prim.Native.Nat.{ℕ, min}
 use lib.ListN.{length}
 use Rattle.document.specs.Areas.{memoryEnd}
@@ -13,39 +13,36 @@ use Rattle.document.specs.Gate.{Gate}
 use Rattle.document.specs.Happenings.{Happening, Since, afterAll}
 use Rattle.history.specs.History.{PlanFits, begun, after, memoriesLeft}
 use Rattle.history.proofs.History.{history, next-place}
-use Rattle.recorder.specs.State.{recorderOf}
-use Rattle.demands.specs.Bytes.{Bytes, bytesOf}
-use Rattle.demands.specs.House.{House, servedAll}
+use Rattle.happenings.specs.Recording.{events, AllUndisturbed}
+use Rattle.happenings.proofs.Follows.{Followed, followed-all}
+use Rattle.demands.specs.House.{House, gateIn}
 use Rattle.demands.specs.Stands.{Stands}
-use Rattle.demands.specs.Recording.{events, AllUndisturbed, Recorded}
-use Rattle.demands.proofs.House.{stands-all}
-use Rattle.demands.proofs.Follows.{Followed, followed-all}
+use Rattle.demands.specs.Recorded.{Recorded}
 
-module _ (buffer : List ℕ) (h : House) (s : Since) (stands : Stands buffer h s) (size : length (h .memory) ≡ memoryEnd) (p : Plan) (fits : PlanFits p)
-    (just : recorderOf (h .target .instruments .recorder) ≡ planned p started) (hs : List Happening) (bytes : Bytes (s .bytes ++ bytesOf hs)) (quiet : AllUndisturbed s hs) where
+module _ (h last : House) (s : Since) (hs : List Happening) (now : Stands h s) (end : Stands last (afterAll s hs)) (size : length (h .memory) ≡ memoryEnd) (p : Plan)
+    (fits : PlanFits p) (just : gateIn h .recorder ≡ planned p started) (quiet : AllUndisturbed s hs) where
   same-memory : s .gate .memory ≡ h .memory
-  same-memory = ap (λ (g : Gate). g .memory) (sym (stands .gate))
+  same-memory = ap (λ (g : Gate). g .memory) (sym (now .gate))
 
   followed : Followed p (afterAll s hs .gate) (begun (h .memory)) (events s hs)
   followed =
-      followed-all p hs s (begun (h .memory)) bytes
+      followed-all p hs s (begun (h .memory))
       (record {
-        recorder = ap (λ (g : Gate). g .recorder) (sym (stands .gate)) ∙ just;
+        recorder = ap (λ (g : Gate). g .recorder) (sym (now .gate)) ∙ just;
         memory = same-memory;
         size = ap length same-memory ∙ size;
       })
       quiet
 
-  pub recorded : Recorded p (servedAll buffer h hs) (setsTaken p (memoriesLeft (h .memory) (events s hs)))
+  pub recorded : Recorded p last (setsTaken p (memoriesLeft (h .memory) (events s hs)))
   recorded =
-      let last : Stands buffer (servedAll buffer h hs) (afterAll s hs) = stands-all buffer hs h s bytes stands in
       let run : DocumentRun = after p (begun (h .memory)) (events s hs) .run in
       let sets : List (List ℕ) = setsTaken p (memoriesLeft (h .memory) (events s hs)) in
-      let memory : servedAll buffer h hs .memory ≡ after p (begun (h .memory)) (events s hs) .memory =
-      ap (λ (g : Gate). g .memory) (last .gate) ∙ followed .follows .memory in
+      let memory : last .memory ≡ after p (begun (h .memory)) (events s hs) .memory =
+      ap (λ (g : Gate). g .memory) (end .gate) ∙ followed .follows .memory in
       record {
         run = run;
-        recorder = ap (λ (g : Gate). g .recorder) (last .gate) ∙ followed .follows .recorder;
+        recorder = ap (λ (g : Gate). g .recorder) (end .gate) ∙ followed .follows .recorder;
         reading =
             ap (λ (m : List ℕ). readRound p m (startIndex run) (min (length sets) (p .samples))) memory
             ∙ history p (h .memory) (events s hs) fits size (followed .leaves);

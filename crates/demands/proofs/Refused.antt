@@ -1,27 +1,32 @@
 -- A refused call leaves all as it was, and only the document's table refuses on the wire.
 use mathlib.Core.Path.{_≡_, refl, sym, ap, _∙_}
-use mathlib.Core.Bool.{Bool, false, cond, false≢true}
+use mathlib.Core.Bool.{Bool, true, false, cond, false≢true}
 use mathlib.Core.List.{List, []}
-use Prim.Native.Nat.{ℕ}
-use borrow.Author.Tests.{eqb-true, ne-eqb, eq-eqb}
-use lib.Dec.{eqb}
-use Rattle.document.specs.Numbers.{taken, done, recorderRuns, recorderStopped, sumWrong, isError}
-use Rattle.document.specs.Calls.{byteRefusal, tickRefusal}
+use Prim.Native.Nat.{ℕ, _<_}
+use native.Mathlib.Omega.{arith}
+use borrow.Author.Tests.{eqb-true, ne-eqb}
+use lib.Dec.{eqb, leb}
+use lib.ListN.{length}
+use lib.Seq.{sets}
+use Rattle.document.specs.Numbers.{taken, stateRefused, done, sumWrong, isError}
 use Rattle.document.specs.Message.{Message, sumRight}
-use Rattle.document.specs.Recorder.{isRunning, tickedMemory}
+use Rattle.document.specs.Recorder.{tickedMemory}
 use Rattle.document.specs.Gate.{Gate, Outcome, says}
 use Rattle.document.specs.Refusals.{refusal}
-use Rattle.document.specs.Commands.{carriedOut, answered}
+use Rattle.document.specs.Commands.{answered}
 use Rattle.document.proofs.Cases.{split}
+use Rattle.outcomes.proofs.Answered.{accepted-right}
 use Rattle.recorder.specs.State.{recorderOf}
-use Rattle.target.specs.declared.state.Target.{Target}
-use Rattle.target.specs.declared.byte.Taken.{Taken}
-use Rattle.target.specs.declared.tick.Ticked.{Ticked}
-use Rattle.target.specs.Bounds.{sound}
-use Rattle.target.specs.Calls.{Turn, turn, tickedTarget, ByteTaken, TickTaken}
-use Rattle.demands.proofs.Carried.{carried-by}
+use Rattle.state.specs.Bounds.{fresh}
+use Rattle.blocks.specs.Places.{stateLength}
+use Rattle.blocks.specs.Layout.{decoded, encoded}
+use Rattle.checks.specs.Promises.{ResetDone, Checked, byteNumber, tickNumber}
+use Rattle.target.specs.Turn.{Turn, turn}
+use Rattle.tick_call.specs.Promises.{tickedTarget, TickTaken}
+use Rattle.byte_call.specs.declared.Taken.{Taken}
+use Rattle.byte_call.specs.Promises.{ByteTaken}
+use Rattle.demands.specs.Refused.{ResetRefused, CheckRefused, ByteRefused, TickRefused, WireRefused}
 use Rattle.demands.proofs.Goes.{stays}
-use Rattle.demands.specs.Refused.{ByteRefused, TickRefused, WireRefused}
 
 -- ---- calls
 
@@ -33,80 +38,60 @@ numbered number refusal x given kept goes stays e =
     (λ t. ap number (e ∙ ap (λ (k : Bool). cond k given kept) t) ∙ goes ∙ sym (eqb-true refusal taken t))
     (λ f. ap number (e ∙ ap (λ (k : Bool). cond k given kept) f) ∙ stays)
 
-module _ (t : Target) (b : ℕ) (memory buffer : List ℕ) (r : Taken) (left told : List ℕ) (promised : ByteTaken t b memory buffer r left told) where
-  pub byte-refused : ByteRefused t memory buffer r left told
+pub reset-refused : (block : List ℕ) (r : ℕ) (after : List ℕ) → ResetDone block r after → ResetRefused block r after
+reset-refused block r after promised =
+    record {
+      number = promised .result;
+      unchanged = λ other.
+          split (leb stateLength (length block))
+          (λ long. absurd (other (promised .result ∙ ap (λ (k : Bool). cond k taken stateRefused) long)))
+          (λ short. promised .state ∙ ap (λ (k : Bool). cond k (sets block 0 (encoded fresh)) block) short);
+    }
+
+pub check-refused : (block : List ℕ) (r : ℕ) → Checked block r → CheckRefused block r
+check-refused block r promised = record { number = promised .result }
+
+module _ (block : List ℕ) (b : ℕ) (memory buffer : List ℕ) (r : Taken) (after left told : List ℕ) (promised : ByteTaken block b memory buffer r after left told) where
+  pub byte-refused : ByteRefused block memory buffer r after left told
   byte-refused =
-      let u : Turn = turn t b memory buffer in
-      let n : ℕ = byteRefusal (sound t) memory buffer in
-      let given : Taken = record { refusal = taken; length = u .length; next = u .next } in
-      let kept : Taken = record { refusal = n; length = 0; next = t } in
+      let u : Turn = turn (decoded block) b memory buffer in
+      let n : ℕ = byteNumber block memory buffer in
+      let given : Taken = record { refusal = taken; length = u .length } in
+      let kept : Taken = record { refusal = n; length = 0 } in
       let number : r .refusal ≡ n = numbered (λ (x : Taken). x .refusal) n r given kept refl refl (promised .result) in
       record {
         number = number;
         unchanged = λ other.
-            let no : n ≡ taken → ⊥ = λ e. other (number ∙ e) in
-            let same : r ≡ kept = stays n r given kept no (promised .result) in (
-              ap (λ (x : Taken). x .length) same,
-              ap (λ (x : Taken). x .next) same,
+            let no : n ≡ taken → ⊥ = λ e. other (number ∙ e) in (
+              ap (λ (x : Taken). x .length) (stays n r given kept no (promised .result)),
+              stays n after (sets block 0 (encoded (u .next))) block no (promised .state),
               stays n left (u .memory) memory no (promised .memory-left),
               stays n told (u .buffer) buffer no (promised .buffer-told),
             );
       }
 
-module _ (t : Target) (memory : List ℕ) (r : Ticked) (left : List ℕ) (promised : TickTaken t memory r left) where
-  pub tick-refused : TickRefused t memory r left
+module _ (block memory : List ℕ) (r : ℕ) (after left : List ℕ) (promised : TickTaken block memory r after left) where
+  pub tick-refused : TickRefused block memory r after left
   tick-refused =
-      let n : ℕ = tickRefusal (sound t) memory in
-      let given : Ticked = record { refusal = taken; next = tickedTarget t memory } in
-      let kept : Ticked = record { refusal = n; next = t } in
-      let number : r .refusal ≡ n = numbered (λ (x : Ticked). x .refusal) n r given kept refl refl (promised .result) in
+      let n : ℕ = tickNumber block memory in
       record {
-        number = number;
+        number = promised .result;
         unchanged = λ other.
-            let no : n ≡ taken → ⊥ = λ e. other (number ∙ e) in (
-              ap (λ (x : Ticked). x .next) (stays n r given kept no (promised .result)),
-              stays n left (tickedMemory (recorderOf (t .instruments .recorder)) memory) memory no (promised .memory-left),
+            let no : n ≡ taken → ⊥ = λ e. other (promised .result ∙ e) in (
+              stays n after (sets block 0 (encoded (tickedTarget (decoded block) memory))) block no (promised .state),
+              stays n left (tickedMemory (recorderOf (decoded block .instruments .recorder)) memory) memory no (promised .memory-left),
             );
       }
 
 -- ---- the wire
 
--- what is carried out says no error
-carried-right : (g : Gate) (c : ℕ) (body : List ℕ) → isError (carriedOut g c body .answer .status) ≡ false
-carried-right g c body =
-    carried-by (λ (o : Outcome). isError (o .answer .status) ≡ false) g c body
-    (record {
-      describes = refl;
-      describes-briefly = refl;
-      reads-memory = refl;
-      writes-memory = refl;
-      writes-masked = refl;
-      sets-up-scope = refl;
-      reads-scope = refl;
-      sets-up-recorder = λ t. refl;
-      starts = λ t. runs recorderRuns done refl refl;
-      stops = λ t. runs done recorderStopped refl refl;
-      says-status = runs recorderRuns recorderStopped refl refl;
-      queries = refl;
-    })
-  where
-    runs : (s s′ : ℕ) → isError s ≡ false → isError s′ ≡ false → isError (cond (isRunning (g .recorder)) s s′) ≡ false
-    runs s s′ e e′ = split (isRunning (g .recorder)) (λ t. rw t e) (λ f. rw f e′)
-
 pub wire-refused : (g : Gate) (m : Message) → WireRefused g m
 unfolding answered
 wire-refused g m =
     record {
-      refused = λ other. ap (λ (k : Bool). cond k carried (says g (refusal g m) [])) (ne-eqb (refusal g m) done other);
-      exactly = λ error none.
-          let right : isError (answered g m .answer .status) ≡ false =
-          ap (λ (k : Bool). isError (cond k carried (says g (refusal g m) []) .answer .status)) (eq-eqb (refusal g m) done none)
-          ∙ carried-right g (m .command) (m .body) in
-          false≢true (sym right ∙ error);
+      refused = λ other. rw (ne-eqb (refusal g m) done other) refl;
+      exactly = λ error none. false≢true (sym (accepted-right g m none) ∙ error);
     }
-  where
-    carried : Outcome
-    carried = carriedOut g (m .command) (m .body)
 
 -- a wrong sum is the first thing that is looked at
 pub sum-refused : (g : Gate) (m : Message) → sumRight m ≡ false → answered g m ≡ says g sumWrong []

@@ -1,139 +1,233 @@
--- What a run since reset comes to: the house that the definitions of the calls give, within its bounds, standing for document 01.
-use mathlib.Core.Path.{_≡_, sym, ap, subst, _∙_}
-use mathlib.Core.List.{List, [], _∷_, _++_}
+-- What a run since reset comes to: a house within its bounds, standing for document 01.
+use mathlib.Core.Path.{_≡_, refl, sym, ap, subst, _∙_}
+use mathlib.Core.List.{List, [], _∷_, _++_, map, map-append, append-nil}
 use Prim.Native.Nat.{ℕ, _<_, _≤_}
+use native.Mathlib.Omega.{arith}
+use borrow.Author.Tests.{le-leb}
 use lib.Dec.{eqb}
 use lib.ListN.{length}
-use Rattle.document.specs.Numbers.{taken}
-use Rattle.document.specs.Calls.{byteRefusal, tickRefusal}
-use Rattle.document.specs.Message.{Message}
+use lib.Seq.{sets, length-sets}
+use Rattle.document.specs.Bytes.{AllBytes}
+use Rattle.document.specs.Numbers.{answerRoom}
+use Rattle.document.specs.Message.{Message, finishedBy}
+use Rattle.document.specs.Answer.{Answer, answerOnWire}
+use Rattle.document.specs.Stores.{stored}
 use Rattle.document.specs.Plan.{Plan}
 use Rattle.document.specs.Run.{Run as DocumentRun}
-use Rattle.document.specs.Recorder.{Recorder, recorderAbsent}
+use Rattle.document.specs.Recorder.{Recorder, recorderAbsent, tickedMemory}
 use Rattle.document.specs.Recorder.Recorder.{absent, planned}
+use Rattle.document.specs.Gate.{Gate, fresh as gate, withMemory}
+use Rattle.document.specs.Asides.{Aside, beside, tickedGate}
+use Rattle.document.specs.Asides.Aside.{tick, writes}
+use Rattle.document.specs.Happenings.{Happening, Since, told, after, afterAll, fromReset as since}
+use Rattle.document.specs.Happenings.Happening.{byte, aside}
+use Rattle.document.proofs.Cases.{split, neither}
 use Rattle.history.specs.History.{PlanFits}
+use Rattle.link.specs.Report.{sinceReset}
+use Rattle.scope.specs.State.{scopeOf}
+use Rattle.plans.proofs.Granted.{sound-fits}
 use Rattle.recorder.specs.declared.state.Recorder.{Recorder as RecorderState}
 use Rattle.recorder.specs.State.{recorderOf}
 use Rattle.recorder.proofs.Keeps.{sound-parts}
-use Rattle.plans.proofs.Granted.{sound-fits}
-use Rattle.target.proofs.TargetBounds.{parts-of}
-use Rattle.document.proofs.Cases.{split, neither}
-use Rattle.document.specs.Gate.{Gate, fresh as gate}
-use Rattle.document.specs.Happenings.{Happening, afterAll, fromReset as since}
-use Rattle.document.specs.Happenings.Happening.{byte, tick, writes}
-use Rattle.target.specs.Bounds.{sound}
-use Rattle.demands.specs.Bytes.{AllBytes, Bytes, AreBytes, bytesOf}
-use Rattle.demands.specs.House.{House, served, servedAll, fromReset}
-use Rattle.demands.specs.Run.{Lent, Step, Run}
-use Rattle.demands.specs.Stands.{Stands}
-use Rattle.demands.specs.Fresh.{AnsweredFresh, NothingByHalf}
-use Rattle.demands.specs.Within.{Within}
-use Rattle.demands.proofs.ByteLaws.{all-at, all-append}
-use Rattle.demands.proofs.Within.{within-all, within-reset}
-use Rattle.demands.proofs.Served.{byte-taken, tick-taken, step-byte, run-served}
-use Rattle.demands.proofs.Resync.{bytes-after}
-use Rattle.demands.proofs.House.{stands-since-reset}
+use Rattle.ticks.proofs.Ticked.{ticked-means}
+use Rattle.state.specs.State.{Target, gateOf}
+use Rattle.state.specs.Bounds.{fresh}
+use Rattle.state.specs.Within.{MemoryWithin, Within}
+use Rattle.state.proofs.ByteLaws.{all-at, all-append}
+use Rattle.state.proofs.Keeps.{recorder-ticked, memory-stored, memory-ticked, within-fits, within-reset}
+use Rattle.blocks.specs.Places.{stateLength}
+use Rattle.blocks.specs.Layout.{decoded, encoded}
+use Rattle.blocks.proofs.Back.{stored-decoded}
+use Rattle.checks.specs.Promises.{ResetDone}
+use Rattle.target.specs.Turn.{Turn, turn}
+use Rattle.target.proofs.Keeps.{byte-keeps}
+use Rattle.tick_call.specs.Promises.{tickedTarget}
+use Rattle.happenings.specs.Bytes.{Bytes, bytesOf, BesideIsBytes, IsBytes, AreBytes}
+use Rattle.happenings.proofs.Resync.{told-bytes}
+use Rattle.demands.specs.House.{House, gateIn}
+use Rattle.demands.specs.Run.{Beside, Step, Run}
+use Rattle.demands.specs.Run.Run.{ends, happens, refuses}
+use Rattle.demands.specs.Stands.{blank, linkIn, Stands}
+use Rattle.demands.proofs.Served.{servedByte, servedTick, refused-kept, room-lent, step-byte, step-tick}
+use Rattle.demands.proofs.Turns.{answersTo, gateAfter, TurnStands, turn-stands}
 
 -- ---- what comes over the line is bytes
-pub line-bytes : (hs : List Happening) → AreBytes hs → AllBytes (bytesOf hs)
+line-bytes : (hs : List Happening) → AreBytes hs → AllBytes (bytesOf hs)
 line-bytes [] are = tt
 line-bytes (byte b ∷ hs) are = (are .0, line-bytes hs (are .1))
-line-bytes (tick ∷ hs) are = line-bytes hs are
-line-bytes (writes address bytes ∷ hs) are = line-bytes hs (are .1)
+line-bytes (aside a ∷ hs) are = line-bytes hs (are .1)
 
-bytes-last : (hs : List Happening) (b : ℕ) → AreBytes hs → b < 256 → AllBytes (bytesOf hs ++ (b ∷ []))
-bytes-last hs b are small = all-append (bytesOf hs) (b ∷ []) (line-bytes hs are) (small, tt)
-
-pub bytes-to : (first hs : List Happening) (b : ℕ) → AreBytes first → AreBytes hs → b < 256 → Bytes (bytesOf first ++ (bytesOf hs ++ (b ∷ [])))
-bytes-to first hs b are more small =
-    all-at (bytesOf first ++ (bytesOf hs ++ (b ∷ []))) (all-append (bytesOf first) (bytesOf hs ++ (b ∷ [])) (line-bytes first are) (bytes-last hs b more small))
-
-pub bytes-through : (first mid hs : List Happening) (b : ℕ) → AreBytes first → AreBytes mid → AreBytes hs → b < 256
-    → Bytes (bytesOf first ++ (bytesOf mid ++ (bytesOf hs ++ (b ∷ []))))
-bytes-through first mid hs b are between more small =
-    all-at (bytesOf first ++ (bytesOf mid ++ (bytesOf hs ++ (b ∷ []))))
-    (all-append (bytesOf first) (bytesOf mid ++ (bytesOf hs ++ (b ∷ []))) (line-bytes first are)
-    (all-append (bytesOf mid) (bytesOf hs ++ (b ∷ [])) (line-bytes mid between) (bytes-last hs b more small)))
+-- ---- a house within its bounds, that stands for document 01 after these bytes
+pub record Reached (h : House) (s : Since) : Type 0 where
+  pub long : stateLength ≤ length (h .block)
+  pub within : Within (decoded (h .block)) (h .memory)
+  pub stands : Stands h s
+  pub bytes : AllBytes (s .bytes)
 
 -- the bytes since reset, and those that come
-pub bytes-since : (memory : List ℕ) (first hs : List Happening) → AreBytes first → AreBytes hs
-    → Bytes (afterAll (since (gate memory)) first .bytes ++ bytesOf hs)
-bytes-since memory first hs are more =
-    subst (λ (bs : List ℕ). Bytes (bs ++ bytesOf hs)) (sym (bytes-after first (since (gate memory))))
-    (all-at (bytesOf first ++ bytesOf hs) (all-append (bytesOf first) (bytesOf hs) (line-bytes first are) (line-bytes hs more)))
+pub bytes-on : (h : House) (s : Since) → Reached h s → (hs : List Happening) → AreBytes hs → Bytes (s .bytes ++ bytesOf hs)
+bytes-on h s r hs are = all-at (s .bytes ++ bytesOf hs) (all-append (s .bytes) (bytesOf hs) (r .bytes) (line-bytes hs are))
 
--- ---- a run since reset
-pub record AfterRun (buffer memory : List ℕ) (hs : List Happening) (h : House) : Type 0 where
-  pub is : h ≡ servedAll buffer (fromReset memory) hs
-  pub within : Within h
-  pub stands : Stands buffer h (afterAll (since (gate memory)) hs)
-  pub byte-taken : byteRefusal (sound (h .target)) (h .memory) buffer ≡ taken
-  pub tick-taken : tickRefusal (sound (h .target)) (h .memory) ≡ taken
+-- the block of a house in which a state was stored
+still-long : (block : List ℕ) (t : Target) → stateLength ≤ length block → stateLength ≤ length (sets block 0 (encoded t))
+still-long block t long = omega (arith, long, length-sets block 0 (encoded t))
 
-pub after-run : (buffer memory : List ℕ) (lent : Lent buffer memory) (hs : List Happening) (h : House) → AreBytes hs
-    → Run buffer (fromReset memory) hs h → AfterRun buffer memory hs h
-after-run buffer memory lent hs h are run =
-    let w : Within (fromReset memory) = within-reset memory (lent .size) (lent .bytes) in
-    let is : h ≡ servedAll buffer (fromReset memory) hs = run-served buffer (lent .room) hs (fromReset memory) h are w run in
-    let within : Within h = subst (λ (q : House). Within q) (sym is) (within-all buffer hs (fromReset memory) are w) in
+-- ---- a byte
+
+-- what is told is what stands behind the definition's answers
+told-answers : (s : Since) (ms : List Message) → told s ms .answers ≡ s .answers ++ answersTo (s .gate) ms
+told-answers s [] = sym (append-nil (s .answers))
+told-answers s (m ∷ ms) = refl
+
+told-gate : (s : Since) (ms : List Message) → told s ms .gate ≡ gateAfter (s .gate) ms
+told-gate s [] = refl
+told-gate s (m ∷ ms) = refl
+
+module _ (h : House) (s : Since) (r : Reached h s) where
+  module _ (b : ℕ) (small : b < 256) (buffer : List ℕ) (room : answerRoom ≤ length buffer) where
+    abbrev u : Turn
+    u = turn (decoded (h .block)) b (h .memory) buffer
+
+    abbrev grown : Since
+    grown = record { bytes = s .bytes ++ (b ∷ []); gate = s .gate; answers = s .answers }
+
+    keeps : Within (turn (decoded (h .block)) b (h .memory) buffer .next) (turn (decoded (h .block)) b (h .memory) buffer .memory)
+    keeps = byte-keeps (decoded (h .block)) (h .memory) buffer (r .within) b small
+
+    there : decoded (sets (h .block) 0 (encoded (turn (decoded (h .block)) b (h .memory) buffer .next))) ≡ turn (decoded (h .block)) b (h .memory) buffer .next
+    there = stored-decoded (h .block) (u .next) (r .long) (within-fits (u .next) (u .memory) keeps)
+
+    pub reached-byte : Reached (servedByte h b buffer) (after s (byte b))
+    reached-byte =
+        let stood = turn-stands (decoded (h .block)) b (h .memory) buffer room s (r .stands .gate) (r .stands .link-part) in
+        let ms : List Message = finishedBy (s .bytes) b in
+        record {
+          long = still-long (h .block) (u .next) (r .long);
+          within = subst (λ (q : Target). Within q (u .memory)) (sym there) keeps;
+          stands =
+              record {
+                gate = ap (λ (q : Target). gateOf (q .instruments) (u .memory)) there ∙ stood .gate ∙ sym (told-gate grown ms);
+                answers =
+                    (λ j. r .stands .answers j ++ stood .answers j)
+                    ∙ sym (map-append answerOnWire (s .answers) (answersTo (s .gate) ms))
+                    ∙ ap (map answerOnWire) (sym (told-answers grown ms));
+                link-part =
+                    ap linkIn there
+                    ∙ stood .link-part
+                    ∙ ap (λ (bs : List ℕ). sinceReset blank bs) (sym (told-bytes ms grown));
+              };
+          bytes = subst AllBytes (sym (told-bytes ms grown)) (all-append (s .bytes) (b ∷ []) (r .bytes) (small, tt));
+        }
+
+  -- ---- what happens beside the bytes: the link is untouched, the bounds are kept, and the gate is what the definition makes of it
+
+  pub reached-tick : Reached (servedTick h) (after s (aside tick))
+  unfolding beside
+  reached-tick =
+      let w = r .within in
+      let next : Target = tickedTarget (decoded (h .block)) (h .memory) in
+      let left : List ℕ = tickedMemory (recorderOf (decoded (h .block) .instruments .recorder)) (h .memory) in
+      let keeps : Within next left =
+      record {
+        link-part = record { receiver = w .link-part .receiver; command = w .link-part .command; size = w .link-part .size; body = w .link-part .body };
+        scope-part = w .scope-part;
+        recorder-part = recorder-ticked (decoded (h .block) .instruments .recorder) (h .memory) (w .recorder-part) (w .memory-part);
+        memory-part = memory-ticked (recorderOf (decoded (h .block) .instruments .recorder)) (h .memory) (w .memory-part);
+      } in
+      let there : decoded (servedTick h .block) ≡ next = stored-decoded (h .block) next (r .long) (within-fits next left keeps) in
+      let ticked : gateOf (next .instruments) left ≡ tickedGate (gateIn h) =
+      λ j.
+      record {
+        memory = left;
+        scope = scopeOf (decoded (h .block) .instruments .scope);
+        recorder = ticked-means (decoded (h .block) .instruments .recorder) (h .memory) j;
+      } in
+      record {
+        long = still-long (h .block) next (r .long);
+        within = subst (λ (q : Target). Within q left) (sym there) keeps;
+        stands =
+            record {
+              gate = ap (λ (q : Target). gateOf (q .instruments) left) there ∙ ticked ∙ ap tickedGate (r .stands .gate);
+              answers = r .stands .answers;
+              link-part = ap linkIn there ∙ r .stands .link-part;
+            };
+        bytes = r .bytes;
+      }
+
+  pub reached-write : (address : ℕ) (bytes : List ℕ) → AllBytes bytes
+      → Reached (record { block = h .block; memory = stored (h .memory) address bytes; answers = h .answers }) (after s (aside (writes address bytes)))
+  unfolding beside
+  reached-write address bytes are =
+      record {
+        long = r .long;
+        within =
+            record {
+              link-part = r .within .link-part;
+              scope-part = r .within .scope-part;
+              recorder-part = r .within .recorder-part;
+              memory-part = memory-stored (h .memory) address bytes (r .within .memory-part) are;
+            };
+        stands =
+            record {
+              gate = ap (λ (g : Gate). withMemory g (stored (g .memory) address bytes)) (r .stands .gate);
+              answers = r .stands .answers;
+              link-part = r .stands .link-part;
+            };
+        bytes = r .bytes;
+      }
+
+  reached-beside : (a : Aside) (next : House) → BesideIsBytes a → Beside h a next → Reached next (after s (aside a))
+  reached-beside tick next are step =
+      let same = memory-ticked (recorderOf (decoded (h .block) .instruments .recorder)) (h .memory) (r .within .memory-part) .size ∙ sym (r .within .memory-part .size) in
+      subst (λ (q : House). Reached q (after s (aside tick))) (sym (step-tick h (r .long) (r .within) next (step .0) (step .1) (step .2) same)) reached-tick
+  reached-beside (writes address bytes) next are step =
+      subst (λ (q : House). Reached q (after s (aside (writes address bytes)))) (sym step) (reached-write address bytes are)
+
+  -- whatever happens, with whatever lent
+  pub reached-step : (e : Happening) (next : House) → IsBytes e → Step h e next → Reached next (after s e)
+  reached-step (byte b) next small step =
+      let call = step .0 in
+      subst (λ (q : House). Reached q (after s (byte b))) (sym (step-byte h (r .long) (r .within) b small next call (step .1) (step .2)))
+      (reached-byte b small (call .buffer) (room-lent h (r .long) (r .within) b small next call (step .1) (step .2)))
+  reached-step (aside a) next are step = reached-beside a next are step
+
+pub reached-run : (h last : House) (hs : List Happening) → Run h hs last → (s : Since) → AreBytes hs → Reached h s → Reached last (afterAll s hs)
+reached-run h last hs (ends _) s are r = r
+reached-run h last hs (happens _ next _ e es step run) s are r =
+    reached-run next last es run (after s e) (are .1) (reached-step h s r e next (are .0) step)
+reached-run h last hs (refuses _ next _ _ refused run) s are r =
+    reached-run next last hs run s are (subst (λ (q : House). Reached q s) (sym (refused-kept h next refused)) r)
+
+-- ---- since reset
+pub reached-reset : (block memory : List ℕ) (r : ℕ) (after : List ℕ) → stateLength ≤ length block → MemoryWithin memory → ResetDone block r after
+    → Reached (record { block = after; memory = memory; answers = [] }) (since (gate memory))
+reached-reset block memory r after long good reset =
+    let stored-fresh : after ≡ sets block 0 (encoded fresh) = reset .state ∙ rw (le-leb stateLength (length block) long) refl in
+    let w : Within fresh memory = within-reset memory good in
+    let there : decoded after ≡ fresh = ap decoded stored-fresh ∙ stored-decoded block fresh long (within-fits fresh memory w) in
     record {
-      is = is;
-      within = within;
+      long = subst (λ (l : List ℕ). stateLength ≤ length l) (sym stored-fresh) (still-long block fresh long);
+      within = subst (λ (q : Target). Within q memory) (sym there) w;
       stands =
-          subst (λ (q : House). Stands buffer q (afterAll (since (gate memory)) hs)) (sym is)
-          (stands-since-reset buffer memory hs (all-at (bytesOf hs) (line-bytes hs are)));
-      byte-taken = byte-taken buffer (lent .room) h within;
-      tick-taken = tick-taken buffer (lent .room) h within;
+          record {
+            gate = ap (λ (q : Target). gateOf (q .instruments) memory) there;
+            answers = refl;
+            link-part = ap linkIn there;
+          };
+      bytes = tt;
     }
 
--- ---- and on from there
-pub record Onward (buffer : List ℕ) (h : House) (hs : List Happening) (last : House) : Type 0 where
-  pub is : last ≡ servedAll buffer h hs
-  pub within : Within last
-
-pub run-on : (buffer : List ℕ) → 132 ≤ length buffer → (h : House) → Within h → (hs : List Happening) (last : House) → AreBytes hs
-    → Run buffer h hs last → Onward buffer h hs last
-run-on buffer room h w hs last are run =
-    let is : last ≡ servedAll buffer h hs = run-served buffer room hs h last are w run in
-    record { is = is; within = subst (λ (q : House). Within q) (sym is) (within-all buffer hs h are w) }
-
--- ---- a message from a house on that has two names
-module _ (buffer : List ℕ) (room : 132 ≤ length buffer) (h H : House) (w : Within h) (is : h ≡ H) (hs : List Happening) (are : AreBytes hs) (b : ℕ) (before last : House)
-    (run : Run buffer h hs before) (step : Step buffer before (byte b) last) where
-  pub message-as : (beside : Gate) (m : Message) → AnsweredFresh buffer H (servedAll buffer H hs) (served buffer (servedAll buffer H hs) (byte b)) beside m
-      → AnsweredFresh buffer h before last beside m
-  message-as beside m fresh =
-      subst (λ (q : House). AnsweredFresh buffer q before last beside m) (sym is)
-      (subst (λ (q : House). AnsweredFresh buffer H q last beside m) (sym to-before)
-      (subst (λ (q : House). AnsweredFresh buffer H (servedAll buffer H hs) q beside m) (sym to-last) fresh))
-    where
-      onward : Onward buffer h hs before
-      onward = run-on buffer room h w hs before are run
-
-      to-before : before ≡ servedAll buffer H hs
-      to-before = onward .is ∙ ap (λ (q : House). servedAll buffer q hs) is
-
-      to-last : last ≡ served buffer (servedAll buffer H hs) (byte b)
-      to-last = step-byte buffer room before (onward .within) b last step ∙ ap (λ (q : House). served buffer q (byte b)) to-before
-
-module _ (buffer : List ℕ) (room : 132 ≤ length buffer) (h H : House) (w : Within h) (is : h ≡ H) (b : ℕ) (last : House) (step : Step buffer h (byte b) last) where
-  pub half-as : (bytes : List ℕ) → NothingByHalf buffer H (served buffer H (byte b)) bytes → NothingByHalf buffer h last bytes
-  half-as bytes half =
-      subst (λ (q : House). NothingByHalf buffer q last bytes) (sym is)
-      (subst (λ (q : House). NothingByHalf buffer H q bytes)
-      (sym (step-byte buffer room h w b last step ∙ ap (λ (q : House). served buffer q (byte b)) is)) half)
-
 -- ---- a plan within bounds is one that a setup grants
-pub plan-fits : (h : House) → Within h → (p : Plan) (r : DocumentRun) → recorderOf (h .target .instruments .recorder) ≡ planned p r → PlanFits p
-plan-fits h w p r e =
+pub plan-fits : (h : House) (s : Since) → Reached h s → (p : Plan) (r : DocumentRun) → gateIn h .recorder ≡ planned p r → PlanFits p
+plan-fits h s reached p r has =
     split (eqb (state .ready) 0)
-    (λ none. neither (ap recorderAbsent (sym (rw none at e))))
+    (λ none. neither (ap recorderAbsent (sym (rw none at has))))
     (λ ready.
-    let within = sound-parts state (parts-of (h .target) (w .state) .recorder-part) ready in
-    subst (λ (q : Plan). PlanFits q) (ap (planOr p) (rw ready at e)) (sound-fits (state .plan) (within .plan)))
+    let parts = sound-parts state (reached .within .recorder-part .sound) ready in
+    subst (λ (q : Plan). PlanFits q) (ap (planOr p) (rw ready at has)) (sound-fits (state .plan) (parts .plan)))
   where
     state : RecorderState
-    state = h .target .instruments .recorder
+    state = decoded (h .block) .instruments .recorder
 
     planOr : Plan → Recorder → Plan
     planOr other absent = other

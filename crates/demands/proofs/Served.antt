@@ -1,68 +1,174 @@
--- No call along a run is refused, so that a run is what the definitions of the calls give, one after the other.
-use mathlib.Core.Path.{_≡_, refl, subst, _∙_}
-use mathlib.Core.List.{List, [], _∷_, _++_}
-use Prim.Native.Nat.{ℕ, _≤_}
-use borrow.Author.Tests.{eq-eqb, le-ltb}
-use lib.ListN.{length}
+-- One step of a run: a call that is taken leaves what its definition gives, with the buffer that it was lent; a call that is refused
+-- leaves all as it was.
+use mathlib.Core.Path.{_≡_, refl, sym, ap, subst, _∙_}
+use mathlib.Core.Bool.{Bool, true, cond}
+use mathlib.Core.List.{List, [], _∷_, _++_, append-nil}
+use Prim.Native.Nat.{ℕ, _<_, _≤_}
+use native.Mathlib.Omega.{arith}
+use borrow.Author.Tests.{eq-eqb, le-leb, le-ltb}
+use lib.Dec.{eqb}
+use lib.ListN.{length, take}
+use lib.Seq.{sets, length-sets}
 use Rattle.document.specs.Areas.{memoryEnd}
-use Rattle.document.specs.Numbers.{taken}
-use Rattle.document.specs.Calls.{byteRefusal, tickRefusal}
-use Rattle.document.specs.Happenings.{Happening}
-use Rattle.document.specs.Happenings.Happening.{byte, tick, writes}
+use Rattle.document.specs.Numbers.{answerRoom, taken}
 use Rattle.document.specs.Recorder.{tickedMemory}
 use Rattle.recorder.specs.State.{recorderOf}
-use Rattle.target.specs.declared.byte.Taken.{Taken}
-use Rattle.target.specs.declared.tick.Ticked.{Ticked}
-use Rattle.target.specs.Bounds.{sound}
-use Rattle.target.specs.Calls.{Turn, turn, tickedTarget}
-use Rattle.demands.specs.Bytes.{AreBytes}
-use Rattle.demands.specs.House.{House, served, servedAll}
-use Rattle.demands.specs.Run.{handedOut, ByByte, ByTick, Run}
-use Rattle.demands.specs.Within.{Within}
+use Rattle.state.specs.State.{Target}
+use Rattle.state.specs.Within.{Within}
+use Rattle.state.proofs.Keeps.{within-sound}
+use Rattle.blocks.specs.Places.{stateLength}
+use Rattle.blocks.specs.Layout.{decoded, encoded}
+use Rattle.checks.specs.Promises.{blockSound, byteNumber, tickNumber}
+use Rattle.checks.proofs.Numbers.{tick-known, byte-known}
+use Rattle.checks.proofs.Settled.{block-known, long-decides}
+use Rattle.target.specs.Turn.{Turn, turn}
+use Rattle.target.proofs.Keeps.{byte-keeps}
+use Rattle.tick_call.specs.Promises.{tickedTarget, TickTaken}
+use Rattle.byte_call.specs.declared.Taken.{Taken}
+use Rattle.byte_call.specs.Promises.{ByteTaken}
+use Rattle.demands.specs.House.{House}
+use Rattle.demands.specs.Lent.{Piece, lends, handedBack}
+use Rattle.demands.specs.Run.{handedOut, ByByte, ByTick, Refused, Ready}
+use Rattle.demands.specs.Run.Refused.{refused-byte, refused-tick}
 use Rattle.demands.proofs.Goes.{goes}
-use Rattle.demands.proofs.Within.{within-byte, within-tick, within-write}
+use Rattle.demands.proofs.Lends.{lent-back, lent-whole, whole-back}
+use Rattle.demands.proofs.Refused.{byte-refused, tick-refused}
 
-module _ (buffer : List ℕ) (room : 132 ≤ length buffer) (h : House) (w : Within h) where
-  pub tick-taken : tickRefusal (sound (h .target)) (h .memory) ≡ taken
-  tick-taken = rw (w .state, eq-eqb (length (h .memory)) memoryEnd (w .size)) refl
+-- ---- refused
 
-  pub byte-taken : byteRefusal (sound (h .target)) (h .memory) buffer ≡ taken
-  byte-taken = rw (w .state, eq-eqb (length (h .memory)) memoryEnd (w .size), le-ltb (length buffer) 132 room) refl
+back-as-was : (l : List ℕ) (p : Piece) (back : List ℕ) → back ≡ lends l p → handedBack l p back ≡ l
+back-as-was l p back e = ap (handedBack l p) e ∙ lent-back l p
 
-  -- what is promised is what the definition gives
-  pub step-byte : (b : ℕ) (next : House) → ByByte buffer h b next → next ≡ served buffer h (byte b)
-  step-byte b next s =
-      let u : Turn = turn (h .target) b (h .memory) buffer in
-      let refusal : ℕ = byteRefusal (sound (h .target)) (h .memory) buffer in
-      let given : Taken = record { refusal = taken; length = u .length; next = u .next } in
-      let result : s .result ≡ given =
-      goes refusal (s .result) given (record { refusal = refusal; length = 0; next = h .target }) byte-taken (s .promised .result) in
-      let left : s .left ≡ u .memory = goes refusal (s .left) (u .memory) (h .memory) byte-taken (s .promised .memory-left) in
-      let told : s .told ≡ u .buffer = goes refusal (s .told) (u .buffer) buffer byte-taken (s .promised .buffer-told) in
-      s .house ∙ (λ j. record { target = result j .next; memory = left j; answers = h .answers ++ handedOut (result j) (told j) })
+byte-kept : (h next : House) (b : ℕ) (c : ByByte h b next) → (c .result .refusal ≡ taken → ⊥) → next ≡ h
+byte-kept h next b c other =
+    let kept = byte-refused (lends (h .block) (c .state)) b (lends (h .memory) (c .memory)) (c .buffer) (c .result) (c .after) (c .left) (c .told) (c .promised) .unchanged other in
+    let none : handedOut (c .result) (c .told) ≡ [] = rw (kept .0) refl in
+    let block : handedBack (h .block) (c .state) (c .after) ≡ h .block = back-as-was (h .block) (c .state) (c .after) (kept .1) in
+    let memory : handedBack (h .memory) (c .memory) (c .left) ≡ h .memory = back-as-was (h .memory) (c .memory) (c .left) (kept .2) in
+    let answers : h .answers ++ handedOut (c .result) (c .told) ≡ h .answers =
+    ap (λ (l : List (List ℕ)). h .answers ++ l) none ∙ append-nil (h .answers) in
+    c .house ∙ (λ j. record { block = block j; memory = memory j; answers = answers j })
 
-  pub step-tick : (next : House) → ByTick h next → next ≡ served buffer h tick
-  step-tick next s =
-      let refusal : ℕ = tickRefusal (sound (h .target)) (h .memory) in
-      let given : Ticked = record { refusal = taken; next = tickedTarget (h .target) (h .memory) } in
-      let left-given : List ℕ = tickedMemory (recorderOf (h .target .instruments .recorder)) (h .memory) in
-      let result : s .result ≡ given =
-      goes refusal (s .result) given (record { refusal = refusal; next = h .target }) tick-taken (s .promised .result) in
-      let left : s .left ≡ left-given = goes refusal (s .left) left-given (h .memory) tick-taken (s .promised .memory-left) in
-      s .house ∙ (λ j. record { target = result j .next; memory = left j; answers = h .answers })
+tick-kept : (h next : House) (c : ByTick h next) → (c .result ≡ taken → ⊥) → next ≡ h
+tick-kept h next c other =
+    let kept = tick-refused (lends (h .block) (c .state)) (lends (h .memory) (c .memory)) (c .result) (c .after) (c .left) (c .promised) .unchanged other in
+    let block : handedBack (h .block) (c .state) (c .after) ≡ h .block = back-as-was (h .block) (c .state) (c .after) (kept .0) in
+    let memory : handedBack (h .memory) (c .memory) (c .left) ≡ h .memory = back-as-was (h .memory) (c .memory) (c .left) (kept .1) in
+    c .house ∙ (λ j. record { block = block j; memory = memory j; answers = h .answers })
 
-module _ (buffer : List ℕ) (room : 132 ≤ length buffer) where
-  on : (hs : List Happening) (next last : House) (given : House) → next ≡ given → Run buffer next hs last → Run buffer given hs last
-  on hs next last given e run = subst (λ (q : House). Run buffer q hs last) e run
+pub refused-kept : (h next : House) → Refused h next → next ≡ h
+refused-kept h next (refused-byte b call other) = byte-kept h next b call other
+refused-kept h next (refused-tick call other) = tick-kept h next call other
 
-  pub run-served : (hs : List Happening) (h last : House) → AreBytes hs → Within h → Run buffer h hs last → last ≡ servedAll buffer h hs
-  run-served [] h last all w run = run
-  run-served (byte b ∷ hs) h last all w run =
-      run-served hs (served buffer h (byte b)) last (all .1) (within-byte buffer h w b (all .0))
-      (on hs (run .0) last (served buffer h (byte b)) (step-byte buffer room h w b (run .0) (run .1 .0)) (run .1 .1))
-  run-served (tick ∷ hs) h last all w run =
-      run-served hs (served buffer h tick) last all (within-tick buffer h w)
-      (on hs (run .0) last (served buffer h tick) (step-tick buffer room h w (run .0) (run .1 .0)) (run .1 .1))
-  run-served (writes address bytes ∷ hs) h last all w run =
-      run-served hs (served buffer h (writes address bytes)) last (all .1) (within-write buffer h w address bytes (all .0))
-      (on hs (run .0) last (served buffer h (writes address bytes)) (run .1 .0) (run .1 .1))
+-- ---- taken
+
+-- a length of 0 is no answer
+abbrev pub replied : Turn → List (List ℕ)
+replied u = cond (eqb (u .length) 0) [] (take (u .length) (u .buffer) ∷ [])
+
+-- the house behind a byte that is taken, and behind a tick
+abbrev pub servedByte : House → ℕ → List ℕ → House
+servedByte h b buffer =
+    record {
+      block = sets (h .block) 0 (encoded (turn (decoded (h .block)) b (h .memory) buffer .next));
+      memory = turn (decoded (h .block)) b (h .memory) buffer .memory;
+      answers = h .answers ++ replied (turn (decoded (h .block)) b (h .memory) buffer);
+    }
+
+abbrev pub servedTick : House → House
+servedTick h =
+    record {
+      block = sets (h .block) 0 (encoded (tickedTarget (decoded (h .block)) (h .memory)));
+      memory = tickedMemory (recorderOf (decoded (h .block) .instruments .recorder)) (h .memory);
+      answers = h .answers;
+    }
+
+-- what comes back of the whole is the whole then
+all-back : (l : List ℕ) (p : Piece) (back given : List ℕ) → lends l p ≡ l → back ≡ given → length given ≡ length l → handedBack l p back ≡ given
+all-back l p back given whole e same = ap (handedBack l p) e ∙ whole-back l p given (ap length whole) same
+
+module _ (h : House) (long : stateLength ≤ length (h .block)) (w : Within (decoded (h .block)) (h .memory)) where
+  sound : blockSound (h .block) ≡ true
+  sound = sym (long-decides (h .block) long true (sym (within-sound (decoded (h .block)) (h .memory) w)))
+
+  pub ready : Ready h
+  ready =
+      record {
+        byte-taken = λ buffer room. rw (sound, eq-eqb (length (h .memory)) memoryEnd (w .memory-part .size), le-ltb (length buffer) answerRoom room) refl;
+        tick-taken = rw (sound, eq-eqb (length (h .memory)) memoryEnd (w .memory-part .size)) refl;
+      }
+
+  module _ (b : ℕ) (small : b < 256) (next : House) (c : ByByte h b next) (fine : c .result .refusal ≡ taken) (whole : lends (h .block) (c .state) ≡ h .block) where
+    abbrev lentBlock : List ℕ
+    lentBlock = lends (h .block) (c .state)
+
+    abbrev lentMemory : List ℕ
+    lentMemory = lends (h .memory) (c .memory)
+
+    number-taken : byteNumber (lends (h .block) (c .state)) (lends (h .memory) (c .memory)) (c .buffer) ≡ taken
+    number-taken = sym (byte-refused lentBlock b lentMemory (c .buffer) (c .result) (c .after) (c .left) (c .told) (c .promised) .number) ∙ fine
+
+    lent-memory : lends (h .memory) (c .memory) ≡ h .memory
+    lent-memory =
+        lent-whole (h .memory) (c .memory) (byte-known (blockSound lentBlock) lentMemory (c .buffer) number-taken .1 ∙ sym (w .memory-part .size))
+
+    pub room-lent : answerRoom ≤ length (c .buffer)
+    room-lent = byte-known (blockSound lentBlock) lentMemory (c .buffer) number-taken .2
+
+    -- the turn of what was lent is the turn of the house
+    same-turn : turn (decoded (lends (h .block) (c .state))) b (lends (h .memory) (c .memory)) (c .buffer) ≡ turn (decoded (h .block)) b (h .memory) (c .buffer)
+    same-turn = λ j. turn (decoded (whole j)) b (lent-memory j) (c .buffer)
+
+    -- the buffer that comes back, and how much of it is the answer
+    pub told-byte : (c .result .length ≡ turn (decoded (h .block)) b (h .memory) (c .buffer) .length) × (c .told ≡ turn (decoded (h .block)) b (h .memory) (c .buffer) .buffer)
+    told-byte =
+        let n : ℕ = byteNumber lentBlock lentMemory (c .buffer) in
+        let v : Turn = turn (decoded lentBlock) b lentMemory (c .buffer) in (
+          ap (λ (r : Taken). r .length) (goes n (c .result) (record { refusal = taken; length = v .length }) (record { refusal = n; length = 0 }) number-taken (c .promised .result))
+              ∙ ap (λ (t : Turn). t .length) same-turn,
+          goes n (c .told) (v .buffer) (c .buffer) number-taken (c .promised .buffer-told) ∙ ap (λ (t : Turn). t .buffer) same-turn,
+        )
+
+    -- what is promised is what the definition gives, of the buffer that was lent
+    pub step-byte : next ≡ servedByte h b (c .buffer)
+    step-byte =
+        let n : ℕ = byteNumber lentBlock lentMemory (c .buffer) in
+        let v : Turn = turn (decoded lentBlock) b lentMemory (c .buffer) in
+        let u : Turn = turn (decoded (h .block)) b (h .memory) (c .buffer) in
+        let keeps = byte-keeps (decoded (h .block)) (h .memory) (c .buffer) w b small in
+        let result : c .result ≡ record { refusal = taken; length = u .length } =
+        goes n (c .result) (record { refusal = taken; length = v .length }) (record { refusal = n; length = 0 }) number-taken (c .promised .result)
+        ∙ ap (λ (t : Turn). record { refusal = taken; length = t .length }) same-turn in
+        let after : c .after ≡ sets (h .block) 0 (encoded (u .next)) =
+        goes n (c .after) (sets lentBlock 0 (encoded (v .next))) lentBlock number-taken (c .promised .state)
+        ∙ (λ j. sets (whole j) 0 (encoded (same-turn j .next))) in
+        let left : c .left ≡ u .memory =
+        goes n (c .left) (v .memory) lentMemory number-taken (c .promised .memory-left) ∙ ap (λ (t : Turn). t .memory) same-turn in
+        let told : c .told ≡ u .buffer = told-byte .1 in
+        let block : handedBack (h .block) (c .state) (c .after) ≡ sets (h .block) 0 (encoded (u .next)) =
+        all-back (h .block) (c .state) (c .after) (sets (h .block) 0 (encoded (u .next))) whole after (length-sets (h .block) 0 (encoded (u .next))) in
+        let memory : handedBack (h .memory) (c .memory) (c .left) ≡ u .memory =
+        all-back (h .memory) (c .memory) (c .left) (u .memory) lent-memory left (keeps .memory-part .size ∙ sym (w .memory-part .size)) in
+        c .house ∙ (λ j. record { block = block j; memory = memory j; answers = h .answers ++ handedOut (result j) (told j) })
+
+  module _ (next : House) (c : ByTick h next) (fine : c .result ≡ taken) (whole : lends (h .block) (c .state) ≡ h .block) where
+    pub step-tick : length (tickedMemory (recorderOf (decoded (h .block) .instruments .recorder)) (h .memory)) ≡ length (h .memory) → next ≡ servedTick h
+    step-tick same =
+        let lentBlock : List ℕ = lends (h .block) (c .state) in
+        let lentMemory : List ℕ = lends (h .memory) (c .memory) in
+        let n : ℕ = tickNumber lentBlock lentMemory in
+        let number : n ≡ taken = sym (c .promised .result) ∙ fine in
+        let all : lentMemory ≡ h .memory =
+        lent-whole (h .memory) (c .memory) (tick-known (blockSound lentBlock) lentMemory number .1 ∙ sym (w .memory-part .size)) in
+        let ticked : List ℕ → List ℕ → Target = λ l m. tickedTarget (decoded l) m in
+        let left-by : List ℕ → List ℕ → List ℕ = λ l m. tickedMemory (recorderOf (decoded l .instruments .recorder)) m in
+        let after : c .after ≡ sets (h .block) 0 (encoded (tickedTarget (decoded (h .block)) (h .memory))) =
+        goes n (c .after) (sets lentBlock 0 (encoded (ticked lentBlock lentMemory))) lentBlock number (c .promised .state)
+        ∙ (λ j. sets (whole j) 0 (encoded (tickedTarget (decoded (whole j)) (all j)))) in
+        let left : c .left ≡ left-by (h .block) (h .memory) =
+        goes n (c .left) (left-by lentBlock lentMemory) lentMemory number (c .promised .memory-left) ∙ (λ j. left-by (whole j) (all j)) in
+        let block : handedBack (h .block) (c .state) (c .after) ≡ sets (h .block) 0 (encoded (tickedTarget (decoded (h .block)) (h .memory))) =
+        all-back (h .block) (c .state) (c .after) (sets (h .block) 0 (encoded (ticked (h .block) (h .memory)))) whole after (length-sets (h .block) 0 (encoded (ticked (h .block) (h .memory)))) in
+        let memory : handedBack (h .memory) (c .memory) (c .left) ≡ left-by (h .block) (h .memory) =
+        all-back (h .memory) (c .memory) (c .left) (left-by (h .block) (h .memory)) all left same in
+        c .house ∙ (λ j. record { block = block j; memory = memory j; answers = h .answers })

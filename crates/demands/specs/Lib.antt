@@ -1,10 +1,10 @@
-pub mod Bytes
-pub mod Resync
+-- The words of the demands: a gate as its firmware has it, a run of the calls, and what is said of it.
 pub mod House
+pub mod Lent
+pub mod Run
+pub mod Refused
+pub mod Sent
 pub mod Stands
 pub mod Fresh
-pub mod Within
-pub mod Sent
-pub mod Run
-pub mod Recording
-pub mod Refused
+pub mod Recorded
+pub mod Readings

@@ -1,35 +1,45 @@
--- Demand 1: what a refusal leaves.
+-- Demand 1: what a refusal leaves, of every call of the header.
 use mathlib.Core.Path.{_≡_}
-use mathlib.Core.Bool.{true}
+use mathlib.Core.Bool.{true, cond}
 use mathlib.Core.List.{List, []}
 use Prim.Native.Nat.{ℕ}
-use Rattle.document.specs.Numbers.{taken, done, isError}
-use Rattle.document.specs.Calls.{byteRefusal, tickRefusal}
-use Rattle.document.specs.AnswerReader.{beginRefusal, readRefusal}
+use lib.Dec.{leb}
+use lib.ListN.{length}
+use lib.Seq.{sets}
+use Rattle.document.specs.Numbers.{taken, stateRefused, sumRefused, done, isError}
 use Rattle.document.specs.AnswerReader.Brought.{wrong}
 use Rattle.document.specs.Message.{Message}
 use Rattle.document.specs.Gate.{Gate, says}
 use Rattle.document.specs.Refusals.{refusal}
 use Rattle.document.specs.Commands.{answered}
 use Rattle.line.specs.declared.Written.{Written}
-use Rattle.host.specs.declared.reader.AnswerReader.{AnswerReader}
-use Rattle.host.specs.declared.reader.Begun.{Begun}
-use Rattle.host.specs.declared.reader.Read.{Read}
-use Rattle.host.specs.Reader.{stepped}
-use Rattle.host.specs.Promises.{readerRefusal}
-use Rattle.target.specs.declared.state.Target.{Target}
-use Rattle.target.specs.declared.byte.Taken.{Taken}
-use Rattle.target.specs.declared.tick.Ticked.{Ticked}
-use Rattle.target.specs.Bounds.{sound}
+use Rattle.host.specs.Reader.{idle, stepped}
+use Rattle.blocks.specs.Places.{stateLength}
+use Rattle.checks.specs.Promises.{blockSound, byteNumber, tickNumber}
+use Rattle.byte_call.specs.declared.Taken.{Taken}
+use Rattle.reader.specs.declared.calls.ReadByte.{ReadByte}
+use Rattle.reader.specs.Layout.{decodedReader, encodedReader}
+use Rattle.reader.specs.Promises.{beginNumber, readNumber}
 
 -- "one number from the document, given exactly when the document says, and changes no byte lent to the call"
-pub record ByteRefused (t : Target) (memory buffer : List ℕ) (r : Taken) (left told : List ℕ) : Type 0 where
-  pub number : r .refusal ≡ byteRefusal (sound t) memory buffer
-  pub unchanged : (r .refusal ≡ taken → ⊥) → (r .length ≡ 0) × (r .next ≡ t) × (left ≡ memory) × (told ≡ buffer)
 
-pub record TickRefused (t : Target) (memory : List ℕ) (r : Ticked) (left : List ℕ) : Type 0 where
-  pub number : r .refusal ≡ tickRefusal (sound t) memory
-  pub unchanged : (r .refusal ≡ taken → ⊥) → (r .next ≡ t) × (left ≡ memory)
+-- ---- the target
+
+pub record ResetRefused (block : List ℕ) (r : ℕ) (after : List ℕ) : Type 0 where
+  pub number : r ≡ cond (leb stateLength (length block)) taken stateRefused
+  pub unchanged : (r ≡ taken → ⊥) → after ≡ block
+
+-- a check is lent nothing that it could change
+pub record CheckRefused (block : List ℕ) (r : ℕ) : Type 0 where
+  pub number : r ≡ cond (blockSound block) taken stateRefused
+
+pub record ByteRefused (block memory buffer : List ℕ) (r : Taken) (after left told : List ℕ) : Type 0 where
+  pub number : r .refusal ≡ byteNumber block memory buffer
+  pub unchanged : (r .refusal ≡ taken → ⊥) → (r .length ≡ 0) × (after ≡ block) × (left ≡ memory) × (told ≡ buffer)
+
+pub record TickRefused (block memory : List ℕ) (r : ℕ) (after left : List ℕ) : Type 0 where
+  pub number : r ≡ tickNumber block memory
+  pub unchanged : (r ≡ taken → ⊥) → (after ≡ block) × (left ≡ memory)
 
 -- "a refusal sent on the wire writes that answer's bytes only": the gate stays, and there are no data
 pub record WireRefused (g : Gate) (m : Message) : Type 0 where
@@ -44,16 +54,18 @@ pub record WriteRefused (number : ℕ) (before : List ℕ) (r : Written) (after 
   pub refusal : r .refusal ≡ number
   pub unchanged : (r .refusal ≡ taken → ⊥) → (r .length ≡ 0) × (after ≡ before)
 
-pub record BeginRefused (reader : AnswerReader) (expected : ℕ) (r : Begun) : Type 0 where
-  pub refusal : r .refusal ≡ beginRefusal expected
-  pub unchanged : (r .refusal ≡ taken → ⊥) → r .next ≡ reader
+pub record BeginRefused (block : List ℕ) (expected r : ℕ) (after : List ℕ) : Type 0 where
+  pub number : r ≡ beginNumber block expected
+  pub unchanged : (r ≡ taken → ⊥) → after ≡ block
 
 -- "6 alone consumes its byte and leaves the reader idle": 1 and 3 leave all as it was, 6 the lent buffer
-pub record ReadRefused (reader : AnswerReader) (b : ℕ) (before : List ℕ) (d : Read) (after : List ℕ) : Type 0 where
+pub record ReadRefused (block : List ℕ) (b : ℕ) (buffer : List ℕ) (r : ReadByte) (after told : List ℕ) : Type 0 where
   pub unchanged :
-      (readerRefusal reader before ≡ taken → ⊥)
-      → (d .refusal ≡ readerRefusal reader before) × (d .next ≡ reader) × (after ≡ before)
-  pub consumed :
-      readerRefusal reader before ≡ taken
-      → (d .refusal ≡ readRefusal (stepped reader b .brings)) × (d .next ≡ stepped reader b .next)
-  pub wrong-sum : readerRefusal reader before ≡ taken → stepped reader b .brings ≡ wrong → after ≡ before
+      (readNumber block buffer ≡ taken → ⊥)
+      → (r .refusal ≡ readNumber block buffer) × (r .whole ≡ 0) × (after ≡ block) × (told ≡ buffer)
+  pub wrong-sum :
+      readNumber block buffer ≡ taken → stepped (decodedReader block) b .brings ≡ wrong
+      → (r .refusal ≡ sumRefused) × (r .whole ≡ 0)
+      × (after ≡ sets block 0 (encodedReader (stepped (decodedReader block) b .next)))
+      × (stepped (decodedReader block) b .next .phase ≡ idle)
+      × (told ≡ buffer)

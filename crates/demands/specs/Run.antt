@@ -1,54 +1,84 @@
--- A run of the target: whatever its calls' promises allow, one call for each thing that happens.
+-- A run of the calls that are linked into a gate: whatever their promises allow, one call for each thing that happens, and refused
+-- calls anywhere among them. Each call brings its own buffer, of any room and with anything in it, and its own lengths.
 use mathlib.Core.Path.{_≡_}
 use mathlib.Core.Bool.{cond}
 use mathlib.Core.List.{List, [], _∷_, _++_}
 use Prim.Native.Nat.{ℕ, _≤_}
-use lib.ListN.{length}
+use lib.ListN.{length, take}
 use lib.Dec.{eqb}
-use Rattle.document.specs.Areas.{memoryEnd}
+use Rattle.document.specs.Numbers.{answerRoom, taken}
 use Rattle.document.specs.Stores.{stored}
+use Rattle.document.specs.Asides.{Aside}
+use Rattle.document.specs.Asides.Aside.{tick, writes}
 use Rattle.document.specs.Happenings.{Happening}
-use Rattle.document.specs.Happenings.Happening.{byte, tick, writes}
-use Rattle.target.specs.declared.byte.Taken.{Taken}
-use Rattle.target.specs.declared.tick.Ticked.{Ticked}
-use Rattle.target.specs.Calls.{ByteTaken, TickTaken}
-use Rattle.demands.specs.Bytes.{AllBytes}
-use Rattle.demands.specs.House.{House, Reply}
+use Rattle.document.specs.Happenings.Happening.{byte, aside}
+use Rattle.checks.specs.Promises.{byteNumber, tickNumber}
+use Rattle.tick_call.specs.Promises.{TickTaken}
+use Rattle.byte_call.specs.declared.Taken.{Taken}
+use Rattle.byte_call.specs.Promises.{ByteTaken}
+use Rattle.demands.specs.House.{House}
+use Rattle.demands.specs.Lent.{Piece, lends, handedBack}
 
--- what a gate lends: a buffer for the answers, and its memory
-pub record Lent (buffer memory : List ℕ) : Type 0 where
-  pub room : 132 ≤ length buffer
-  pub size : length memory ≡ memoryEnd
-  pub bytes : AllBytes memory
+-- an answer is the first bytes of the lent buffer, as many as the call says; a length of 0 is no answer
+abbrev pub handedOut : Taken → List ℕ → List (List ℕ)
+handedOut r told = cond (eqb (r .length) 0) [] (take (r .length) told ∷ [])
 
--- a length of 0 is no answer
-abbrev pub handedOut : Taken → List ℕ → List Reply
-handedOut r told = cond (eqb (r .length) 0) [] (record { length = r .length; buffer = told } ∷ [])
-
--- `Target::byte` was called
-pub record ByByte (buffer : List ℕ) (h : House) (b : ℕ) (next : House) : Type 0 where
+-- `log_gate_byte` was called
+pub record ByByte (h : House) (b : ℕ) (next : House) : Type 0 where
+  pub state : Piece
+  pub memory : Piece
+  pub buffer : List ℕ
   pub result : Taken
+  pub after : List ℕ
   pub left : List ℕ
   pub told : List ℕ
-  pub promised : ByteTaken (h .target) b (h .memory) buffer result left told
-  pub house : next ≡ record { target = result .next; memory = left; answers = h .answers ++ handedOut result told }
+  pub promised : ByteTaken (lends (h .block) state) b (lends (h .memory) memory) buffer result after left told
+  pub house :
+      next
+      ≡ record {
+        block = handedBack (h .block) state after;
+        memory = handedBack (h .memory) memory left;
+        answers = h .answers ++ handedOut result told;
+      }
 
--- `Target::tick` was called
+-- `log_gate_tick` was called
 pub record ByTick (h next : House) : Type 0 where
-  pub result : Ticked
+  pub state : Piece
+  pub memory : Piece
+  pub result : ℕ
+  pub after : List ℕ
   pub left : List ℕ
-  pub promised : TickTaken (h .target) (h .memory) result left
-  pub house : next ≡ record { target = result .next; memory = left; answers = h .answers }
+  pub promised : TickTaken (lends (h .block) state) (lends (h .memory) memory) result after left
+  pub house :
+      next
+      ≡ record {
+        block = handedBack (h .block) state after;
+        memory = handedBack (h .memory) memory left;
+        answers = h .answers;
+      }
 
--- the gate's own program writes its memory, and nothing is called
-abbrev pub byWrite : House → ℕ → List ℕ → House
-byWrite h address bytes = record { target = h .target; memory = stored (h .memory) address bytes; answers = h .answers }
+-- what happens beside the bytes: a call that is taken, over the whole block; or the gate's own program writes its memory
+abbrev pub Beside : House → Aside → House → Type 0
+Beside h tick next = (call : ByTick h next) × (call .result ≡ taken) × (lends (h .block) (call .state) ≡ h .block)
+Beside h (writes address bytes) next =
+    next ≡ record { block = h .block; memory = stored (h .memory) address bytes; answers = h .answers }
 
-abbrev pub Step : List ℕ → House → Happening → House → Type 0
-Step buffer h (byte b) next = ByByte buffer h b next
-Step buffer h tick next = ByTick h next
-Step buffer h (writes address bytes) next = next ≡ byWrite h address bytes
+abbrev pub Step : House → Happening → House → Type 0
+Step h (byte b) next = (call : ByByte h b next) × (call .result .refusal ≡ taken) × (lends (h .block) (call .state) ≡ h .block)
+Step h (aside a) next = Beside h a next
 
-abbrev pub Run : List ℕ → House → List Happening → House → Type 0
-Run buffer h [] last = last ≡ h
-Run buffer h (e ∷ es) last = (next : House) × (Step buffer h e next × Run buffer next es last)
+-- a call that is refused, with whatever number
+pub data Refused (h next : House) : Type 0 where
+  refused-byte : (b : ℕ) (call : ByByte h b next) → (call .result .refusal ≡ taken → ⊥) → Refused h next
+  refused-tick : (call : ByTick h next) → (call .result ≡ taken → ⊥) → Refused h next
+
+pub data Run : House → List Happening → House → Type 0 where
+  ends : (h : House) → Run h [] h
+  happens : (h next last : House) (e : Happening) (es : List Happening) → Step h e next → Run next es last → Run h (e ∷ es) last
+  -- "consume no byte": nothing has happened
+  refuses : (h next last : House) (es : List Happening) → Refused h next → Run next es last → Run h es last
+
+-- a call that is lent the block, the memory and room for an answer is taken
+pub record Ready (h : House) : Type 0 where
+  pub byte-taken : (buffer : List ℕ) → answerRoom ≤ length buffer → byteNumber (h .block) (h .memory) buffer ≡ taken
+  pub tick-taken : tickNumber (h .block) (h .memory) ≡ taken

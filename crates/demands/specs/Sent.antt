@@ -1,14 +1,13 @@
--- An answer as it goes over the wire from the lent buffer.
+-- The lent buffer behind a byte that is taken.
 use mathlib.Core.Path.{_≡_}
 use mathlib.Core.List.{List}
 use Prim.Native.Nat.{ℕ, _≤_}
-use lib.ListN.{length, take, drop}
-use Rattle.document.specs.Answer.{Answer, answerOnWire}
-use Rattle.demands.specs.House.{Reply}
+use lib.ListN.{drop}
+use Rattle.document.specs.Numbers.{answerRoom}
+use Rattle.byte_call.specs.declared.Taken.{Taken}
 
--- "Bytes of it behind the answer keep their values"
-pub record Sent (buffer : List ℕ) (a : Answer) (r : Reply) : Type 0 where
-  pub wire : take (r .length) (r .buffer) ≡ answerOnWire a
-  pub behind : drop (r .length) (r .buffer) ≡ drop (r .length) buffer
+-- "Bytes of it behind the answer keep their values; without an answer, all do."
+pub record Sent (buffer : List ℕ) (r : Taken) (told : List ℕ) : Type 0 where
+  pub behind : drop (r .length) told ≡ drop (r .length) buffer
   -- "start, status, and 65 bytes that may all be doubled"
-  pub fits : r .length ≤ 132
+  pub fits : r .length ≤ answerRoom

@@ -3,19 +3,25 @@ use mathlib.Core.Path.{_≡_}
 use mathlib.Core.List.{List, map}
 use Prim.Native.Nat.{ℕ}
 use lib.ListN.{replicate}
+use Rattle.document.specs.Numbers.{mostData}
+use Rattle.document.specs.Answer.{answerOnWire}
 use Rattle.document.specs.Happenings.{Since}
 use Rattle.link.specs.Report.{Beside, sinceReset}
-use Rattle.operations.specs.State.{gateOf}
-use Rattle.demands.specs.House.{House, replyOf}
+use Rattle.state.specs.State.{Target}
+use Rattle.blocks.specs.Layout.{decoded}
+use Rattle.demands.specs.House.{House, gateIn}
 
 -- the body of a link at reset
 abbrev pub blank : List ℕ
-blank = replicate 64 0
+blank = replicate mostData 0
 
-pub record Stands (buffer : List ℕ) (h : House) (s : Since) : Type 0 where
+abbrev pub linkIn : Target → Beside
+linkIn t = record { receiver = t .receiver; body = t .body }
+
+pub record Stands (h : House) (s : Since) : Type 0 where
   -- memory, scope and recorder
-  pub gate : gateOf (h .target .instruments) (h .memory) ≡ s .gate
-  -- each answer, in the lent buffer
-  pub answers : h .answers ≡ map (replyOf buffer) (s .answers)
+  pub gate : gateIn h ≡ s .gate
+  -- each answer, as it goes over the wire
+  pub answers : h .answers ≡ map answerOnWire (s .answers)
   -- the receiver and its body, as the bytes since reset leave them
-  pub link-part : _≡_ {A = Beside} (record { receiver = h .target .receiver; body = h .target .body }) (sinceReset blank (s .bytes))
+  pub link-part : linkIn (decoded (h .block)) ≡ sinceReset blank (s .bytes)

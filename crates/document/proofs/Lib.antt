@@ -1,2 +1,6 @@
+pub mod Areas
 pub mod Cases
+pub mod Order
+pub mod Places
 pub mod Staples
+pub mod Values

@@ -5,12 +5,12 @@ use Prim.Native.Nat.{ℕ}
 use lib.ListN.{length}
 use lib.Seq.{sets}
 use lib.Dec.{ltb}
-use Rattle.document.specs.Numbers.{taken, roomRefused, expectedRefused, sumRefused}
+use Rattle.document.specs.Numbers.{mostData, taken, roomRefused, expectedRefused, sumRefused}
 use Rattle.document.specs.Answer.{Answer, Reading, readingRight, answerFinishedBy}
 
 -- "5 an expected length above 64"
 abbrev pub beginRefusal : ℕ → ℕ
-beginRefusal expected = cond (ltb 64 expected) expectedRefused taken
+beginRefusal expected = cond (ltb mostData expected) expectedRefused taken
 
 -- what a byte brings: nothing yet, a whole right answer, or one "whose sum is wrong"
 pub data Brought : Type 0 where
@@ -24,7 +24,7 @@ broughtBy (r ∷ rs) = cond (readingRight r) (answer (r .answer)) wrong
 
 -- "consume no byte": refused with 3, the bytes since the beginning stay the same, and so does the buffer
 unfoldable pub readRoomRefusal : List ℕ → ℕ
-readRoomRefusal buffer = cond (ltb (length buffer) 64) roomRefused taken
+readRoomRefusal buffer = cond (ltb (length buffer) mostData) roomRefused taken
 
 -- "6 alone consumes its byte": the number with which the call answers a byte that it takes
 abbrev pub readRefusal : Brought → ℕ

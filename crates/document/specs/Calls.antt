@@ -6,7 +6,7 @@ use lib.ListN.{length}
 use lib.Seq.{sets}
 use lib.Dec.{eqb, ltb}
 use Rattle.document.specs.Areas.{memoryEnd}
-use Rattle.document.specs.Numbers.{taken, stateRefused, memoryRefused, roomRefused}
+use Rattle.document.specs.Numbers.{answerRoom, taken, stateRefused, memoryRefused, roomRefused}
 use Rattle.document.specs.Answer.{Answer, answerOnWire}
 
 -- "Lowest number first": a tick knows 1 and 2. `sound` says whether the state is within the bounds of docs/STATE.md
@@ -17,7 +17,7 @@ tickRefusal sound memory = cond (not sound) stateRefused (cond (not (eqb (length
 abbrev pub byteRefusal : Bool → List ℕ → List ℕ → ℕ
 byteRefusal sound memory buffer =
     cond (not sound) stateRefused
-    (cond (not (eqb (length memory) memoryEnd)) memoryRefused (cond (ltb (length buffer) 132) roomRefused taken))
+    (cond (not (eqb (length memory) memoryEnd)) memoryRefused (cond (ltb (length buffer) answerRoom) roomRefused taken))
 
 -- "Bytes of it behind the answer keep their values; without an answer, all do."
 abbrev pub answerBufferAfter : List Answer → List ℕ → List ℕ

@@ -12,6 +12,16 @@ pub record Gate : Type 0 where
   pub scope : Scope
   pub recorder : Recorder
 
+-- one part changes, all others stay
+abbrev pub withMemory : Gate → List ℕ → Gate
+withMemory g memory = record { memory = memory; scope = g .scope; recorder = g .recorder }
+
+abbrev pub withScope : Gate → Scope → Gate
+withScope g scope = record { memory = g .memory; scope = scope; recorder = g .recorder }
+
+abbrev pub withRecorder : Gate → Recorder → Gate
+withRecorder g recorder = record { memory = g .memory; scope = g .scope; recorder = recorder }
+
 -- reset: nothing is set up; the memory is as it was lent
 abbrev pub fresh : List ℕ → Gate
 fresh memory = record { memory = memory; scope = noScope; recorder = noRecorder }

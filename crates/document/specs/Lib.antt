@@ -1,6 +1,7 @@
 -- Document 01 as definitions, in its order. A reader must believe these files and nothing else.
 
 -- "What the build holds"
+pub mod Bytes
 pub mod Areas
 pub mod Values
 pub mod Stores
@@ -18,11 +19,13 @@ pub mod AnswerWriter
 pub mod CommandWriter
 pub mod AnswerReader
 -- "Commands"
+pub mod Services
 pub mod Kinds
 pub mod Fields
 pub mod Variables
 pub mod Scope
 pub mod Gate
+pub mod Permission
 pub mod Commands
 -- "The recorder"
 pub mod Plan
@@ -31,6 +34,7 @@ pub mod Run
 pub mod Recorder
 pub mod Sets
 -- since reset, and "Staples to try"
+pub mod Asides
 pub mod Happenings
 pub mod Staples
 pub mod Further

@@ -7,7 +7,7 @@ use lib.Dec.{ltb, leb, eqb}
 use Rattle.document.specs.Kinds.{hasLengthByte, fastLength}
 use Rattle.document.specs.Sum.{addsUp, sumByteOf}
 use Rattle.document.specs.Doubling.{stuffed}
-use Rattle.document.specs.Pairing.{paired, opened}
+use Rattle.document.specs.Pairing.{Placed, paired, opened, openedAt}
 
 pub record Message : Type 0 where
   pub command : ℕ
@@ -54,6 +54,10 @@ wholeMessage (c ∷ ls) = cond (hasLengthByte c) (afterLengthByte c ls) (ofLengt
 -- the messages in the bytes since reset, in order
 unfoldable pub heard : List ℕ → List Message
 heard bs = opened wholeMessage (paired bs)
+
+-- the same, each with the place of its start byte
+unfoldable pub heardAt : List ℕ → List (Placed Message)
+heardAt bs = openedAt wholeMessage 0 (paired bs)
 
 -- "The answer comes with the sum byte's last wire byte, once.": what the byte b finishes, after the bytes bs
 unfoldable pub finishedBy : List ℕ → ℕ → List Message

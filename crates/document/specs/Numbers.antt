@@ -8,6 +8,14 @@ abbrev pub isIn : ℕ → List ℕ → Bool
 isIn x [] = false
 isIn x (y ∷ ys) = eqb x y || isIn x ys
 
+-- "A data part holds at most 64 bytes, either way."
+abbrev pub mostData : ℕ
+mostData = 64
+
+-- "The buffer lent for an answer holds at least 132 bytes: start, status, and 65 bytes that may all be doubled."
+abbrev pub answerRoom : ℕ
+answerRoom = 132
+
 -- "A success not named otherwise is 0x00"
 abbrev pub done : ℕ
 done = 0x00

@@ -1,7 +1,7 @@
 -- Pairing: what the bytes since reset say, read from the left.
 use mathlib.Core.Bool.{cond}
-use mathlib.Core.List.{List, [], _∷_, _++_}
-use Prim.Native.Nat.{ℕ}
+use mathlib.Core.List.{List, [], _∷_, _++_, map}
+use Prim.Native.Nat.{ℕ, _+_}
 use lib.Dec.{eqb}
 
 pub data Token : Type 0 where
@@ -29,3 +29,21 @@ abbrev pub opened : {A : Type 0} → (List ℕ → List A) → List Token → Li
 opened whole [] = []
 opened whole (start ∷ ts) = whole (untilStart ts) ++ opened whole ts
 opened whole (literal l ∷ ts) = opened whole ts
+
+-- ---- where each start byte stands, counted from 0
+
+pub record Placed (A : Type 0) : Type 0 where
+  pub place : ℕ
+  pub thing : A
+
+-- how many bytes of the line a token took: "0x2B followed by 0x2B is one literal 0x2B"
+abbrev pub width : Token → ℕ
+width start = 1
+width (literal l) = cond (eqb l 0x2B) 2 1
+
+-- the same as `opened`, of tokens that begin at a place
+abbrev pub openedAt : {A : Type 0} → (List ℕ → List A) → ℕ → List Token → List (Placed A)
+openedAt whole place [] = []
+openedAt whole place (start ∷ ts) =
+    map (λ a. record { place = place; thing = a }) (whole (untilStart ts)) ++ openedAt whole (place + width start) ts
+openedAt whole place (literal l ∷ ts) = openedAt whole (place + width (literal l)) ts

@@ -2,7 +2,7 @@
 use mathlib.Core.Bool.{Bool, true, false, cond}
 use mathlib.Core.List.{List, [], _++_}
 use Prim.Native.Nat.{ℕ}
-use Rattle.document.specs.Areas.{calibrationEnd}
+use Rattle.document.specs.Areas.{bufferBegin}
 use Rattle.document.specs.Values.{littleEndian}
 use Rattle.document.specs.Plan.{Plan, planIn}
 use Rattle.document.specs.Run.{Run, started, stopped, startIndex, ranTick, memoryAfterTick}
@@ -37,7 +37,7 @@ recorderHalted (planned p r) = planned p (stopped r)
 -- "buffer address 12,288 and start index (2 bytes)", the address of n bytes
 abbrev pub bufferAnswer : ℕ → Recorder → List ℕ
 bufferAnswer n absent = []
-bufferAnswer n (planned p r) = littleEndian n calibrationEnd ++ littleEndian 2 (startIndex r)
+bufferAnswer n (planned p r) = littleEndian n bufferBegin ++ littleEndian 2 (startIndex r)
 
 -- "The gate calls a tick."
 abbrev pub ticked : Recorder → List ℕ → Recorder

@@ -1,54 +1,22 @@
 -- "Numbers that refuse": "On the wire, the first that applies in this order."
-use mathlib.Core.Bool.{Bool, cond, not, _&&_, _||_}
+use mathlib.Core.Bool.{Bool, true, cond, not, _&&_}
 use mathlib.Core.List.{List, [], _∷_}
-use Prim.Native.Nat.{ℕ}
+use Prim.Native.Nat.{ℕ, _+_, _*_}
 use lib.ListN.{length}
 use lib.Dec.{eqb, ltb}
-use Rattle.document.specs.Numbers.{done, notServed, sumWrong, messageTooLong, answerTooLong, layoutWrong, sizeWrong, busy, notSetUp, rangeWrong}
-use Rattle.document.specs.Kinds.{kindOf, isServed}
+use Rattle.document.specs.Numbers.{mostData, done, notServed, sumWrong, messageTooLong, answerTooLong, layoutWrong, sizeWrong, busy, notSetUp, rangeWrong}
 use Rattle.document.specs.Message.{Message, sumRight}
-use Rattle.document.specs.Areas.{mayBeRead, mayBeWritten}
+use Rattle.document.specs.Areas.{mayBeRead}
 use Rattle.document.specs.Scope.{scopeAbsent, scopeLayoutWrong, scopeSizeWrong, scopeRangeWrong, scopeTooLong}
 use Rattle.document.specs.Plan.{recorderLayoutWrong, recorderSizeWrong, recorderRangeWrong}
 use Rattle.document.specs.Recorder.{recorderAbsent, isRunning}
-use Rattle.document.specs.Fields.{reads, writes, setsUpScope, setsUpRecorder, queriesBuffer, asksRecorder, isEx, hasSize, sizeField, addressField, blockLength}
+use Rattle.document.specs.Services.{serviceOf}
+use Rattle.document.specs.Fields.{hasSize, sizeField, addressField, dataPlace}
 use Rattle.document.specs.Gate.{Gate}
-
--- "start, stop, status or buffer query with no accepted recorder setup since reset; scope read with no accepted scope setup"
-abbrev pub isNotSetUp : Gate → ℕ → Bool
-isNotSetUp g c = asksRecorder c && recorderAbsent (g .recorder) || eqb c 0xC5 && scopeAbsent (g .scope)
-
--- "recorder setup or buffer query while the recorder runs"
-abbrev pub isBusy : Gate → ℕ → Bool
-isBusy g c = (setsUpRecorder c || queriesBuffer c) && isRunning (g .recorder)
-
--- "a data length that is not the one its fields give (or too short to hold them), a trigger mode above 2, or, with mode 1
--- or 2, a sign field above 1"
-abbrev pub isLayoutWrong : ℕ → List ℕ → Bool
-isLayoutWrong c body =
-    hasSize c && not (eqb (length body) (blockLength c body))
-    || setsUpScope c && scopeLayoutWrong (isEx c) body
-    || setsUpRecorder c && recorderLayoutWrong (isEx c) body
-
--- "a size of 0; a variable count of 0 or above 8; 0 samples; samples times set size above 4,096; with mode 1 or 2, a
--- trigger size other than 1, 2, 4"
-abbrev pub isSizeWrong : ℕ → List ℕ → Bool
-isSizeWrong c body =
-    hasSize c && eqb (sizeField c body) 0
-    || setsUpScope c && scopeSizeWrong (isEx c) body
-    || setsUpRecorder c && recorderSizeWrong (isEx c) body
-
--- "the answer's data would exceed 64 bytes"
-abbrev pub isAnswerTooLong : Gate → ℕ → List ℕ → Bool
-isAnswerTooLong g c body = reads c && ltb 64 (sizeField c body) || eqb c 0xC5 && scopeTooLong (g .scope)
-
--- "an address range not wholly where that command may go"
-abbrev pub isRangeWrong : ℕ → List ℕ → Bool
-isRangeWrong c body =
-    reads c && not (mayBeRead (addressField c body) (sizeField c body))
-    || writes c && not (mayBeWritten (addressField c body) (sizeField c body))
-    || setsUpScope c && scopeRangeWrong (isEx c) body
-    || setsUpRecorder c && recorderRangeWrong (isEx c) body
+use Rattle.document.specs.Permission.{mayBeWritten}
+use Rattle.document.specs.declared.Operation.{Operation}
+use Rattle.document.specs.declared.Operation.the-variants.{Unserved, Describe, DescribeBriefly, Read, Write, WriteMasked, SetUpScope, ReadScope, SetUpRecorder, Start, Stop, Status, QueryBuffer}
+use Rattle.document.specs.declared.Service.{Service}
 
 -- a line of the table: the status, and whether it applies
 pub record Refusal : Type 0 where
@@ -58,18 +26,92 @@ pub record Refusal : Type 0 where
 abbrev pub when : ℕ → Bool → Refusal
 when status applies = record { status = status; applies = applies }
 
+-- the table's order
+abbrev pub order : List ℕ
+order =
+    sumWrong ∷ messageTooLong ∷ notServed ∷ notSetUp ∷ busy ∷ layoutWrong ∷ sizeWrong ∷ answerTooLong ∷ rangeWrong ∷ []
+
+-- ---- the lines that concern an operation, each list in the table's order
+
+-- "a data length that is not the one its fields give": n bytes of data, and as many of mask, behind the address
+abbrev pub isBlockWrong : Service → List ℕ → ℕ → Bool
+isBlockWrong s body n = hasSize s && not (eqb (length body) (dataPlace s + n))
+
+-- "a size of 0"
+abbrev pub isBlockEmpty : Service → List ℕ → Bool
+isBlockEmpty s body = hasSize s && eqb (sizeField s body) 0
+
+-- "the answer's data would exceed 64 bytes"; "an address range not wholly where that command may go"
+abbrev pub readLines : Service → List ℕ → List Refusal
+readLines s body =
+    when layoutWrong (isBlockWrong s body 0)
+    ∷ when sizeWrong (isBlockEmpty s body)
+    ∷ when answerTooLong (ltb mostData (sizeField s body))
+    ∷ when rangeWrong (not (mayBeRead (addressField s body) (sizeField s body)))
+    ∷ []
+
+-- a write with n bytes behind its address
+abbrev pub writeLines : Gate → Service → List ℕ → ℕ → List Refusal
+writeLines g s body n =
+    when layoutWrong (isBlockWrong s body n)
+    ∷ when sizeWrong (isBlockEmpty s body)
+    ∷ when rangeWrong (not (mayBeWritten g (addressField s body) (sizeField s body)))
+    ∷ []
+
+abbrev pub scopeSetUpLines : Bool → List ℕ → List Refusal
+scopeSetUpLines ex body =
+    when layoutWrong (scopeLayoutWrong ex body)
+    ∷ when sizeWrong (scopeSizeWrong ex body)
+    ∷ when rangeWrong (scopeRangeWrong ex body)
+    ∷ []
+
+-- "scope read with no accepted scope setup"
+abbrev pub scopeReadLines : Gate → List Refusal
+scopeReadLines g = when notSetUp (scopeAbsent (g .scope)) ∷ when answerTooLong (scopeTooLong (g .scope)) ∷ []
+
+-- "recorder setup .. while the recorder runs"
+abbrev pub recorderSetUpLines : Gate → Bool → List ℕ → List Refusal
+recorderSetUpLines g ex body =
+    when busy (isRunning (g .recorder))
+    ∷ when layoutWrong (recorderLayoutWrong ex body)
+    ∷ when sizeWrong (recorderSizeWrong ex body)
+    ∷ when rangeWrong (recorderRangeWrong ex body)
+    ∷ []
+
+-- "start, stop, status .. with no accepted recorder setup since reset"
+abbrev pub recorderLines : Gate → List Refusal
+recorderLines g = when notSetUp (recorderAbsent (g .recorder)) ∷ []
+
+-- "or buffer query", "buffer query while the recorder runs"
+abbrev pub queryLines : Gate → List Refusal
+queryLines g = when notSetUp (recorderAbsent (g .recorder)) ∷ when busy (isRunning (g .recorder)) ∷ []
+
+abbrev pub lines : Operation → Gate → Service → List ℕ → List Refusal
+lines Unserved g s body = when notServed true ∷ []
+lines Describe g s body = []
+lines DescribeBriefly g s body = []
+lines Read g s body = readLines s body
+lines Write g s body = writeLines g s body (sizeField s body)
+lines WriteMasked g s body = writeLines g s body (2 * sizeField s body)
+lines SetUpScope g s body = scopeSetUpLines (s .ex) body
+lines ReadScope g s body = scopeReadLines g
+lines SetUpRecorder g s body = recorderSetUpLines g (s .ex) body
+lines Start g s body = recorderLines g
+lines Stop g s body = recorderLines g
+lines Status g s body = recorderLines g
+lines QueryBuffer g s body = queryLines g
+
+-- ---- of a message
+
+-- what its service refuses
+abbrev pub servedLines : Gate → Service → List ℕ → List Refusal
+servedLines g s body = lines (s .operation) g s body
+
 abbrev pub table : Gate → Message → List Refusal
 table g m =
     when sumWrong (not (sumRight m))
-    ∷ when messageTooLong (ltb 64 (length (m .body)))
-    ∷ when notServed (not (isServed (kindOf (m .command))))
-    ∷ when notSetUp (isNotSetUp g (m .command))
-    ∷ when busy (isBusy g (m .command))
-    ∷ when layoutWrong (isLayoutWrong (m .command) (m .body))
-    ∷ when sizeWrong (isSizeWrong (m .command) (m .body))
-    ∷ when answerTooLong (isAnswerTooLong g (m .command) (m .body))
-    ∷ when rangeWrong (isRangeWrong (m .command) (m .body))
-    ∷ []
+    ∷ when messageTooLong (ltb mostData (length (m .body)))
+    ∷ servedLines g (serviceOf (m .command)) (m .body)
 
 -- "the first that applies"; `done` where none does
 abbrev pub firstOf : List Refusal → ℕ

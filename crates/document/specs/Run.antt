@@ -3,7 +3,7 @@ use mathlib.Core.Bool.{Bool, true, false, cond, _||_}
 use mathlib.Core.List.{List}
 use Prim.Native.Nat.{ℕ, _+_, _-_, _*_}
 use lib.Dec.{eqb, ltb}
-use Rattle.document.specs.Areas.{calibrationEnd}
+use Rattle.document.specs.Areas.{bufferBegin}
 use Rattle.document.specs.Stores.{stored}
 use Rattle.document.specs.Variables.{setSize, valuesOf}
 use Rattle.document.specs.Plan.{Plan}
@@ -45,7 +45,7 @@ startIndex r = cond (r .full) (r .place) 0
 
 -- "Place p begins at byte 12,288 + p × set size"
 abbrev pub placeBegins : Plan → ℕ → ℕ
-placeBegins p place = calibrationEnd + place * setSize (p .variables)
+placeBegins p place = bufferBegin + place * setSize (p .variables)
 
 -- "bytes copied in the order of the definitions"
 abbrev pub setOf : Plan → List ℕ → List ℕ

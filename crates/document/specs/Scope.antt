@@ -4,6 +4,7 @@ use mathlib.Core.List.{List, []}
 use Prim.Native.Nat.{ℕ}
 use lib.ListN.{length}
 use lib.Dec.{eqb, ltb}
+use Rattle.document.specs.Numbers.{mostData}
 use Rattle.document.specs.Areas.{mayBeRead}
 use Rattle.document.specs.declared.Variable.{Variable}
 use Rattle.document.specs.Variables.{countIn, variablesIn, lengthGiven, anySizeZero, countWrong, allMay, setSize, valuesOf}
@@ -38,7 +39,7 @@ scopeSetUp ex body = watching (variablesIn ex body)
 
 -- "the answer's data would exceed 64 bytes"
 abbrev pub scopeTooLong : Scope → Bool
-scopeTooLong s = ltb 64 (setSize (scopeVariables s))
+scopeTooLong s = ltb mostData (setSize (scopeVariables s))
 
 -- "0xC5: the variables' bytes in that order."
 abbrev pub scopeRead : Scope → List ℕ → List ℕ

@@ -11,7 +11,8 @@ use Rattle.document.specs.Recorder.Recorder.{planned}
 use Rattle.document.specs.Scope.Scope.{absent}
 use Rattle.document.specs.Gate.{Gate, fresh}
 use Rattle.document.specs.Happenings.{Happening, afterAll, fromReset}
-use Rattle.document.specs.Happenings.Happening.{byte, tick, writes}
+use Rattle.document.specs.Happenings.Happening.{byte, aside}
+use Rattle.document.specs.Asides.Aside.{tick, writes}
 
 -- what a case shows: the answers as they go over the wire, and the gate that is left
 pub record Shown : Type 0 where
@@ -60,9 +61,9 @@ risingSetup sign sumByte =
 
 abbrev risingRun : List ℕ → List Happening
 risingRun setup =
-    writes 16 (0x00 ∷ 0x60 ∷ [])
+    aside (writes 16 (0x00 ∷ 0x60 ∷ []))
     ∷ map byte setup
-    ++ (tick ∷ writes 16 (0x00 ∷ 0x80 ∷ []) ∷ tick ∷ map byte (0x2B ∷ 0xC3 ∷ 0x3D ∷ []))
+    ++ (aside tick ∷ aside (writes 16 (0x00 ∷ 0x80 ∷ [])) ∷ aside tick ∷ map byte (0x2B ∷ 0xC3 ∷ 0x3D ∷ []))
 
 abbrev pub risingGate : ℕ → List ℕ → Run → Gate
 risingGate sign memory run =

@@ -1,8 +1,32 @@
-// Variable definitions: up to eight pairs of a size and an address, read from a setup's data part.
+// What the definitions and the code share: a variable's definition, and what the list of commands says of one.
 
 // One definition: `size` bytes from `address` on.
 #[repr(C)]
 pub struct Variable {
     pub address: u32,
+    pub size: u8,
+}
+
+// A name for each thing that a command does.
+pub enum Operation {
+    Unserved,
+    Describe,
+    DescribeBriefly,
+    Read,
+    Write,
+    WriteMasked,
+    SetUpScope,
+    ReadScope,
+    SetUpRecorder,
+    Start,
+    Stop,
+    Status,
+    QueryBuffer,
+}
+
+// What a command does, whether its addresses take 4 bytes, and its own size; 0 where its data begin with one, or where it has none.
+pub struct Service {
+    pub operation: Operation,
+    pub ex: bool,
     pub size: u8,
 }

@@ -1,5 +1,5 @@
 -- A setup that is not refused makes a plan that fits, so that every theorem here holds of it.
-use mathlib.Core.Path.{_≡_, refl, sym}
+use mathlib.Core.Path.{_≡_}
 use mathlib.Core.Bool.{Bool, true, false, not, _&&_, _||_}
 use mathlib.Core.List.{List, [], _∷_}
 use Prim.Native.Nat.{ℕ, _*_}
@@ -11,12 +11,8 @@ use Rattle.document.specs.Numbers.{isIn}
 use Rattle.document.specs.Variables.{countIn, anySizeZero, countWrong, allMay, setSize}
 use Rattle.document.specs.Plan.{planIn, variablesPart, recordedIn, samplesField, looksAtTrigger, triggerIn, triggerAddressField, triggerSizeField, recorderSizeWrong, recorderRangeWrong}
 use Rattle.history.specs.History.{PlanFits}
-use Rattle.document.proofs.Cases.{split, neither}
-
--- none of two
-pub none-of : (a b : Bool) → a || b ≡ false → (a ≡ false) × (b ≡ false)
-none-of true b e = neither (sym e)
-none-of false b e = (refl, e)
+use Rattle.document.proofs.Cases.{split}
+use Rattle.variables.proofs.Wrong.{none-of}
 
 module _ (ex : Bool) (body : List ℕ) where
   trigger-fits : looksAtTrigger body && not (mayBeRecorded (triggerAddressField ex body) (triggerSizeField ex body)) ≡ false

@@ -11,7 +11,7 @@ use lib.Dec.{eqb, leb}
 use lib.ListN.{length, getD, take, drop, length-append, length-drop, List·getD-append}
 use lib.Seq.{sets, length-sets, drop-cons, drop-drop, take-all, getD-append-seam}
 use borrow.Author.Tests.{eqb-true, eqb-false, leb-true, leb-false, lt-leb}
-use Rattle.document.specs.Areas.{bytesAt, calibrationEnd, memoryEnd}
+use Rattle.document.specs.Areas.{bytesAt, bufferBegin, memoryEnd}
 use Rattle.document.specs.Variables.{setSize}
 use Rattle.document.specs.Plan.{Plan}
 use Rattle.document.specs.Run.{Run, placeBegins, placeAfter, fullAfter, setOf, ranTick, memoryAfterTick}
@@ -69,7 +69,7 @@ module _ (p : Plan) (f : PlanFits p) where
         ∙ sym (getD-append-seam h s [] [])
         ∙ ap (λ (i : ℕ). getD (h ++ (s ∷ [])) i []) (sym e))
         (λ n. let g : j < length h = omega (arith, eqb-false j (length h) n) in
-        other-place s m calibrationEnd (length h % p .samples) (j % p .samples) (setSize (p .variables)) w
+        other-place s m bufferBegin (length h % p .samples) (j % p .samples) (setSize (p .variables)) w
         (λ e. places-apart j (length h) (p .samples) g (omega arith) (sym e))
         ∙ k .held j g (omega arith)
         ∙ sym (List·getD-append h (s ∷ []) [] j g))
@@ -87,7 +87,7 @@ module _ (p : Plan) (f : PlanFits p) where
 
   -- others leave the buffer
   held-others : (place : ℕ) (full : Bool) (m n : List ℕ) (h : List (List ℕ)) → Held p place full m h → length n ≡ memoryEnd
-      → drop calibrationEnd n ≡ drop calibrationEnd m → Held p place full n h
+      → drop bufferBegin n ≡ drop bufferBegin m → Held p place full n h
   held-others place full m n h k e d =
       record {
         counted = k .counted;
@@ -95,7 +95,7 @@ module _ (p : Plan) (f : PlanFits p) where
         sized = e;
         held = λ j l u.
             let i = j % p .samples * setSize (p .variables) in
-            ap (take (setSize (p .variables))) (sym (drop-drop i 12288 n) ∙ ap (drop i) d ∙ drop-drop i 12288 m)
+            ap (take (setSize (p .variables))) (sym (drop-drop i bufferBegin n) ∙ ap (drop i) d ∙ drop-drop i bufferBegin m)
             ∙ k .held j l u;
       }
 

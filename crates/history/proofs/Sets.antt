@@ -9,7 +9,7 @@ use lib.Dec.{ltb}
 use lib.ListN.{take}
 use lib.Seq.{take-nil}
 use borrow.Author.Tests.{ltb-true, ltb-false}
-use Rattle.document.specs.Areas.{calibrationEnd}
+use Rattle.document.specs.Areas.{recordedEnd}
 use Rattle.document.specs.Plan.{Plan}
 use Rattle.document.specs.Trigger.{triggerValue, fires}
 use Rattle.document.specs.Run.{Watch, Run, placeBegins, setOf, watched, goesOn, setTaken, memoryAfterTick}
@@ -32,13 +32,13 @@ every-waits : (d w : ℕ) (m : List ℕ) (ms : List (List ℕ)) → 0 < w → ev
 every-waits d w m ms h = let e : w ≡ suc (w - 1) = omega arith in ap (λ (k : ℕ). every d k (m ∷ ms)) e
 
 -- what a tick leaves below the buffer
-below-kept : (p : Plan) (r : Run) (m : List ℕ) → take calibrationEnd (memoryAfterTick p r m) ≡ take calibrationEnd m
+below-kept : (p : Plan) (r : Run) (m : List ℕ) → take recordedEnd (memoryAfterTick p r m) ≡ take recordedEnd m
 below-kept p r m =
     by-case r
-    (λ e. ap (take calibrationEnd) (stopped-memory p r m e))
-    (λ e h. ap (take calibrationEnd) (waits-memory p r m e h))
-    (λ e h. ap (take calibrationEnd) (takes-memory p r m e h)
-    ∙ take-sets (setOf p m) m (placeBegins p (r .place)) calibrationEnd (omega arith))
+    (λ e. ap (take recordedEnd) (stopped-memory p r m e))
+    (λ e h. ap (take recordedEnd) (waits-memory p r m e h))
+    (λ e h. ap (take recordedEnd) (takes-memory p r m e h)
+    ∙ take-sets (setOf p m) m (placeBegins p (r .place)) recordedEnd (omega arith))
 
 module _ (p : Plan) where
   -- of the memories at which sets are due, those of which sets are taken, by how far the trigger has come
@@ -92,7 +92,7 @@ module _ (p : Plan) where
   abbrev Agree : Recording → List Event → List (List ℕ) → Type 0
   Agree g [] ms = ms ≡ []
   Agree g (tick ∷ es) [] = ⊥
-  Agree g (tick ∷ es) (m ∷ ms) = (take calibrationEnd (g .memory) ≡ take calibrationEnd m) × Agree (stepped p g tick) es ms
+  Agree g (tick ∷ es) (m ∷ ms) = (take recordedEnd (g .memory) ≡ take recordedEnd m) × Agree (stepped p g tick) es ms
   Agree g (others m ∷ es) ms = Agree (stepped p g (others m)) es ms
   Agree g (stop ∷ es) ms = ms ≡ []
 
@@ -102,7 +102,7 @@ module _ (p : Plan) where
   found-agree (others m ∷ es) g = found-agree es (stepped p g (others m))
   found-agree (stop ∷ es) g = refl
 
-  left-agree : (es : List Event) (g : Recording) (m : List ℕ) → take calibrationEnd (g .memory) ≡ take calibrationEnd m
+  left-agree : (es : List Event) (g : Recording) (m : List ℕ) → take recordedEnd (g .memory) ≡ take recordedEnd m
       → Agree g es (memoriesLeft m es)
   left-agree [] g m a = refl
   left-agree (tick ∷ es) g m a = (a, left-agree es (stepped p g tick) m (below-kept p (g .run) (g .memory) ∙ a))

@@ -8,6 +8,7 @@ use lib.Dec.{eqb}
 use lib.ListN.{length, take, drop}
 use lib.Seq.{sets, length-sets}
 use borrow.Author.Tests.{eq-eqb, ne-eqb, eqb-true, eqb-false}
+use Rattle.document.specs.Areas.{bufferBegin, memoryEnd}
 use Rattle.document.specs.Variables.{setSize}
 use Rattle.document.specs.Plan.{Plan}
 use Rattle.document.specs.Run.{Run, placeBegins, setOf, setTaken, waited, ranTick, memoryAfterTick}
@@ -90,7 +91,7 @@ module _ (p : Plan) (r : Run) (m : List ℕ) where
       (λ e h. ap (take a) (takes-memory e h) ∙ take-sets (setOf p m) m a a (omega arith))
 
   -- all behind its place stays
-  pub tick-behind : PlanFits p → length m ≡ 16384
+  pub tick-behind : PlanFits p → length m ≡ memoryEnd
       → drop (placeBegins p (r .place) + setSize (p .variables)) (memoryAfterTick p r m)
       ≡ drop (placeBegins p (r .place) + setSize (p .variables)) m
   tick-behind f l =
@@ -103,6 +104,6 @@ module _ (p : Plan) (r : Run) (m : List ℕ) where
 
   -- its place lies within the buffer: at or above byte 12,288 and below byte 16,384
   pub place-in-buffer : PlanFits p → r .place < p .samples
-      → (12288 ≤ placeBegins p (r .place)) × (placeBegins p (r .place) + setSize (p .variables) ≤ 16384)
+      → (bufferBegin ≤ placeBegins p (r .place)) × (placeBegins p (r .place) + setSize (p .variables) ≤ memoryEnd)
   place-in-buffer f h =
       (omega arith, omega (arith, place-room (r .place) (p .samples) (setSize (p .variables)) h, f .room))

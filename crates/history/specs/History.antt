@@ -5,7 +5,7 @@ use mathlib.Core.List.{List, [], _∷_, _++_}
 use Prim.Native.Nat.{ℕ, zero, suc, _*_, _<_, _≤_}
 use lib.ListN.{length, drop}
 use lib.Dec.{eqb}
-use Rattle.document.specs.Areas.{calibrationEnd, memoryEnd, mayBeRecorded}
+use Rattle.document.specs.Areas.{bufferBegin, memoryEnd, mayBeRecorded}
 use Rattle.document.specs.Variables.{setSize, allMay}
 use Rattle.document.specs.Plan.{Plan}
 use Rattle.document.specs.Trigger.{triggerValue, fires}
@@ -52,7 +52,7 @@ after p g (e ∷ es) = after p (stepped p g e) es
 abbrev pub LeavesBuffer : Recording → Event → Type 0
 LeavesBuffer g tick = Unit {0}
 LeavesBuffer g (others memory) =
-    (length memory ≡ memoryEnd) × (drop calibrationEnd memory ≡ drop calibrationEnd (g .memory))
+    (length memory ≡ memoryEnd) × (drop bufferBegin memory ≡ drop bufferBegin (g .memory))
 LeavesBuffer g stop = Unit {0}
 
 abbrev pub AllLeaveBuffer : Plan → Recording → List Event → Type 0

@@ -1,1 +1,2 @@
+-- The words of the theorems about a recorder.
 pub mod History

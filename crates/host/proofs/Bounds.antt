@@ -7,12 +7,9 @@ use native.Mathlib.Omega.{arith}
 use borrow.Author.Tests.{leb-true, ltb-true, ltb-false, eqb-true, le-leb, eq-eqb, ne-eqb}
 use lib.Dec.{eqb, ltb, leb}
 use lib.ListN.{replicate, set}
-use Rattle.document.specs.Numbers.{isError, taken, stateRefused}
-use Rattle.document.specs.AnswerReader.{beginRefusal, readRoomRefusal}
+use Rattle.document.specs.Numbers.{isError}
 use Rattle.document.proofs.Cases.{split, and-left, and-right}
-use Rattle.host.specs.declared.reader.AnswerReader.{AnswerReader}
-use Rattle.host.specs.Reader.{sound, soundAt, dataLength, phaseAt, fresh, silent, opened, stored, finished, literal, stepped, turned}
-use Rattle.host.specs.Promises.{beginResult, readResult}
+use Rattle.host.specs.Reader.{AnswerReader, sound, soundAt, dataLength, phaseAt, fresh, silent, opened, stored, finished, literal, stepped, turned}
 
 -- ---- what the bounds say
 
@@ -135,22 +132,3 @@ stepped-sound r b ok =
     (λ p. split (eqb (r .waiting) 1)
     (λ w. rw (stepped-start r b p w) (opened-sound r b ok))
     (λ w. rw (stepped-plain r b p w) (literal-sound r b ok)))
-
--- ---- no state handed out is outside the bounds
-
--- a reading that begins is within them, whatever reader it was asked of
-pub begin-within : (r : AnswerReader) (n : ℕ) → beginRefusal n ≡ taken → sound (beginResult r n .next) ≡ true
-unfolding beginResult
-begin-within r n e =
-    split (ltb 64 n)
-    (λ t. absurd (omega (arith, rw t at e)))
-    (λ f. rw f (fresh-sound n (ltb-false 64 n f)))
-
--- a byte that is not refused with 1 leaves them kept
-pub read-within : (r : AnswerReader) (b : ℕ) (buffer : List ℕ) →
-    eqb (readResult r b buffer .refusal) stateRefused ≡ false → sound (readResult r b buffer .next) ≡ true
-unfolding readResult
-read-within r b buffer e =
-    split (sound r)
-    (λ ok. split (eqb (readRoomRefusal buffer) taken) (λ room. rw (ok, room) (stepped-sound r b ok)) (λ short. rw (ok, short) ok))
-    (λ out. rw out (out ∙ sym (rw out at e)))

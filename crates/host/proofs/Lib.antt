@@ -1,6 +1,6 @@
 -- What follows from the definitions of the other end.
 pub mod Bounds
 pub mod Reading
-pub mod Calls
 pub mod RoundTrip
 pub mod Heads
+pub mod Idle

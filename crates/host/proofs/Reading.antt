@@ -19,8 +19,7 @@ use Rattle.line.proofs.Pairing.{waitsBehind}
 use Rattle.line.proofs.Machine.{Reads, foundBy, reported-at, within-after, found-map, answer-finished-found}
 use Rattle.line.proofs.Frames.{counted}
 use Rattle.line.proofs.RightSum.{total-append}
-use Rattle.host.specs.declared.reader.AnswerReader.{AnswerReader}
-use Rattle.host.specs.Reader.{Step, sound, dataLength, phaseAt, fresh, silent, opened, literal, stepped, turned, readerAfter}
+use Rattle.host.specs.Reader.{AnswerReader, Step, sound, dataLength, phaseAt, fresh, silent, opened, literal, stepped, turned, readerAfter}
 use Rattle.host.proofs.Bounds.{phases, data-left, data-all, data-room, fresh-sound, stepped-sound, literal-data, literal-sum, literal-idle, stepped-doubled, stepped-first, stepped-start, stepped-plain}
 
 -- ---- what a reading brings, and what a step reports

@@ -4,12 +4,11 @@ use Prim.Native.Nat.{ℕ, _+_}
 use lib.ListN.{take, set}
 use Rattle.document.specs.AnswerReader.{Brought}
 use Rattle.document.specs.AnswerReader.Brought.{nothing, answer, wrong}
-use Rattle.host.specs.declared.reader.AnswerReader.{AnswerReader}
 use Rattle.host.specs.declared.head.Head.{Head}
 use Rattle.host.specs.declared.head.Asked.{Asked}
 use Rattle.host.specs.declared.head.Asked.the-variants as asked
 use Rattle.host.specs.declared.head.Stepped.{Stepped}
-use Rattle.host.specs.Reader.{Step}
+use Rattle.host.specs.Reader.{AnswerReader, Step}
 
 abbrev pub withBody : Head → List ℕ → AnswerReader
 withBody h body =

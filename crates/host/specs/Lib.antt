@@ -1,5 +1,3 @@
--- What the calls of the other end promise, with the definitions of the document.
+-- The answer reader a byte at a time, whole and by its head.
 pub mod Reader
 pub mod Head
-pub mod Promises
-pub mod Calls

@@ -7,9 +7,19 @@ use lib.ListN.{set, take, replicate}
 use Rattle.document.specs.Numbers.{isError}
 use Rattle.document.specs.AnswerReader.{Brought}
 use Rattle.document.specs.AnswerReader.Brought.{nothing, answer, wrong}
-use Rattle.host.specs.declared.reader.AnswerReader.{AnswerReader}
 
 -- ---- the state
+
+pub record AnswerReader : Type 0 where
+  -- 1 where a 0x2B waits for its follower
+  pub waiting : ℕ
+  pub phase : ℕ
+  pub status : ℕ
+  -- how many data a status with a clear top bit brings
+  pub expected : ℕ
+  pub have : ℕ
+  pub sum : ℕ
+  pub body : List ℕ
 
 -- the phases: outside an answer, in its data, at its sum byte
 abbrev pub idle : ℕ

@@ -3,8 +3,10 @@ ghost use mathlib.Core.Path.{_≡_};
 ghost use mathlib.Core.Bool.{true};
 ghost use mathlib.Core.List.{List, []};
 ghost use Prim.Native.Nat.{ℕ, _≤_, _<_};
+ghost use Rattle.document.specs.Numbers.{mostData};
 ghost use Rattle.host.specs.Reader.{sound, soundAt, dataLength, phaseAt, silent, opened, stored, finished, literal, stepped};
 ghost use Rattle.host.specs.Head.{withBody, reach, headStep};
+use codes::MOST_DATA_BYTE;
 use line::doubling::PLUS;
 use line::sum::added;
 
@@ -80,7 +82,7 @@ impl Head {
         if self.waiting > 1 {
             return false;
         }
-        if self.expected > 64 {
+        if self.expected > MOST_DATA_BYTE {
             return false;
         }
         let n = data_length(self.status, self.expected);
@@ -100,8 +102,8 @@ impl Head {
     }
 
     fn store(mut self, byte: u8) -> Stepped
-        requires { ⌜ self .have < 64 ⌝ }
-        ensures { λ r. ⌜ ((body : List ℕ) → silent (stored (withBody self body) byte) ≡ headStep r body) × (reach (r .asks) ≤ 64) ⌝ }
+        requires { ⌜ self .have < mostData ⌝ }
+        ensures { λ r. ⌜ ((body : List ℕ) → silent (stored (withBody self body) byte) ≡ headStep r body) × (reach (r .asks) ≤ mostData) ⌝ }
     {
         let at = self.have;
         self.waiting = 0;
@@ -116,8 +118,8 @@ impl Head {
 
     // The sum byte: data are handed out only where all adds up.
     fn finish(mut self, byte: u8) -> Stepped
-        requires { ⌜ self .have ≤ 64 ⌝ }
-        ensures { λ r. ⌜ ((body : List ℕ) → finished (withBody self body) byte ≡ headStep r body) × (reach (r .asks) ≤ 64) ⌝ }
+        requires { ⌜ self .have ≤ mostData ⌝ }
+        ensures { λ r. ⌜ ((body : List ℕ) → finished (withBody self body) byte ≡ headStep r body) × (reach (r .asks) ≤ mostData) ⌝ }
     {
         self.waiting = 0;
         self.phase = IDLE;
@@ -139,7 +141,7 @@ impl Head {
 
     fn take_literal(mut self, byte: u8) -> Stepped
         requires { ⌜ sound (withBody self []) ≡ true ⌝ }
-        ensures { λ r. ⌜ ((body : List ℕ) → literal (withBody self body) byte ≡ headStep r body) × (reach (r .asks) ≤ 64) ⌝ }
+        ensures { λ r. ⌜ ((body : List ℕ) → literal (withBody self body) byte ≡ headStep r body) × (reach (r .asks) ≤ mostData) ⌝ }
     {
         if self.phase == DATA {
             return self.store(byte);
@@ -157,7 +159,7 @@ impl Head {
     // Who asks has checked the bounds.
     pub fn step(mut self, byte: u8) -> Stepped
         requires { ⌜ sound (withBody self []) ≡ true ⌝ }
-        ensures { λ r. ⌜ ((body : List ℕ) → stepped (withBody self body) byte ≡ headStep r body) × (reach (r .asks) ≤ 64) ⌝ }
+        ensures { λ r. ⌜ ((body : List ℕ) → stepped (withBody self body) byte ≡ headStep r body) × (reach (r .asks) ≤ mostData) ⌝ }
     {
         let waits = self.waiting == 1;
         if byte == PLUS {

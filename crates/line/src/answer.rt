@@ -1,33 +1,52 @@
 // The answer writer: straight into the lent buffer, so that no second copy of an answer is held.
 ghost use mathlib.Core.Path.{_≡_};
+ghost use mathlib.Core.Bool.{true};
+ghost use Prim.Native.Nat.{_≤_};
+ghost use lib.ListN.{length};
+ghost use Rattle.document.specs.Numbers.{answerRoom};
 ghost use Rattle.document.specs.AnswerWriter.{answerFormed};
 ghost use Rattle.line.specs.AnswerWritten.{AnswerWritten};
+ghost use Rattle.line.specs.Told.{Told};
 use crate::Written;
 use crate::doubling::PLUS;
 use crate::doubling::Progress;
 use crate::doubling::put_all;
 use crate::doubling::put_sum;
+use codes::ANSWER_ROOM;
 use codes::FORM_REFUSED;
+use codes::MOST_DATA;
+use codes::NOT_SERVED;
+use codes::RANGE_WRONG;
+use codes::RECORDER_STOPPED;
 use codes::ROOM_REFUSED;
 use codes::TAKEN;
-
-// Start, status, and 65 bytes that may all be doubled.
-const ANSWER_ROOM: usize = 132;
 
 // Whether the answer can be formed: a known status, few enough data, none beside an error.
 fn is_formed(status: u8, body: &[u8]) -> bool
     ensures { λ r. ⌜ r ≡ answerFormed (record { status = status; body = now (body .entry) }) ⌝ }
 {
-    if status <= 0x02 {
-        return body.len() <= 64;
+    if status <= RECORDER_STOPPED {
+        return body.len() <= MOST_DATA;
     }
-    if status < 0x81 {
+    if status < NOT_SERVED {
         return false;
     }
-    if status > 0x89 {
+    if status > RANGE_WRONG {
         return false;
     }
     body.len() == 0
+}
+
+// How many bytes an answer takes that can be formed; who asks knows that it can, and has measured the buffer.
+pub fn tell(status: u8, body: &[u8], out: &mut [u8]) -> usize
+    requires { ⌜ (answerFormed (record { status = status; body = now body }) ≡ true) × (answerRoom ≤ length (now out)) ⌝ }
+    ensures { λ r. ⌜ Told (record { status = status; body = now (body .entry) }) (now (out .entry)) r (now (out .exit)) ⌝ }
+{
+    out[0] = PLUS;
+    out[1] = status;
+    let front = Progress { at: 2, sum: status };
+    let behind = put_all(front, body, out);
+    put_sum(behind, out)
 }
 
 pub fn write_answer(status: u8, body: &[u8], out: &mut [u8]) -> Written
@@ -47,13 +66,8 @@ pub fn write_answer(status: u8, body: &[u8], out: &mut [u8]) -> Written
             length: 0,
         };
     }
-    out[0] = PLUS;
-    out[1] = status;
-    let front = Progress { at: 2, sum: status };
-    let behind = put_all(front, body, out);
-    let end = put_sum(behind, out);
     Written {
         refusal: TAKEN,
-        length: end,
+        length: tell(status, body, out),
     }
 }

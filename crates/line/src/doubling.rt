@@ -1,5 +1,5 @@
 // Bytes go into a lent buffer doubled where the line asks it, and into the sum as they are.
-// The two writers call these, and each has measured the buffer: `write_answer` here, `write_command` of the other end.
+// The two writers call these once the buffer is measured: `tell` here, `write_command` of the other end.
 ghost use mathlib.Core.List.{[], _∷_};
 ghost use Prim.Native.Nat.{_+_, _≤_};
 ghost use lib.ListN.{length};

@@ -3,6 +3,7 @@ mod answer;
 pub mod doubling;
 pub mod sum;
 
+pub use answer::tell;
 pub use answer::write_answer;
 
 // What a writer did: with which number it refused, or how many bytes it wrote.

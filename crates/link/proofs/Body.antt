@@ -9,7 +9,7 @@ use lib.ListN.{length, take, set, length-set, length-take}
 use lib.Seq.{sets, set-out, take-suc-set, take-length, take-all, take-append-seam, sets-eq}
 use Rattle.document.proofs.Cases.{split}
 use Rattle.link.specs.declared.Event.{Event}
-use Rattle.link.specs.declared.Event.the-variants.{Nothing, Keep, Whole, Refused}
+use Rattle.link.specs.declared.Event.the-variants.{Nothing, Keep, Whole}
 use Rattle.link.specs.Report.{bodyAfter}
 
 -- an event changes no length
@@ -17,7 +17,6 @@ pub body-length : (event : Event) (body : List ℕ) → length (bodyAfter event 
 body-length Nothing body = refl
 body-length (Keep at byte) body = length-set body at byte
 body-length (Whole command n sum) body = refl
-body-length Refused body = refl
 
 -- ---- data that run past the end
 sets-past : (data′ body : List ℕ) (at : ℕ) → length body ≤ at → sets body at data′ ≡ body

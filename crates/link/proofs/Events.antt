@@ -5,7 +5,7 @@ use lib.Dec.{eqb, ltb}
 use Rattle.document.proofs.Cases.{split}
 use Rattle.link.specs.declared.Receiver.{Receiver}
 use Rattle.link.specs.declared.Event.{Event}
-use Rattle.link.specs.declared.Event.the-variants.{Nothing, Keep, Whole, Refused}
+use Rattle.link.specs.declared.Event.the-variants.{Nothing, Keep, Whole}
 use Rattle.link.specs.Bounds.{lengthNext, dataNext, sumNext}
 use Rattle.link.specs.Step.{plus, afterByte, byteEvent, stepped}
 
@@ -14,13 +14,11 @@ abbrev keptOf : ℕ → Event → ℕ
 keptOf other Nothing = other
 keptOf other (Keep at v) = v
 keptOf other (Whole c n sum) = other
-keptOf other Refused = other
 
 abbrev commandOf : ℕ → Event → ℕ
 commandOf other Nothing = other
 commandOf other (Keep at v) = other
 commandOf other (Whole c n sum) = c
-commandOf other Refused = other
 
 module _ (r : Receiver) (b : ℕ) where
   keeps : keptOf b (stepped r b .event) ≡ b

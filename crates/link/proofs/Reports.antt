@@ -14,9 +14,9 @@ use Rattle.line.proofs.Pairing.{waitsBehind}
 use Rattle.line.proofs.Machine.{Reads, within-after, reported-at, found-map, finished-found}
 use Rattle.link.specs.declared.Receiver.{Receiver}
 use Rattle.link.specs.Bounds.{fresh, sound}
-use Rattle.link.specs.Step.{plus, opened, withWaiting, afterByte, byteEvent, stepped, taken}
+use Rattle.link.specs.Step.{plus, opened, withWaiting, afterByte, byteEvent, stepped}
 use Rattle.link.specs.Report.{Held, held, Beside, onByte, reportedAt, sinceReset, reporting}
-use Rattle.link.proofs.Sound.{nothing, literalTaken, waiting-of, waiting-sound, plus-is, taken-step, sound-kept, reset-sound, by-phase, literal-data, literal-sum, literal-length, literal-outside}
+use Rattle.link.proofs.Sound.{nothing, literalTaken, waiting-of, waiting-sound, plus-is, step-sound, reset-sound, by-phase, literal-data, literal-sum, literal-length, literal-outside}
 use Rattle.link.proofs.Body.{body-length}
 use Rattle.link.proofs.Owed.{owes, owes-none, owes-literal, owes-opened}
 
@@ -35,18 +35,18 @@ first-flag : (waiting : ℕ) → eqb waiting 1 ≡ false → eqb 1 waiting ≡ f
 first-flag waiting none = ne-eqb 1 waiting (λ e. eqb-false waiting 1 none (sym e))
 
 module _ (r : Receiver) (bounds : sound r ≡ true) where
-  literal-step : (b : ℕ) → eqb (r .waiting) 1 ≡ eqb b 0x2B → taken r b ≡ literalTaken (withWaiting 0 r) b
+  literal-step : (b : ℕ) → eqb (r .waiting) 1 ≡ eqb b 0x2B → stepped r b ≡ literalTaken (withWaiting 0 r) b
   unfolding stepped afterByte byteEvent literalTaken
-  literal-step b same = taken-step r b bounds ∙ rw (literal-flag b (r .waiting) (waiting-of r bounds) same) refl
+  literal-step b same = rw (literal-flag b (r .waiting) (waiting-of r bounds) same) refl
 
-  start-step : (b : ℕ) → eqb (r .waiting) 1 ≡ true → eqb b 0x2B ≡ false → taken r b ≡ nothing (opened b)
+  start-step : (b : ℕ) → eqb (r .waiting) 1 ≡ true → eqb b 0x2B ≡ false → stepped r b ≡ nothing (opened b)
   unfolding stepped afterByte byteEvent literalTaken
   start-step b waits other =
-      taken-step r b bounds ∙ rw (start-flag b (r .waiting) waits other, plus-is b, other) refl
+      rw (start-flag b (r .waiting) waits other, plus-is b, other) refl
 
-  first-step : eqb (r .waiting) 1 ≡ false → taken r 0x2B ≡ nothing (withWaiting 1 r)
+  first-step : eqb (r .waiting) 1 ≡ false → stepped r 0x2B ≡ nothing (withWaiting 1 r)
   unfolding stepped afterByte byteEvent literalTaken
-  first-step none = taken-step r 0x2B bounds ∙ rw (first-flag (r .waiting) none) refl
+  first-step none = rw (first-flag (r .waiting) none) refl
 
 -- a literal leaves the flag as it is
 literal-waiting : (r : Receiver) (l : ℕ) → literalTaken r l .next .waiting ≡ r .waiting
@@ -72,7 +72,7 @@ whole ls = map held (wholeMessage ls)
 
 keeps : (s : Beside) (b : ℕ) → within s → within (onByte s b)
 keeps s b ok =
-    (sound-kept (s .receiver) b (ok .0), body-length (taken (s .receiver) b .event) (s .body) ∙ ok .1)
+    (step-sound (s .receiver) b (ok .0), body-length (stepped (s .receiver) b .event) (s .body) ∙ ok .1)
 
 pairs : (s : Beside) (b : ℕ) → within s → waits (onByte s b) ≡ waitsBehind (waits s) b
 pairs s b ok =

@@ -10,9 +10,9 @@ use Rattle.document.specs.Kinds.{hasLengthByte, fastLength}
 use Rattle.document.proofs.Cases.{split, and-left, and-right}
 use Rattle.link.specs.declared.Receiver.{Receiver}
 use Rattle.link.specs.declared.Taken.{Taken}
-use Rattle.link.specs.declared.Event.the-variants.{Nothing, Keep, Whole, Refused}
+use Rattle.link.specs.declared.Event.the-variants.{Nothing, Keep, Whole}
 use Rattle.link.specs.Bounds.{idle, lengthNext, dataNext, sumNext, fresh, lengthRight, insideSound, sound}
-use Rattle.link.specs.Step.{plus, nextPhase, more, opened, measured, counted, closed, added, afterLiteral, literalEvent, withWaiting, afterByte, byteEvent, stepped, taken, numberOf}
+use Rattle.link.specs.Step.{plus, nextPhase, more, opened, measured, counted, closed, added, afterLiteral, literalEvent, withWaiting, afterByte, byteEvent, stepped}
 
 -- ---- the bounds over plain numbers
 abbrev pub inBounds : ℕ → ℕ → ℕ → ℕ → ℕ → Bool
@@ -209,44 +209,6 @@ step-sound r b bounds =
     (λ plus. rw (e, plus-is b, plus) (waiting-sound r bounds 1 refl))
     (λ other. rw (e, plus-is b, other) (opened-sound b other)))
 
--- ---- the call that checks
--- within bounds it is the step
-pub taken-step : (r : Receiver) (b : ℕ) → sound r ≡ true → taken r b ≡ stepped r b
-unfolding taken
-taken-step r b bounds = rw bounds refl
-
 pub reset-sound : sound fresh ≡ true
 unfolding sound
 reset-sound = refl
-
--- no state that is handed out is outside, save by a refusal itself
-pub sound-kept : (r : Receiver) (b : ℕ) → sound r ≡ true → sound (taken r b .next) ≡ true
-sound-kept r b bounds = rw (taken-step r b bounds) (step-sound r b bounds)
-
--- a state outside comes back unchanged
-pub refused-back : (r : Receiver) (b : ℕ) → sound r ≡ false → taken r b ≡ record { next = r; event = Refused }
-unfolding taken
-refused-back r b outside = rw outside refl
-
--- ---- the number: 1 exactly where the state is outside
-literal-number : (r : Receiver) (l : ℕ) → numberOf (literalTaken r l .event) ≡ numbers.taken
-literal-number r l =
-    by-phase (r .phase)
-    (λ e. rw (literal-data r l e) (split (ltb (r .have) 64) (λ t. rw t refl) (λ f. rw f refl)))
-    (λ e. rw (literal-sum r l e) refl)
-    (λ e. rw (literal-length r l e) refl)
-    (λ d s e. rw (literal-outside r l d s e) refl)
-
-step-number : (r : Receiver) (b : ℕ) → numberOf (stepped r b .event) ≡ numbers.taken
-unfolding stepped afterByte byteEvent literalTaken
-step-number r b =
-    split (eqb (plus b) (r .waiting))
-    (λ e. rw e (literal-number (withWaiting 0 r) b))
-    (λ e. rw e refl)
-
-pub taken-number : (r : Receiver) (b : ℕ) →
-    numberOf (taken r b .event) ≡ cond (sound r) numbers.taken numbers.stateRefused
-taken-number r b =
-    split (sound r)
-    (λ within. rw (taken-step r b within, within) (step-number r b))
-    (λ outside. rw (refused-back r b outside, outside) refl)

@@ -6,9 +6,9 @@ use Rattle.document.specs.Sum.{total}
 use Rattle.document.specs.Message.{Message, lengthPart}
 use Rattle.link.specs.declared.Receiver.{Receiver}
 use Rattle.link.specs.declared.Event.{Event}
-use Rattle.link.specs.declared.Event.the-variants.{Nothing, Keep, Whole, Refused}
+use Rattle.link.specs.declared.Event.the-variants.{Nothing, Keep, Whole}
 use Rattle.link.specs.Bounds.{fresh}
-use Rattle.link.specs.Step.{taken}
+use Rattle.link.specs.Step.{stepped}
 
 -- what is left of a message: "A data part holds at most 64 bytes", so no more are kept
 pub record Held : Type 0 where
@@ -36,7 +36,6 @@ abbrev pub bodyAfter : Event → List ℕ → List ℕ
 bodyAfter Nothing body = body
 bodyAfter (Keep at byte) body = set body at byte
 bodyAfter (Whole command length sum) body = body
-bodyAfter Refused body = body
 
 -- what an event reports
 abbrev pub reportOf : Event → List ℕ → List Held
@@ -44,17 +43,16 @@ reportOf Nothing body = []
 reportOf (Keep at byte) body = []
 reportOf (Whole command length sum) body =
     record { command = command; length = length; kept = take length body; sum = sum } ∷ []
-reportOf Refused body = []
 
 abbrev pub onByte : Beside → ℕ → Beside
 onByte s b =
     record {
-      receiver = taken (s .receiver) b .next;
-      body = bodyAfter (taken (s .receiver) b .event) (s .body);
+      receiver = stepped (s .receiver) b .next;
+      body = bodyAfter (stepped (s .receiver) b .event) (s .body);
     }
 
 abbrev pub reportedAt : Beside → ℕ → List Held
-reportedAt s b = reportOf (taken (s .receiver) b .event) (s .body)
+reportedAt s b = reportOf (stepped (s .receiver) b .event) (s .body)
 
 -- a fresh receiver beside a body, after the bytes since reset
 abbrev pub sinceReset : List ℕ → List ℕ → Beside

@@ -2,20 +2,12 @@
 use Prim.Native.Nat.{ℕ, _+_, _%_}
 use mathlib.Core.Bool.{cond}
 use lib.Dec.{ltb, eqb}
-use Rattle.document.specs.Numbers as numbers
 use Rattle.document.specs.Kinds.{hasLengthByte, fastLength}
 use Rattle.link.specs.declared.Receiver.{Receiver}
 use Rattle.link.specs.declared.Taken.{Taken}
 use Rattle.link.specs.declared.Event.{Event}
-use Rattle.link.specs.declared.Event.the-variants.{Nothing, Keep, Whole, Refused}
-use Rattle.link.specs.Bounds.{idle, lengthNext, dataNext, sumNext, sound}
-
--- the number with which an event answers: "1 a state outside the bounds"
-abbrev pub numberOf : Event → ℕ
-numberOf Nothing = numbers.taken
-numberOf (Keep at byte) = numbers.taken
-numberOf (Whole command length sum) = numbers.taken
-numberOf Refused = numbers.stateRefused
+use Rattle.link.specs.declared.Event.the-variants.{Nothing, Keep, Whole}
+use Rattle.link.specs.Bounds.{idle, lengthNext, dataNext, sumNext}
 
 -- 1 for a 0x2B, 0 for any other byte
 abbrev pub plus : ℕ → ℕ
@@ -112,7 +104,3 @@ byteEvent r b = cond (eqb (plus b) (r .waiting)) (literalEvent r b) Nothing
 
 unfoldable pub stepped : Receiver → ℕ → Taken
 stepped r b = record { next = afterByte r b; event = byteEvent r b }
-
--- "Calls refuse .., consume no byte, and hand the state back unchanged"
-unfoldable pub taken : Receiver → ℕ → Taken
-taken r b = cond (sound r) (stepped r b) (record { next = r; event = Refused })

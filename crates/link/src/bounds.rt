@@ -6,12 +6,13 @@ use crate::IDLE;
 use crate::LENGTH_NEXT;
 use crate::Receiver;
 use crate::SUM_NEXT;
+use codes::FIRST_FAST;
 
 // Whether a length goes with a command: any below 0xC0, the one that the command gives from there on.
 fn length_right(command: u8, length: u8) -> bool
     ensures { λ r. ⌜ r ≡ lengthRight command length ⌝ }
 {
-    if command < 0xC0 {
+    if command < FIRST_FAST {
         return true;
     }
     length == command / 16 % 4 * 2
@@ -28,7 +29,7 @@ impl Receiver {
             return length_right(self.command, self.length) && self.have == self.length;
         }
         if self.phase == LENGTH_NEXT {
-            return self.command < 0xC0 && self.have == 0;
+            return self.command < FIRST_FAST && self.have == 0;
         }
         false
     }

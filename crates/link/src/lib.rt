@@ -3,10 +3,6 @@
 mod bounds;
 mod step;
 
-ghost use mathlib.Core.Path.{_≡_};
-ghost use Rattle.link.specs.Bounds.{fresh};
-ghost use Rattle.link.specs.Step.{taken};
-
 // The phases: outside a message, or which literal comes next.
 pub const IDLE: u8 = 0;
 
@@ -32,39 +28,9 @@ pub enum Event {
     Keep { at: u8, byte: u8 },
     // A whole message; its sum, modulo 256, is 0 where it is right.
     Whole { command: u8, length: u8, sum: u8 },
-    // The state is outside its bounds.
-    Refused,
 }
 
 pub struct Taken {
     pub next: Receiver,
     pub event: Event,
-}
-
-impl Receiver {
-    pub fn new() -> Receiver
-        ensures { λ r. ⌜ r ≡ fresh ⌝ }
-    {
-        Receiver {
-            waiting: 0,
-            phase: IDLE,
-            command: 0,
-            length: 0,
-            have: 0,
-            sum: 0,
-        }
-    }
-
-    // A byte of the line. A state outside its bounds is refused and comes back as it is.
-    pub fn take(self, byte: u8) -> Taken
-        ensures { λ r. ⌜ r ≡ taken self byte ⌝ }
-    {
-        if self.is_sound() {
-            return self.step(byte);
-        }
-        Taken {
-            next: self,
-            event: Event::Refused,
-        }
-    }
 }

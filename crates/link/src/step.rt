@@ -8,6 +8,8 @@ use crate::LENGTH_NEXT;
 use crate::Receiver;
 use crate::SUM_NEXT;
 use crate::Taken;
+use codes::FIRST_FAST;
+use codes::MOST_DATA_BYTE;
 use line::sum::added;
 
 // 1 for a 0x2B, 0 for any other byte.
@@ -47,7 +49,7 @@ impl Receiver {
         self.command = command;
         self.have = 0;
         self.sum = command;
-        if command < 0xC0 {
+        if command < FIRST_FAST {
             self.length = 0;
             self.phase = LENGTH_NEXT;
             return self;
@@ -103,7 +105,7 @@ impl Receiver {
     {
         if self.phase == DATA_NEXT {
             let at = self.have;
-            if at < 64 {
+            if at < MOST_DATA_BYTE {
                 return Event::Keep { at, byte };
             }
             return Event::Nothing;
@@ -142,8 +144,8 @@ impl Receiver {
         Event::Nothing
     }
 
-    // What `take` does within the bounds, for a caller that has checked them; any state is safe. State and event are
-    // made apart and put together once: that compiles to half the instructions of an answer made in each branch.
+    // A byte of the line. Any state is safe; who holds the whole state has checked its bounds. State and event are made apart
+    // and put together once: that compiles to half the instructions of an answer made in each branch.
     pub fn step(self, byte: u8) -> Taken
         ensures { λ r. ⌜ r ≡ stepped self byte ⌝ }
     {

@@ -1,7 +1,18 @@
-// The C boundary: what include/log_gate.h declares. A slice crosses as a pointer and a length, a state as a block of bytes.
-mod byte;
-mod reader;
-mod refusals;
-mod reset;
-mod tick;
-mod writers;
+// The C boundary: what include/log_gate.h declares. A slice crosses as a pointer and a length, a state as a block of bytes. Each call
+// is one of the crates below, under the name and with the promise that it has there.
+mod ends;
+mod lengths;
+mod target;
+
+pub use ends::log_gate_reader_begin;
+pub use ends::log_gate_reader_byte;
+pub use ends::log_gate_write_answer;
+pub use ends::log_gate_write_command;
+pub use lengths::LOG_GATE_ANSWER_ROOM;
+pub use lengths::LOG_GATE_MEMORY;
+pub use lengths::LOG_GATE_READER;
+pub use lengths::LOG_GATE_STATE;
+pub use target::log_gate_byte;
+pub use target::log_gate_check;
+pub use target::log_gate_reset;
+pub use target::log_gate_tick;

@@ -1,6 +1,4 @@
 -- What follows from the definitions, for the proofs of this crate and of those above it.
 pub mod Reach
 pub mod Widths
-pub mod Masks
 pub mod Copies
-pub mod Answers

@@ -4,24 +4,22 @@ use mathlib.Core.Bool.{true, not, _&&_}
 use mathlib.Core.List.{[], _∷_}
 use Prim.Native.Nat.{ℕ, _*_, _^_, _<_, _≤_}
 use native.Mathlib.Omega.{arith}
-use lib.Dec.{eqb, ltb, leb}
-use borrow.Author.Tests.{eqb-true, eqb-false, ltb-true, ltb-false, leb-true, not-true}
+use lib.Dec.{eqb, leb}
+use borrow.Author.Tests.{eqb-true, eqb-false, ltb-true, leb-true, not-true}
 use Rattle.document.specs.Numbers.{isIn}
 use Rattle.document.specs.Areas.{mayBeRecorded}
 use Rattle.document.specs.Variables.{countWrong, anySizeZero, allMay, setSize}
 use Rattle.variables.specs.State.{variablesOf}
+use Rattle.variables.proofs.Wrong.{count-right}
 use Rattle.plans.specs.declared.plan.Plan.{Plan as PlanState}
 use Rattle.plans.specs.State.{planOf}
 use Rattle.plans.specs.Bounds.{fits, sizeSound, triggerSound, planSound}
 use Rattle.history.specs.History.{PlanFits}
 use Rattle.document.proofs.Cases.{split, neither, both}
-use Rattle.history.proofs.Accepted.{none-of}
 
 pub record TriggerBounds (mode size sign address threshold : ℕ) : Type 0 where
-  pub mode-known : mode ≤ 2
   pub sized : (mode ≡ 0 → ⊥) → 1 ≤ size
   pub small : size ≤ 4
-  pub sign-known : sign ≤ 1
   pub below : mayBeRecorded address size ≡ true
   pub fitting : threshold < 2 ^ (8 * size)
 
@@ -51,10 +49,8 @@ trigger-bounds mode size sign address threshold e =
     let b1 = both (leb mode 2) (sizeSound mode size) (b2 .0) in
     let s = size-bounds mode size (b1 .1) in
     record {
-      mode-known = leb-true mode 2 (b1 .0);
       sized = s .0;
       small = s .1;
-      sign-known = leb-true sign 1 (b2 .1);
       below = b3 .1;
       fitting = ltb-true threshold (2 ^ (8 * size)) (b4 .1);
     }
@@ -80,11 +76,11 @@ plan-bounds p e =
     let s = both some trigger (b .0) in
     let r = both (counted && sized && below) room (b .1) in
     let n = both (counted && sized) below (r .0) in
-    let c = none-of (eqb (v .count) 0) (ltb 8 (v .count)) (not-true (countWrong (v .count)) (both counted sized (n .0) .0)) in
+    let c = count-right (v .count) (not-true (countWrong (v .count)) (both counted sized (n .0) .0)) in
     record {
       samples = omega (arith, eqb-false (p .samples) 0 (not-true (eqb (p .samples) 0) (s .0)));
       trigger = trigger-bounds (p .mode) (p .size) (p .sign) (p .address) (p .threshold) (s .1);
-      count = ltb-false 8 (v .count) (c .1);
+      count = c .1;
       variables = n .1;
       room = leb-true (p .samples * setSize (variablesOf v)) 4096 (r .1);
     }

@@ -1,5 +1,2 @@
--- The laws, lowest first.
-pub mod Edges
+-- What follows from the definitions, for the proofs of this crate and of those above it.
 pub mod Granted
-pub mod Plans
-pub mod SetUps

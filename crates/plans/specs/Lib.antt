@@ -1,4 +1,3 @@
--- What a plan means, its bounds, and what is wrong with one that was read.
+-- What a plan means, and its bounds.
 pub mod State
 pub mod Bounds
-pub mod Setup

@@ -1,7 +1,8 @@
 -- How the plan's struct holds the document's plan.
-use Rattle.document.specs.Plan.{Trigger, Plan}
+use mathlib.Core.List.{[]}
+use Rattle.document.specs.Plan.{Trigger, Plan, noTrigger}
 use Rattle.variables.specs.declared.Variables.{Variables}
-use Rattle.variables.specs.State.{variablesOf}
+use Rattle.variables.specs.State.{variablesOf, kept}
 use Rattle.plans.specs.declared.plan.Plan.{Plan as PlanState}
 
 -- ---- what the struct means
@@ -36,3 +37,6 @@ planKept p v =
       threshold = p .trigger .threshold;
       variables = v;
     }
+
+abbrev pub noPlan : PlanState
+noPlan = planKept (record { samples = 0; postTrigger = 0; divider = 0; trigger = noTrigger; variables = [] }) (kept [])

@@ -1,2 +1,2 @@
--- What a part of a lent buffer keeps to.
-pub mod Span
+-- What an order keeps to.
+pub mod Bounds

@@ -1,15 +1,24 @@
-// Plays a script: what the target does, and what the other end of the cable writes and reads, through the house's own calls.
+// Plays a script: what the target does, and what the other end of the cable writes and reads, through the exported calls.
 mod cable;
 mod complaint;
 mod gate;
-mod operation;
+mod lengths;
+mod order;
 mod play;
-mod span;
 
+ghost use Rattle.play.specs.Bounds.{Bounded};
+use complaint::complain;
+use lengths::BYTES;
+use lengths::TEXT;
+use log_gate::LOG_GATE_MEMORY;
+use log_gate::LOG_GATE_READER;
+use log_gate::LOG_GATE_STATE;
+use log_gate::log_gate_reader_begin;
+use log_gate::log_gate_reset;
+use order::Order;
 use play::Play;
 use script::input::Input;
 use script::input::LONG;
-use script::input::Line;
 use script::input::OVER;
 use script::input::next_line;
 use script::output::flush;
@@ -28,62 +37,56 @@ fn finished(run: Run) -> Run {
     end
 }
 
+fn order_in(kind: u8, line: &[u8], bytes: &mut [u8; BYTES]) -> Order
+    ensures { λ r. ⌜ Bounded r ⌝ }
+{
+    if kind == LONG {
+        return order::refused(complaint::LENGTH);
+    }
+    order::read_order(line, bytes)
+}
+
 // One line. Nothing of a line that cannot be read is carried out, and nothing behind it.
-fn play_line(
+fn turn(
     run: Run,
-    found: Line,
-    line: &[u8],
-    bytes: &mut [u8; 524288],
-    memory: &mut [u8; 16384],
-    lent: &mut [u8; 600],
+    text: &mut [u8],
+    bytes: &mut [u8; BYTES],
+    state: &mut [u8; LOG_GATE_STATE],
+    memory: &mut [u8; LOG_GATE_MEMORY],
+    reader: &mut [u8; LOG_GATE_READER],
     out: &mut [u8; 65536],
 ) -> Run {
+    let found = next_line(run.input, text);
+    if found.kind == OVER {
+        let end = gate::put_digest(run.play.concerned, memory, out, run.play.at);
+        flush(out, end);
+        return finished(run);
+    }
     let line_number = std::num::wrapping_add_u64(run.line_number, 1);
-    let play = run.play;
-    if found.kind == LONG {
-        complaint::complain(line_number, complaint::LENGTH, out, play.at);
+    let start = found.start;
+    let end = found.end;
+    let order = order_in(found.kind, &text[start..end], bytes);
+    if order.wrong != complaint::NONE {
+        complain(line_number, order.wrong, out, run.play.at);
         return finished(run);
     }
-    let done = operation::carry_out(play, line, bytes, memory, lent, out);
-    if done.wrong != complaint::NONE {
-        complaint::complain(line_number, done.wrong, out, play.at);
-        return finished(run);
-    }
-    let after = done.play;
+    let play = play::carry_out(run.play, order, bytes, state, memory, reader, out);
     let rest = found.rest;
     Run {
-        play: after,
+        play: play,
         input: rest,
         line_number: line_number,
         going: 1,
     }
 }
 
-fn turn(
-    run: Run,
-    text: &mut [u8],
-    bytes: &mut [u8; 524288],
-    memory: &mut [u8; 16384],
-    lent: &mut [u8; 600],
-    out: &mut [u8; 65536],
-) -> Run {
-    let found = next_line(run.input, text);
-    if found.kind == OVER {
-        let end = gate::put_digest(run.play.gate.concerned, memory, out, run.play.at);
-        flush(out, end);
-        return finished(run);
-    }
-    let start = found.start;
-    let end = found.end;
-    play_line(run, found, &text[start..end], bytes, memory, lent, out)
-}
-
 // A loop has to end, and nothing says that the input does: the turns are counted down from a number that no script uses up.
 fn play_all(
-    text: &mut [u8; 1048576],
-    bytes: &mut [u8; 524288],
-    memory: &mut [u8; 16384],
-    lent: &mut [u8; 600],
+    text: &mut [u8; TEXT],
+    bytes: &mut [u8; BYTES],
+    state: &mut [u8; LOG_GATE_STATE],
+    memory: &mut [u8; LOG_GATE_MEMORY],
+    reader: &mut [u8; LOG_GATE_READER],
     out: &mut [u8; 65536],
 ) {
     let mut run = Run {
@@ -94,16 +97,27 @@ fn play_all(
     };
     let mut turns = u64::MAX;
     while turns > 0 && run.going == 1 {
-        run = turn(run, text, bytes, memory, lent, out);
+        run = turn(run, text, bytes, state, memory, reader, out);
         turns -= 1;
     }
 }
 
+// Until a script begins a reading, the reader expects no data.
 fn main() {
-    let mut text = [0u8; 1048576];
-    let mut bytes = [0u8; 524288];
-    let mut memory = [0u8; 16384];
-    let mut lent = [0u8; 600];
+    let mut text = [0u8; TEXT];
+    let mut bytes = [0u8; BYTES];
+    let mut state = [0u8; LOG_GATE_STATE];
+    let mut memory = [0u8; LOG_GATE_MEMORY];
+    let mut reader = [0u8; LOG_GATE_READER];
     let mut out = [0u8; 65536];
-    play_all(&mut text, &mut bytes, &mut memory, &mut lent, &mut out);
+    log_gate_reset(&mut state);
+    log_gate_reader_begin(&mut reader, 0);
+    play_all(
+        &mut text,
+        &mut bytes,
+        &mut state,
+        &mut memory,
+        &mut reader,
+        &mut out,
+    );
 }

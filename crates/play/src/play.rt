@@ -1,74 +1,85 @@
-// What goes on from line to line of a script, and what a line leaves of it.
-use crate::cable::Cable;
-use crate::cable::CableDone;
-use crate::complaint::NONE;
-use crate::gate::Gate;
-use crate::gate::GateDone;
+// What goes on from line to line of a script, and what an order makes of it.
+ghost use mathlib.Core.Path.{_≡_};
+ghost use lib.ListN.{length};
+ghost use Rattle.play.specs.Bounds.{Bounded};
+use crate::cable;
+use crate::gate;
+use crate::order::Order;
+use log_gate::LOG_GATE_MEMORY;
+use log_gate::LOG_GATE_READER;
+use log_gate::LOG_GATE_STATE;
 
 pub struct Play {
-    pub gate: Gate,
-    pub cable: Cable,
+    // how many bytes the gate was given
+    pub given: u64,
+    // how many the answer reader was given
+    pub read: u64,
+    // 1 once an order concerned the gate, so that the memory's digest is to be printed
+    pub concerned: u8,
     // the place in the output buffer
     pub at: usize,
-}
-
-// A line carried out, or what is wrong with it.
-pub struct Done {
-    pub play: Play,
-    pub wrong: u8,
-}
-
-// The same of a line that only prints.
-pub struct Printed {
-    pub at: usize,
-    pub wrong: u8,
-}
-
-impl Printed {
-    pub fn refused(wrong: u8) -> Self {
-        Printed {
-            at: 0,
-            wrong: wrong,
-        }
-    }
-
-    pub fn to(at: usize) -> Self {
-        Printed {
-            at: at,
-            wrong: NONE,
-        }
-    }
 }
 
 impl Play {
     pub fn new() -> Self {
         Play {
-            gate: Gate::new(),
-            cable: Cable::new(),
+            given: 0,
+            read: 0,
+            concerned: 0,
             at: 0,
         }
     }
 
-    pub fn done(self, wrong: u8) -> Done {
-        Done {
-            play: self,
-            wrong: wrong,
+    fn after(mut self, order: Order, at: usize) -> Self {
+        let letter = order.letter;
+        let count = order.count as u64;
+        self.at = at;
+        match letter {
+            b'B' => {
+                self.given = std::num::wrapping_add_u64(self.given, count);
+                self.concerned = 1;
+            }
+            b'T' | b'P' | b'M' => self.concerned = 1,
+            b'R' => self.read = std::num::wrapping_add_u64(self.read, count),
+            _ => {}
         }
+        self
     }
+}
 
-    pub fn after_gate(mut self, done: GateDone) -> Done {
-        let gate = done.gate;
-        let printed = done.printed;
-        self.gate = gate;
-        self.at = printed.at;
-        self.done(printed.wrong)
-    }
-
-    pub fn after_cable(mut self, done: CableDone) -> Done {
-        let cable = done.cable;
-        let printed = done.printed;
-        self.cable = cable;
-        self.at = printed.at;
-        self.done(printed.wrong)
-    }
+pub fn carry_out(
+    play: Play,
+    order: Order,
+    bytes: &[u8],
+    state: &mut [u8; LOG_GATE_STATE],
+    memory: &mut [u8; LOG_GATE_MEMORY],
+    reader: &mut [u8; LOG_GATE_READER],
+    out: &mut [u8; 65536],
+) -> Play
+    requires { ⌜ Bounded order × (length (now bytes) ≡ 524288) ⌝ }
+{
+    let letter = order.letter;
+    let count = order.count;
+    let given = &bytes[0..count];
+    let at = match letter {
+        b'B' | b'T' | b'P' | b'M' => gate::carry_out(
+            order,
+            play.given,
+            given,
+            state,
+            memory,
+            out,
+            play.at,
+        ),
+        b'W' | b'V' | b'E' | b'R' => cable::carry_out(
+            order,
+            play.read,
+            given,
+            reader,
+            out,
+            play.at,
+        ),
+        _ => play.at,
+    };
+    play.after(order, at)
 }

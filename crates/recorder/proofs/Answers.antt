@@ -8,21 +8,19 @@ use lib.Dec.{ltb, eqb}
 use lib.ListN.{length}
 use borrow.Author.Tests.{ltb-true, ltb-false, eqb-true, eq-eqb, ne-eqb}
 use Rattle.document.specs.Numbers.{done, layoutWrong, busy}
-use Rattle.document.specs.Plan.{Plan, headWidth, planIn, recordedIn}
+use Rattle.document.specs.Plan.{Plan, headWidth, planIn}
 use Rattle.document.specs.Run.{started}
 use Rattle.document.specs.Recorder.{isRunning, recorderSetUp}
 use Rattle.document.specs.Recorder.Recorder.{absent, planned}
-use Rattle.variables.specs.Parts.{kept}
 use Rattle.recorder.specs.declared.state.Recorder.{Recorder as RecorderState}
-use Rattle.plans.specs.State.{planKept}
 use Rattle.recorder.specs.State.{recorderOf, noRecorder}
 use Rattle.plans.specs.Bounds.{planSound}
 use Rattle.recorder.specs.Bounds.{sound}
-use Rattle.plans.specs.Setup.{bodyStatus}
+use Rattle.setups.specs.Setup.{bodyStatus, planRead}
 use Rattle.recorder.specs.Setup.{setUpStatus, setUpState, setUpNext, SetUpSettled}
 use Rattle.document.proofs.Cases.{split}
-use Rattle.plans.proofs.SetUps.{short-layout, accepted-means, accepted-sound}
-use Rattle.recorder.proofs.Keeps.{started-run-sound}
+use Rattle.setups.proofs.SetUps.{short-layout, accepted-means, accepted-sound}
+use Rattle.runs.proofs.Keeps.{started-run-sound}
 
 module _ (r : RecorderState) (ex : Bool) (body : List ℕ) where
   pub while-running : isRunning (recorderOf r) ≡ true → setUpStatus (recorderOf r) ex body ≡ busy
@@ -46,7 +44,7 @@ module _ (r : RecorderState) (ex : Bool) (body : List ℕ) where
       }
 
   pub taken-up : (k : ℕ) (q : RecorderState) → k ≡ setUpStatus (recorderOf r) ex body → k ≡ done → q ≡ setUpState ex body
-      → planSound (planKept (planIn ex body) (kept (recordedIn ex body))) ≡ true
+      → planSound (planRead ex body) ≡ true
       → SetUpSettled r ex body (record { status = k; next = q })
   unfolding setUpNext
   taken-up k q e d h s =
@@ -58,7 +56,7 @@ module _ (r : RecorderState) (ex : Bool) (body : List ℕ) where
             (ap (λ (b : Bool). cond b (setUpState ex body) r) (eq-eqb (setUpStatus (recorderOf r) ex body) done (sym e ∙ d)));
         within = λ w.
             ap sound h
-            ∙ rw (s, started-run-sound (planKept (planIn ex body) (kept (recordedIn ex body))) s);
+            ∙ rw (s, started-run-sound (planRead ex body) s);
       }
 
   -- nothing refuses only where it does not run, and where the data part is answered so
@@ -93,8 +91,8 @@ module _ (r : RecorderState) (ex : Bool) (body : List ℕ) where
       (λ e.
       let taken : setUpStatus (recorderOf r) ex body ≡ done = eqb-true _ _ e in
       let d : bodyStatus ex body ≡ done = sym (while-stopped (idle taken)) ∙ taken in
-      let p : planSound (planKept (planIn ex body) (kept (recordedIn ex body))) ≡ true = accepted-sound ex body (long-enough d) d t in
-      rw (e, p, started-run-sound (planKept (planIn ex body) (kept (recordedIn ex body))) p))
+      let p : planSound (planRead ex body) ≡ true = accepted-sound ex body (long-enough d) d t in
+      rw (e, p, started-run-sound (planRead ex body) p))
       (λ f. rw f s)
 
 -- at reset nothing is set up, and the state is sound

@@ -1,20 +1,20 @@
 -- The state that a call hands back means what the document's recorder becomes.
 use mathlib.Core.Path.{_≡_, sym, ap, _∙_}
 use mathlib.Core.Bool.{Bool, cond}
-use mathlib.Core.List.{List}
 use Prim.Native.Nat.{ℕ}
 use lib.Dec.{eqb}
 use borrow.Author.Tests.{eqb-true, eqb-false, ne-eqb}
 use Rattle.document.specs.Numbers.{done}
-use Rattle.document.specs.Run.{Run, started, stopped, ranTick}
-use Rattle.document.specs.Recorder.{Recorder, recorderStarted, recorderHalted, ticked}
+use Rattle.document.specs.Run.{Run, started, stopped}
+use Rattle.document.specs.Recorder.{Recorder, recorderStarted, recorderHalted}
 use Rattle.document.specs.Recorder.Recorder.{absent, planned}
 use Rattle.recorder.specs.declared.state.Recorder.{Recorder as RecorderState}
 use Rattle.plans.specs.State.{planOf}
-use Rattle.recorder.specs.State.{runOf, runKept, recorderOf, withRun}
-use Rattle.recorder.specs.Calls.{startStatus, startedState, stopStatus, haltedRun, haltedState, tickedState}
+use Rattle.runs.specs.State.{runOf, runKept, haltedRun}
+use Rattle.recorder.specs.State.{recorderOf, withRun}
+use Rattle.recorder.specs.Calls.{startStatus, startedState, stopStatus, haltedState}
 use Rattle.document.proofs.Cases.{split}
-use Rattle.recorder.proofs.Flags.{run-read}
+use Rattle.runs.proofs.Flags.{run-read}
 use Rattle.recorder.proofs.Readings.{at-absent, at-planned, at-running, at-stopped}
 
 module _ (r : RecorderState) where
@@ -29,7 +29,7 @@ module _ (r : RecorderState) where
       (λ g. c (eqb-false (r .ready) 0 f) (eqb-false (r .run .running) 1 g)))
 
   -- set up, with another run
-  with-run-read : (q : Run) → (r .ready ≡ 0 → ⊥) → recorderOf (withRun r q) ≡ planned (planOf (r .plan)) q
+  pub with-run-read : (q : Run) → (r .ready ≡ 0 → ⊥) → recorderOf (withRun r q) ≡ planned (planOf (r .plan)) q
   with-run-read q n =
       ap (λ (b : Bool). cond b absent (planned (planOf (r .plan)) (runOf (runKept q)))) (ne-eqb (r .ready) 0 n)
       ∙ ap (planned (planOf (r .plan))) (run-read q)
@@ -68,15 +68,3 @@ module _ (r : RecorderState) where
       (λ n e. ap recorderOf (halted-by 0x02 (at-stopped stopStatus r n e))
       ∙ at-stopped (λ (x : Recorder). x) r n e
       ∙ sym (at-stopped recorderHalted r n e))
-
-  pub ticked-means : (m : List ℕ) → recorderOf (tickedState r m) ≡ ticked (recorderOf r) m
-  ticked-means m =
-      split (eqb (r .ready) 0)
-      (λ t. let e : r .ready ≡ 0 = eqb-true (r .ready) 0 t in
-      ap (λ (b : Bool). recorderOf (cond b r (withRun r (ranTick (planOf (r .plan)) (runOf (r .run)) m)))) t
-      ∙ at-absent (λ (x : Recorder). x) r e
-      ∙ sym (at-absent (λ (x : Recorder). ticked x m) r e))
-      (λ f. let n : r .ready ≡ 0 → ⊥ = eqb-false (r .ready) 0 f in
-      ap (λ (b : Bool). recorderOf (cond b r (withRun r (ranTick (planOf (r .plan)) (runOf (r .run)) m)))) f
-      ∙ with-run-read (ranTick (planOf (r .plan)) (runOf (r .run)) m) n
-      ∙ sym (at-planned (λ (x : Recorder). ticked x m) r n))

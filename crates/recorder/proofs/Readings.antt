@@ -5,10 +5,11 @@ use borrow.Author.Tests.{eq-eqb, ne-eqb}
 use Rattle.document.specs.Run.{Run}
 use Rattle.document.specs.Recorder.{Recorder}
 use Rattle.document.specs.Recorder.Recorder.{absent, planned}
-use Rattle.recorder.specs.declared.state.Run.{Run as RunState}
+use Rattle.runs.specs.declared.run.Run.{Run as RunState}
 use Rattle.recorder.specs.declared.state.Recorder.{Recorder as RecorderState}
 use Rattle.plans.specs.State.{planOf}
-use Rattle.recorder.specs.State.{isSet, watchOf, runOf, recorderOf}
+use Rattle.runs.specs.State.{isSet, watchOf, runOf}
+use Rattle.recorder.specs.State.{recorderOf}
 
 -- a run with these flags
 abbrev pub flagged : Bool → Bool → RunState → Run

@@ -6,8 +6,9 @@ use lib.Dec.{eqb}
 use Rattle.document.specs.Numbers.{done}
 use Rattle.document.specs.Run.{started}
 use Rattle.recorder.specs.declared.state.Recorder.{Recorder as RecorderState}
+use Rattle.runs.specs.State.{haltedRun}
 use Rattle.recorder.specs.State.{recorderOf, withRun}
-use Rattle.recorder.specs.Calls.{StartSettled, startStatus, StopSettled, stopStatus, haltedRun, QuerySettled, queryStatus, indexOf}
+use Rattle.recorder.specs.Calls.{StartSettled, startStatus, StopSettled, stopStatus, QuerySettled, queryStatus, indexOf}
 
 -- what stands for a status stands for any number equal to it
 by-status : {A : Type 0} (f : ℕ → A) (status k : ℕ) (a : A) → status ≡ k → a ≡ f k → a ≡ f status

@@ -1,23 +1,9 @@
 -- The bounds of a recorder's numbers: a state outside them is refused, and none that is handed out ever is outside.
-use mathlib.Core.Bool.{Bool, true, cond, _&&_, _||_}
-use Prim.Native.Nat.{ℕ}
-use lib.Dec.{eqb, ltb, leb}
-use Rattle.plans.specs.declared.plan.Plan.{Plan as PlanState}
-use Rattle.plans.specs.Bounds.{fits, planSound}
-use Rattle.recorder.specs.declared.state.Run.{Run as RunState}
+use mathlib.Core.Bool.{Bool, true, cond, _&&_}
+use lib.Dec.{eqb}
+use Rattle.plans.specs.Bounds.{planSound}
+use Rattle.runs.specs.Bounds.{runSound}
 use Rattle.recorder.specs.declared.state.Recorder.{Recorder as RecorderState}
-
--- previous: a number of the trigger's size; triggered: sets left, at least one while it runs
-abbrev pub watchSound : ℕ → ℕ → ℕ → ℕ → ℕ → Bool
-watchSound size postTrigger running watch value =
-    cond (eqb watch 0) (eqb value 0)
-    (cond (eqb watch 1) (fits size value)
-    (eqb watch 2 && leb value postTrigger && (eqb running 0 || ltb 0 value)))
-
-unfoldable pub runSound : PlanState → RunState → Bool
-runSound p r =
-    leb (r .running) 1 && leb (r .full) 1 && leb (r .wait) (p .divider) && ltb (r .place) (p .samples)
-    && watchSound (p .size) (p .«post_trigger») (r .running) (r .watch) (r .value)
 
 -- while nothing is set up, nothing else is looked at
 abbrev pub sound : RecorderState → Bool

@@ -1,22 +1,17 @@
 -- What the recorder's calls promise: each its status, and the whole state that it hands back.
 use mathlib.Core.Path.{_≡_}
-use mathlib.Core.Bool.{true, cond}
-use mathlib.Core.List.{List}
+use mathlib.Core.Bool.{cond}
 use Prim.Native.Nat.{ℕ}
 use lib.Dec.{eqb}
-use Rattle.document.specs.Numbers.{done, recorderRuns, recorderStopped, busy, notSetUp, taken}
-use Rattle.document.specs.Run.{started, startIndex, ranTick}
-use Rattle.document.specs.Recorder.{Recorder, recorderAbsent, isRunning, tickedMemory}
+use Rattle.document.specs.Numbers.{done, recorderRuns, recorderStopped, busy, notSetUp}
+use Rattle.document.specs.Run.{started, startIndex}
+use Rattle.document.specs.Recorder.{Recorder, recorderAbsent, isRunning}
 use Rattle.document.specs.Recorder.Recorder.{absent, planned}
-use Rattle.document.specs.Calls.{tickRefusal}
-use Rattle.recorder.specs.declared.state.Run.{Run as RunState}
+use Rattle.runs.specs.State.{haltedRun}
 use Rattle.recorder.specs.declared.state.Recorder.{Recorder as RecorderState}
 use Rattle.recorder.specs.declared.calls.Answered.{Answered}
 use Rattle.recorder.specs.declared.calls.Queried.{Queried}
-use Rattle.recorder.specs.declared.tick.Ticked.{Ticked}
-use Rattle.plans.specs.State.{planOf}
-use Rattle.recorder.specs.State.{runOf, recorderOf, withRun}
-use Rattle.recorder.specs.Bounds.{sound}
+use Rattle.recorder.specs.State.{recorderOf, withRun}
 
 -- "start, stop, status or buffer query with no accepted recorder setup since reset", before all else
 abbrev pub orNotSetUp : Recorder → ℕ → ℕ
@@ -40,11 +35,6 @@ pub record StartSettled (self : RecorderState) (answer : Answered) : Type 0 wher
 -- "0xC2: stopped answers 0x02, else stops, 0x00."
 abbrev pub stopStatus : Recorder → ℕ
 stopStatus r = orNotSetUp r (cond (isRunning r) done recorderStopped)
-
--- only the flag changes
-abbrev pub haltedRun : RunState → RunState
-haltedRun r =
-    record { running = 0; full = r .full; watch = r .watch; wait = r .wait; place = r .place; value = r .value }
 
 abbrev pub haltedState : RecorderState → RecorderState
 haltedState r =
@@ -73,23 +63,3 @@ indexOf (planned p r) = startIndex r
 pub record QuerySettled (self : RecorderState) (answer : Queried) : Type 0 where
   pub status : answer .status ≡ queryStatus (recorderOf self)
   pub index : answer .index ≡ cond (eqb (queryStatus (recorderOf self)) done) (indexOf (recorderOf self)) 0
-
--- ---- tick
-
--- only the run changes, and only of a recorder that is set up
-abbrev pub tickedState : RecorderState → List ℕ → RecorderState
-tickedState r memory =
-    cond (eqb (r .ready) 0) r (withRun r (ranTick (planOf (r .plan)) (runOf (r .run)) memory))
-
--- a tick of a sound state over a memory of the right length
-pub record TickTaken (self : RecorderState) (memory : List ℕ) (next : RecorderState) (left : List ℕ) : Type 0 where
-  pub state : next ≡ tickedState self memory
-  pub memory-left : left ≡ tickedMemory (recorderOf self) memory
-  pub within : sound next ≡ true
-
--- the gate's tick: "Calls refuse with a number of their own, .. and hand the state back unchanged"
-pub record TickSettled (self : RecorderState) (memory : List ℕ) (answer : Ticked) (left : List ℕ) : Type 0 where
-  pub refusal : answer .refusal ≡ tickRefusal (sound self) memory
-  pub next : answer .next ≡ cond (eqb (tickRefusal (sound self) memory) taken) (tickedState self memory) self
-  pub memory-left : left ≡ cond (eqb (tickRefusal (sound self) memory) taken) (tickedMemory (recorderOf self) memory) memory
-  pub within : sound self ≡ true → sound (answer .next) ≡ true

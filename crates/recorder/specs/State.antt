@@ -1,78 +1,15 @@
 -- How the recorder's struct holds the document's recorder.
-use mathlib.Core.Bool.{Bool, cond}
-use mathlib.Core.List.{[]}
-use Prim.Native.Nat.{ℕ}
+use mathlib.Core.Bool.{cond}
 use lib.Dec.{eqb}
-use Rattle.document.specs.Plan.{noTrigger}
-use Rattle.document.specs.Run.{Watch, Run, goesOn}
-use Rattle.document.specs.Run.Watch.{unprimed, previous, triggered}
+use Rattle.document.specs.Run.{Run}
 use Rattle.document.specs.Recorder.{Recorder}
 use Rattle.document.specs.Recorder.Recorder.{absent, planned}
-use Rattle.variables.specs.Parts.{kept}
-use Rattle.plans.specs.State.{planOf, planKept}
-use Rattle.recorder.specs.declared.state.Run.{Run as RunState}
+use Rattle.plans.specs.State.{planOf, noPlan}
+use Rattle.runs.specs.State.{runOf, runKept}
 use Rattle.recorder.specs.declared.state.Recorder.{Recorder as RecorderState}
-
--- a flag is 0 or 1
-abbrev pub isSet : ℕ → Bool
-isSet flag = eqb flag 1
-
-abbrev pub flagOf : Bool → ℕ
-flagOf b = cond b 1 0
-
--- ---- what the struct means
-
--- 0 unprimed, 1 with the value at the previous set, 2 triggered with the sets that are left
-abbrev pub watchOf : ℕ → ℕ → Watch
-watchOf watch value = cond (eqb watch 0) unprimed (cond (eqb watch 1) (previous value) (triggered value))
-
-abbrev pub runOf : RunState → Run
-runOf r =
-    record {
-      running = isSet (r .running);
-      wait = r .wait;
-      place = r .place;
-      full = isSet (r .full);
-      watch = watchOf (r .watch) (r .value);
-    }
 
 abbrev pub recorderOf : RecorderState → Recorder
 recorderOf r = cond (eqb (r .ready) 0) absent (planned (planOf (r .plan)) (runOf (r .run)))
-
--- ---- how a plan and a run are kept in the struct
-
-abbrev pub watchNumber : Watch → ℕ
-watchNumber unprimed = 0
-watchNumber (previous value) = 1
-watchNumber (triggered left) = 2
-
-abbrev pub watchValue : Watch → ℕ
-watchValue unprimed = 0
-watchValue (previous value) = value
-watchValue (triggered left) = left
-
-abbrev pub runKept : Run → RunState
-runKept r =
-    record {
-      running = flagOf (r .running);
-      full = flagOf (r .full);
-      watch = watchNumber (r .watch);
-      wait = r .wait;
-      place = r .place;
-      value = watchValue (r .watch);
-    }
-
--- a run with this watch, which alone says whether it goes on
-abbrev pub watching : ℕ → ℕ → ℕ → Watch → RunState
-watching full wait place w =
-    record {
-      running = flagOf (goesOn w);
-      full = full;
-      watch = watchNumber w;
-      wait = wait;
-      place = place;
-      value = watchValue w;
-    }
 
 -- a run alone changes: the plan stays as the setup left it
 abbrev pub withRun : RecorderState → Run → RecorderState
@@ -80,9 +17,4 @@ withRun r run = record { ready = r .ready; plan = r .plan; run = runKept run }
 
 -- reset: "no accepted recorder setup"
 abbrev pub noRecorder : RecorderState
-noRecorder =
-    record {
-      ready = 0;
-      plan = planKept (record { samples = 0; postTrigger = 0; divider = 0; trigger = noTrigger; variables = [] }) (kept []);
-      run = record { running = 0; full = 0; watch = 0; wait = 0; place = 0; value = 0 };
-    }
+noRecorder = record { ready = 0; plan = noPlan; run = record { running = 0; full = 0; watch = 0; wait = 0; place = 0; value = 0 } }

@@ -1,15 +1,13 @@
-// Reset, start, stop, status and buffer query. Any state may come: what is not set up, or runs, decides by its flags alone.
+// Start, stop, status and buffer query. Any state may come: what is not set up, or runs, decides by its flags alone.
 ghost use mathlib.Core.Path.{_≡_};
-ghost use Rattle.recorder.specs.State.{recorderOf, noRecorder};
+ghost use Rattle.recorder.specs.State.{recorderOf};
 ghost use Rattle.recorder.specs.Calls.{StartSettled, StopSettled, statusStatus, QuerySettled};
 use crate::state::Recorder;
-use crate::state::Run;
 use codes::BUSY;
 use codes::DONE;
 use codes::NOT_SET_UP;
 use codes::RECORDER_RUNS;
 use codes::RECORDER_STOPPED;
-use plans::Plan;
 
 // A status, and the recorder as it is then.
 pub struct Answered {
@@ -24,39 +22,6 @@ pub struct Queried {
 }
 
 impl Recorder {
-    pub fn new() -> Self
-        ensures { λ r. ⌜ r ≡ noRecorder ⌝ }
-    {
-        Recorder {
-            ready: 0,
-            plan: Plan {
-                samples: 0,
-                post_trigger: 0,
-                divider: 0,
-                mode: 0,
-                size: 0,
-                sign: 0,
-                address: 0,
-                threshold: 0,
-                variables: variables::Variables {
-                    count: 0,
-                    list: [document::Variable {
-                        address: 0,
-                        size: 0,
-                    }; 8],
-                },
-            },
-            run: Run {
-                running: 0,
-                full: 0,
-                watch: 0,
-                wait: 0,
-                place: 0,
-                value: 0,
-            },
-        }
-    }
-
     // Running it stays as it is; stopped it forgets the run before.
     pub fn start(mut self) -> Answered
         ensures { λ r. ⌜ StartSettled self r ⌝ }

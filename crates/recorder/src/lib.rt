@@ -1,15 +1,9 @@
-// The recorder: its setup, start, stop, tick, trigger and start index.
-mod bounds;
+// The recorder between its ticks: setup, start, stop, status and start index.
 mod calls;
-mod run;
 mod setup;
 mod state;
-mod tick;
 
-pub use bounds::is_watch_sound;
 pub use calls::Answered;
 pub use calls::Queried;
 pub use setup::SetUp;
 pub use state::Recorder;
-pub use state::Run;
-pub use tick::Ticked;

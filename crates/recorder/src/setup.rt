@@ -1,14 +1,10 @@
 // The recorder's setup: the first refusal that applies, or a plan and a start.
 ghost use mathlib.Core.Path.{_≡_};
-ghost use Prim.Native.Nat.{_+_, _<_};
 ghost use Rattle.document.specs.Recorder.{isRunning};
 ghost use Rattle.recorder.specs.State.{recorderOf};
 ghost use Rattle.recorder.specs.Setup.{SetUpSettled};
 use crate::state::Recorder;
-use plans::address_width;
-use plans::read_plan;
-use plans::status_of;
-use variables::read_variables;
+use setups::read_setup;
 
 // A status, and the recorder after it.
 pub struct SetUp {
@@ -36,24 +32,18 @@ impl Recorder {
                 next: self,
             };
         }
-        let head = 13 + address_width(ex);
-        if body.len() < head {
+        let read = read_setup(ex, body);
+        if read.status != codes::DONE {
             return SetUp {
-                status: codes::LAYOUT_WRONG,
+                status: read.status,
                 next: self,
             };
         }
-        let part = read_variables(&body[head..], ex);
-        let v = part.variables;
-        let plan = read_plan(ex, body, v);
-        let status = status_of(part.whole, part.count, plan);
-        if status != codes::DONE {
-            return SetUp { status, next: self };
-        }
+        let plan = read.plan;
         let former = self.run;
         let run = former.restarted();
         SetUp {
-            status,
+            status: codes::DONE,
             next: Recorder {
                 ready: 1,
                 plan,

@@ -1,49 +1,9 @@
 // What a recorder holds: numbers alone, so that every bit pattern is a value and one outside the bounds can be refused.
-ghost use mathlib.Core.Path.{_≡_};
-ghost use Rattle.document.specs.Run.{started};
-ghost use Rattle.recorder.specs.State.{runKept};
-
-// How far the trigger has come.
-pub const UNPRIMED: u8 = 0;
-
-pub const PREVIOUS: u8 = 1;
-
-pub const TRIGGERED: u8 = 2;
-
-// What changes while it runs.
-#[repr(C)]
-pub struct Run {
-    pub running: u8,
-    // 'samples' sets are taken
-    pub full: u8,
-    pub watch: u8,
-    // ticks that pass before the next set
-    pub wait: u16,
-    // the place that would be written next
-    pub place: u16,
-    // the trigger variable at the previous set, or the sets that are left
-    pub value: u32,
-}
-
-impl Run {
-    // A start sets every field, so that nothing of the run before is left.
-    pub fn restarted(mut self) -> Run
-        ensures { λ r. ⌜ r ≡ runKept started ⌝ }
-    {
-        self.running = 1;
-        self.full = 0;
-        self.watch = UNPRIMED;
-        self.wait = 0;
-        self.place = 0;
-        self.value = 0;
-        self
-    }
-}
 
 // `ready` is 0 until a setup is accepted, and while it is 0 nothing else is looked at.
 #[repr(C)]
 pub struct Recorder {
     pub ready: u8,
     pub plan: plans::Plan,
-    pub run: Run,
+    pub run: runs::Run,
 }

@@ -1,38 +1,28 @@
 -- Setups: the status by the part that was read, and what an accepted one leaves.
 use mathlib.Core.Path.{_≡_, refl, sym, ap, _∙_}
-use mathlib.Core.Bool.{Bool, true, false, _||_}
-use mathlib.Core.List.{List, [], _∷_}
+use mathlib.Core.Bool.{Bool, true, false}
+use mathlib.Core.List.{List}
 use Prim.Native.Nat.{ℕ, _<_, _≤_}
 use native.Mathlib.Omega.{arith}
 use lib.Dec.{eqb, ltb}
 use lib.ListN.{length, drop}
 use borrow.Author.Tests.{eq-eqb, ne-eqb, lt-ltb, eqb-true, eqb-false, ltb-true, ltb-false, not-false}
 use Rattle.document.specs.Areas.{mayBeRead}
-use Rattle.document.specs.Numbers.{done, layoutWrong, sizeWrong, rangeWrong}
+use Rattle.document.specs.Numbers.{done}
 use Rattle.document.specs.declared.Variable.{Variable}
-use Rattle.document.specs.Variables.{countIn, variablesIn, lengthGiven, anySizeZero, allMay}
+use Rattle.document.specs.Variables.{countIn, countWrong, variablesIn, lengthGiven, anySizeZero, allMay}
 use Rattle.document.specs.Scope.{scopeLayoutWrong, scopeSizeWrong, scopeRangeWrong, scopeSetUp}
 use Rattle.document.specs.Scope.Scope.{watching}
-use Rattle.document.specs.Refusals.{when, firstOf}
-use Rattle.variables.specs.declared.parts.Part.{Part}
-use Rattle.variables.specs.Parts.{kept, partRead}
-use Rattle.variables.proofs.Read.{definitions-length, kept-all, read-other-length, read-too-many, read-kept}
+use Rattle.variables.specs.State.{kept}
+use Rattle.variables.proofs.Wrong.{none-of, count-right}
+use Rattle.definitions.specs.declared.parts.Part.{Part}
+use Rattle.definitions.specs.Parts.{partRead}
+use Rattle.definitions.proofs.First.{none-applies}
+use Rattle.definitions.proofs.Read.{definitions-length, kept-all, read-other-length, read-too-many, read-kept}
 use Rattle.scope.specs.declared.Scope.{Scope}
 use Rattle.scope.specs.State.{scopeOf, sound}
 use Rattle.scope.specs.Setup.{setUpStatus, partStatus, setUpNext}
 use Rattle.scope.proofs.Bounds.{within-bounds}
-
--- none of three refusals applies
-none-applies : (a b c : Bool) → firstOf (when layoutWrong a ∷ when sizeWrong b ∷ when rangeWrong c ∷ []) ≡ done
-    → (a ≡ false) × (b ≡ false) × (c ≡ false)
-none-applies false false false e = (refl, refl, refl)
-none-applies true b c e = let z : ⊥ = omega arith in absurd z
-none-applies false true c e = let z : ⊥ = omega arith in absurd z
-none-applies false false true e = let z : ⊥ = omega arith in absurd z
-
-neither : (a b : Bool) → (a || b) ≡ false → (a ≡ false) × (b ≡ false)
-neither false b e = (refl, e)
-neither true b e = let z : _≡_ {A = ℕ} 0 1 = cc in let x : ⊥ = omega arith in absurd x
 
 -- definitions as they are kept stand for themselves
 kept-scope : (vs : List Variable) → (length vs ≡ 0 → ⊥) → length vs ≤ 8 → scopeOf (record { variables = kept vs }) ≡ watching vs
@@ -50,12 +40,12 @@ module _ (ex : Bool) (body : List ℕ) where
   unfolding setUpStatus
   taken-facts e =
       let n = none-applies (scopeLayoutWrong ex body) (scopeSizeWrong ex body) (scopeRangeWrong ex body) e in
-      let z = neither (eqb (countIn body) 0 || ltb 8 (countIn body)) (anySizeZero (variablesIn ex body)) (n .1) in
-      let k = neither (eqb (countIn body) 0) (ltb 8 (countIn body)) (z .0) in
+      let z = none-of (countWrong (countIn body)) (anySizeZero (variablesIn ex body)) (n .1) in
+      let k = count-right (countIn body) (z .0) in
       record {
         right = eqb-true _ _ (not-false _ (n .0));
-        some = eqb-false _ _ (k .0);
-        few = ltb-false _ _ (k .1);
+        some = k .0;
+        few = k .1;
         sizes = z .1;
         ranges = not-false _ (n .2);
       }

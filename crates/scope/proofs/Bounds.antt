@@ -1,9 +1,9 @@
 -- What a sound scope gives, fact by fact, and the scope at reset.
 use mathlib.Core.Path.{_≡_, refl}
 use mathlib.Core.Bool.{true, false, not, _&&_}
-use Prim.Native.Nat.{_<_, _≤_}
+use Prim.Native.Nat.{_≤_}
 use lib.Dec.{leb}
-use borrow.Author.Tests.{leb-true, lt-leb, le-leb, not-true}
+use borrow.Author.Tests.{leb-true, le-leb, not-true}
 use Rattle.document.specs.Areas.{mayBeRead}
 use Rattle.document.specs.Variables.{anySizeZero, allMay}
 use Rattle.document.specs.Scope.Scope.{absent}
@@ -35,16 +35,3 @@ module _ (s : Scope) where
   pub within-bounds : Bounded s → sound s ≡ true
   unfolding sound
   within-bounds b = rw (le-leb (s .variables .count) 8 (b .count), b .sizes, b .ranges)
-
-  pub too-many : 8 < s .variables .count → sound s ≡ false
-  unfolding sound
-  too-many h = rw (lt-leb (s .variables .count) 8 h)
-
-  pub a-size-zero : anySizeZero (variablesOf (s .variables)) ≡ true → s .variables .count ≤ 8 → sound s ≡ false
-  unfolding sound
-  a-size-zero e h = rw (le-leb (s .variables .count) 8 h, e)
-
-  pub ranges-decide : s .variables .count ≤ 8 → anySizeZero (variablesOf (s .variables)) ≡ false
-      → sound s ≡ allMay mayBeRead (variablesOf (s .variables))
-  unfolding sound
-  ranges-decide h e = rw (le-leb (s .variables .count) 8 h, e)

@@ -16,7 +16,6 @@ pub one-reading : (s : Scope) (memory before : List ℕ) (a b : Reading) (x y : 
     → IsRead s memory before a x → IsRead s memory before b y → (a ≡ b) × (x ≡ y)
 one-reading s memory before a b x y p q = (
   λ i. record {
-    refusal = (p .refusal ∙ sym (q .refusal)) i;
     status = (p .status ∙ sym (q .status)) i;
     length = (p .length ∙ sym (q .length)) i;
   },

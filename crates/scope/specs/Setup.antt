@@ -1,37 +1,27 @@
 -- What a setup of the scope answers, and the scope after it.
 use mathlib.Core.Path.{_≡_}
 use mathlib.Core.Bool.{Bool, cond, not, _||_}
-use mathlib.Core.List.{List, [], _∷_}
+use mathlib.Core.List.{List}
 use Prim.Native.Nat.{ℕ}
 use lib.Dec.{eqb}
 use Rattle.document.specs.Areas.{mayBeRead}
-use Rattle.document.specs.Numbers.{done, layoutWrong, sizeWrong, rangeWrong}
+use Rattle.document.specs.Numbers.{done}
 use Rattle.document.specs.Variables.{anySizeZero, countWrong, allMay, variablesIn}
 use Rattle.document.specs.Scope.{scopeLayoutWrong, scopeSizeWrong, scopeRangeWrong}
-use Rattle.document.specs.Refusals.{when, firstOf}
-use Rattle.variables.specs.declared.parts.Part.{Part}
-use Rattle.variables.specs.State.{variablesOf}
-use Rattle.variables.specs.Parts.{kept}
+use Rattle.variables.specs.State.{variablesOf, kept}
+use Rattle.definitions.specs.declared.parts.Part.{Part}
+use Rattle.definitions.specs.Wrong.{firstWrong}
 use Rattle.scope.specs.declared.Scope.{Scope}
 use Rattle.scope.specs.declared.setup.SetUp.{SetUp}
 
--- "the first that applies in this order", of the three that a setup knows
 unfoldable pub setUpStatus : Bool → List ℕ → ℕ
-setUpStatus ex body =
-    firstOf
-    (when layoutWrong (scopeLayoutWrong ex body)
-    ∷ when sizeWrong (scopeSizeWrong ex body)
-    ∷ when rangeWrong (scopeRangeWrong ex body)
-    ∷ [])
+setUpStatus ex body = firstWrong (scopeLayoutWrong ex body) (scopeSizeWrong ex body) (scopeRangeWrong ex body)
 
 -- the same of a part that was read
 abbrev pub partStatus : Part → ℕ
 partStatus p =
-    firstOf
-    (when layoutWrong (not (p .whole))
-    ∷ when sizeWrong (countWrong (p .count) || anySizeZero (variablesOf (p .variables)))
-    ∷ when rangeWrong (not (allMay mayBeRead (variablesOf (p .variables))))
-    ∷ [])
+    firstWrong (not (p .whole)) (countWrong (p .count) || anySizeZero (variablesOf (p .variables)))
+    (not (allMay mayBeRead (variablesOf (p .variables))))
 
 -- "The memory, scope and recorder keep their values"; accepted, the definitions as they are kept
 unfoldable pub setUpNext : Scope → Bool → List ℕ → Scope

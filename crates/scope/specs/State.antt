@@ -6,8 +6,7 @@ use Rattle.document.specs.Areas.{mayBeRead}
 use Rattle.document.specs.Variables.{anySizeZero, allMay}
 use Rattle.document.specs.Scope.{Scope as DocumentScope}
 use Rattle.document.specs.Scope.Scope.{absent, watching}
-use Rattle.variables.specs.State.{variablesOf}
-use Rattle.variables.specs.Parts.{kept}
+use Rattle.variables.specs.State.{variablesOf, kept}
 use Rattle.scope.specs.declared.Scope.{Scope}
 
 -- a count of 0 is "no accepted scope setup"

@@ -1,64 +1,67 @@
 // The scope's reading: the variables' bytes in their order, to the front of a lent buffer.
 ghost use mathlib.Core.Path.{_≡_};
-ghost use Rattle.scope.specs.Read.{readRefusal, IsRead};
+ghost use mathlib.Core.Bool.{true};
+ghost use Prim.Native.Nat.{_≤_};
+ghost use lib.ListN.{length};
+ghost use Rattle.document.specs.Areas.{memoryEnd};
+ghost use Rattle.document.specs.Numbers.{mostData};
+ghost use Rattle.document.specs.Stores.{stored};
+ghost use Rattle.document.specs.Variables.{allMay, setSize, valuesOf};
+ghost use Rattle.variables.specs.State.{variablesOf, upTo};
+ghost use Rattle.scope.specs.State.{sound};
+ghost use Rattle.scope.specs.Read.{IsRead};
 use crate::Scope;
+use codes::MOST_DATA;
+use variables::Variables;
+use widths::usize_of_u8;
+use widths::usize_of_u32;
 
-// A data part holds at most so many bytes.
-const MAX_DATA: usize = 64;
-
-// What a reading answers: the number with which the call refuses or 0, the status, and how many bytes stand in the buffer.
+// What a reading answers: the status, and how many bytes stand in the buffer.
 pub struct Reading {
-    pub refusal: u8,
     pub status: u8,
     pub length: usize,
 }
 
-// Lowest number first.
-fn refusal(s: Scope, memory: &[u8], out: &[u8]) -> u8
-    ensures { λ r. ⌜ r ≡ readRefusal s (now (memory .entry)) (now (out .entry)) ⌝ }
+fn gather(memory: &[u8], v: Variables, out: &mut [u8])
+    requires { ⌜ (v .count ≤ 8) × (allMay (upTo (length (now memory))) (variablesOf v) ≡ true) × (setSize (variablesOf v) ≤ length (now out)) ⌝ }
+    ensures { λ _. ⌜ now (out .exit) ≡ stored (now (out .entry)) 0 (valuesOf (now (memory .entry)) (variablesOf v)) ⌝ }
 {
-    if !s.is_sound() {
-        return codes::STATE_REFUSED;
-    }
-    if memory.len() != memory::MEMORY_END {
-        return codes::MEMORY_REFUSED;
-    }
-    if out.len() < MAX_DATA {
-        return codes::ROOM_REFUSED;
-    }
-    codes::TAKEN
-}
-
-fn without_bytes(refusal: u8, status: u8) -> Reading
-    ensures { λ r. ⌜ r ≡ record { refusal = refusal; status = status; length = 0 } ⌝ }
-{
-    Reading {
-        refusal,
-        status,
-        length: 0,
+    let n = usize_of_u8(v.count);
+    let mut k = 0;
+    let mut done = 0;
+    while k < n {
+        let d = v.list[k];
+        let start = usize_of_u32(d.address);
+        let size = usize_of_u8(d.size);
+        let end = start + size;
+        memory::copy_in(out, done, &memory[start..end]);
+        done += size;
+        k += 1;
     }
 }
 
 impl Scope {
-    // Bytes behind those that are given keep their values; refused, all do.
+    // Who asks has checked the state and what is lent. Bytes behind those that are given keep their values.
     pub fn read(self, memory: &[u8], out: &mut [u8]) -> Reading
+        requires { ⌜ (sound self ≡ true) × (length (now memory) ≡ memoryEnd) × (mostData ≤ length (now out)) ⌝ }
         ensures { λ r. ⌜ IsRead self (now (memory .entry)) (now (out .entry)) r (now (out .exit)) ⌝ }
     {
-        let refused = refusal(self, memory, out);
-        if refused != codes::TAKEN {
-            return without_bytes(refused, codes::DONE);
-        }
         let v = self.variables;
         if v.count == 0 {
-            return without_bytes(codes::TAKEN, codes::NOT_SET_UP);
+            return Reading {
+                status: codes::NOT_SET_UP,
+                length: 0,
+            };
         }
         let length = variables::set_size(v);
-        if length > MAX_DATA {
-            return without_bytes(codes::TAKEN, codes::ANSWER_TOO_LONG);
+        if length > MOST_DATA {
+            return Reading {
+                status: codes::ANSWER_TOO_LONG,
+                length: 0,
+            };
         }
-        variables::gather(memory, v, out);
+        gather(memory, v, out);
         Reading {
-            refusal: codes::TAKEN,
             status: codes::DONE,
             length,
         }

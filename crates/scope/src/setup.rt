@@ -10,7 +10,7 @@ pub struct SetUp {
     pub next: Scope,
 }
 
-fn status_of(part: variables::Part) -> u8
+fn status_of(part: definitions::Part) -> u8
     requires { ⌜ part .variables .count ≤ 8 ⌝ }
     ensures { λ r. ⌜ r ≡ partStatus part ⌝ }
 {
@@ -18,10 +18,7 @@ fn status_of(part: variables::Part) -> u8
     if !part.whole {
         return codes::LAYOUT_WRONG;
     }
-    if part.count == 0 {
-        return codes::SIZE_WRONG;
-    }
-    if part.count > 8 {
+    if variables::is_count_wrong(part.count) {
         return codes::SIZE_WRONG;
     }
     if variables::any_size_zero(v) {
@@ -38,7 +35,7 @@ impl Scope {
     pub fn set_up(self, ex: bool, body: &[u8]) -> SetUp
         ensures { λ r. ⌜ IsSetUp self ex (now (body .entry)) r ⌝ }
     {
-        let part = variables::read_variables(body, ex);
+        let part = definitions::read_variables(body, ex);
         let status = status_of(part);
         if status != codes::DONE {
             return SetUp { status, next: self };

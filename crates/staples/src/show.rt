@@ -1,5 +1,7 @@
 // What a case prints: a line, with the verdict at its end.
-use crate::gate::further;
+ghost use Prim.Native.Nat.{_≤_};
+ghost use lib.ListN.{length};
+use crate::target::CAME;
 use script::output::put;
 use script::output::put_bytes;
 use script::output::put_decimal;
@@ -42,16 +44,16 @@ pub struct Left {
     pub said: u8,
 }
 
-// The answers stand at the front of the lent buffer.
-pub fn put_outcome(
+fn put_judged(
     came: &[u8],
-    length: usize,
+    end: usize,
     expected: &[u8],
     left: Left,
     out: &mut [u8; 65536],
     at: usize,
-) -> usize {
-    let end = further(0, length, came.len());
+) -> usize
+    requires { ⌜ end ≤ length (now came) ⌝ }
+{
     let answers = &came[0..end];
     let answered = put_came(answers, out, at);
     let held = put_left(left.address, left.value, out, answered);
@@ -60,4 +62,18 @@ pub fn put_outcome(
         out,
         held,
     )
+}
+
+// The answers stand at the front of the lent buffer, up to their end.
+pub fn put_outcome(
+    came: &[u8; CAME],
+    end: usize,
+    expected: &[u8],
+    left: Left,
+    out: &mut [u8; 65536],
+    at: usize,
+) -> usize
+    requires { ⌜ end ≤ 600 ⌝ }
+{
+    put_judged(came, end, expected, left, out, at)
 }

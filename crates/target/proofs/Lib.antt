@@ -1,5 +1,6 @@
--- The laws, lowest first.
-pub mod TargetBounds
-pub mod CallLaws
+-- What is held of a message, and what a byte makes of it: by its event, and what it keeps.
+pub mod Held
+pub mod Changed
+pub mod HeldLaws
 pub mod TurnLaws
-pub mod TickLaws
+pub mod Keeps

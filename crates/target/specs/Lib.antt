@@ -1,3 +1,4 @@
--- The bounds of the state, and what the calls promise.
-pub mod Bounds
-pub mod Calls
+-- What a message makes of what is set up, and what a byte makes of the target's state.
+pub mod After
+pub mod AnsweredHeld
+pub mod Turn

@@ -1,8 +1,1 @@
-// The target: a byte of the line and a tick of the gate.
-mod byte;
-mod state;
-mod tick;
-
-pub use byte::Taken;
-pub use state::Target;
-pub use tick::Ticked;
+// What a byte makes of the target's state: definitions and laws alone, and nothing runs.

@@ -1,5 +1,4 @@
 -- What follows from the definitions, for the proofs of this crate and of those above it.
 pub mod Each
-pub mod Gathered
-pub mod Places
-pub mod Read
+pub mod Wrong
+pub mod Values

@@ -1,2 +1,2 @@
+-- What the struct of variables means.
 pub mod State
-pub mod Parts

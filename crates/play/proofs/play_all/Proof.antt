@@ -6,10 +6,10 @@ use Rattle.play.proofs.play.Play.new.Reads as play-Play-new-reads
 use Rattle.script.proofs.input.Input.new.Reads as input-Input-new-reads
 
 abbrev Inv-loop : tie.InvT-loop
-Inv-loop text₀ bytes₀ memory₀ lent₀ out₀ run₀ turns₀ text bytes memory lent out run turns = Unit {0}
+Inv-loop text₀ bytes₀ state₀ memory₀ reader₀ out₀ run₀ turns₀ text bytes state memory reader out run turns = Unit {0}
 
 abbrev μ-loop : tie.MeasureT-loop
-μ-loop text₀ bytes₀ memory₀ lent₀ out₀ run₀ turns₀ text bytes memory lent out run turns = turns
+μ-loop text₀ bytes₀ state₀ memory₀ reader₀ out₀ run₀ turns₀ text bytes state memory reader out run turns = turns
 
 new-requires : tie.Need-new-requires Inv-loop μ-loop
 new-requires c κs = search needs

@@ -2,6 +2,7 @@
 use lib.ListN.{getD}
 use borrow.Author.Needs.{needs}
 use Rattle.blocks.specs.Layout.{decodedRecorder}
+use Rattle.blocks.specs.Places.{recorderPlace}
 use Rattle.blocks.proofs.reading.recorder_in.Statement.{statement}
 use Rattle.blocks.proofs.reading.recorder_in.Tie as tie
 
@@ -18,7 +19,7 @@ returns : tie.Need-returns
 unfolding decodedRecorder
 returns c =
     let args = c .before .before .before .before .args in
-    λ i. record { ready = getD (args .block .now) 111 0; plan = c .before .before .plan-in .ensures i; run = c .before .run-in .ensures i }
+    λ i. record { ready = getD (args .block .now) recorderPlace 0; plan = c .before .before .plan-in .ensures i; run = c .before .run-in .ensures i }
 
 pub recorder-in-spec : {M : Type 1} → statement M
 recorder-in-spec =

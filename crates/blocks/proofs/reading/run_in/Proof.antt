@@ -1,6 +1,7 @@
 -- Each field as it was read.
 use lib.ListN.{getD}
 use borrow.Author.Needs.{needs}
+use Rattle.blocks.specs.Places.{runPlace, fullPlace, watchPlace}
 use Rattle.blocks.proofs.reading.run_in.Statement.{statement}
 use Rattle.blocks.proofs.reading.run_in.Tie as tie
 
@@ -25,7 +26,7 @@ long-at-requires c κs = search needs
 returns : tie.Need-returns
 returns c =
     let args = c .before .before .before .before .before .before .before .args in
-    let l = args .block .now in λ i. record { running = getD l 170 0; full = getD l 171 0; watch = getD l 172 0; wait = c .before .before .word-at .ensures i; place = c .before .word-at2 .ensures i; value = c .long-at .ensures i }
+    let l = args .block .now in λ i. record { running = getD l runPlace 0; full = getD l fullPlace 0; watch = getD l watchPlace 0; wait = c .before .before .word-at .ensures i; place = c .before .word-at2 .ensures i; value = c .long-at .ensures i }
 
 pub run-in-spec : {M : Type 1} → statement M
 run-in-spec =

@@ -1,4 +1,4 @@
--- Stores that meet are one store.
+-- Stores that meet are one store, and the scope in front of them is there already.
 use mathlib.Core.List.{List}
 use mathlib.Core.Path.{ap, _∙_}
 use Prim.Native.Nat.{ℕ}
@@ -6,7 +6,9 @@ use lib.Seq.{sets}
 use lib.ListN.{length-map}
 use borrow.Author.Needs.{needs}
 use Rattle.blocks.proofs.Parts.{recorder-put}
+use Rattle.blocks.proofs.Stored.{recorder-stored}
 use Rattle.blocks.specs.Layout.{encodedRun, encodedVariables, encodedNumbers}
+use Rattle.blocks.specs.Places.{planPlace, recordedPlace, runPlace}
 use Rattle.blocks.proofs.writing.put_recorder.Statement.{statement}
 use Rattle.blocks.proofs.writing.put_recorder.Tie as tie
 
@@ -27,12 +29,22 @@ same-length c = search needs
 
 returns : tie.Need-returns
 returns c =
-    let args = c .before .before .before .before .before .before .before .before .before .before .before .before .before .before .before .before .before .before .before .before .args in
-    let good = c .before .before .before .before .before .before .before .before .before .before .before .before .before .before .before .before .before .before .before .before .good in
-    let put-byte = c .before .before .before .before .before .before .before .before .before .before .before .before .before .before .put-byte in
-    let put-numbers = c .before .before .before .before .before .before .before .before .before .before .put-numbers in
-    let put-variables = c .before .before .before .before .before .before .put-variables in
-    let r = args .recorder in c .before .before .put-run .ensures ∙ ap (λ (k : List ℕ). sets k 170 (encodedRun (r .run))) (put-variables .ensures ∙ ap (λ (k : List ℕ). sets k 129 (encodedVariables (r .plan .variables))) (put-numbers .ensures ∙ ap (λ (k : List ℕ). sets k 112 (encodedNumbers (r .plan))) (put-byte .ensures))) ∙ recorder-put (args .block .now) r (rw length-map at (good .1 .0 .1 .1 .1 .0 .1 .1 .1 .1 .1 .1 .1 .1 .1 .1 .0 .1 .1 .1 .0 .1 .0 .1))
+    let run = c .before .before in
+    let variables = run .before .before .before .before in
+    let numbers = variables .before .before .before .before in
+    let ready = numbers .before .before .before .before in
+    let known = ready .before .before .before .before .before in
+    let s = known .before in
+    let block = s .args .block .now in
+    let r = s .args .recorder in
+    run .put-run .ensures
+    ∙ ap (λ (k : List ℕ). sets k runPlace (encodedRun (r .run)))
+    (variables .put-variables .ensures
+    ∙ ap (λ (k : List ℕ). sets k recordedPlace (encodedVariables (r .plan .variables)))
+    (numbers .put-numbers .ensures
+    ∙ ap (λ (k : List ℕ). sets k planPlace (encodedNumbers (r .plan))) (ready .put-byte .ensures)))
+    ∙ recorder-put block r (rw length-map at (s .good .1 .0 .1 .1 .1 .0 .1 .1 .1 .1 .1 .1 .1 .1 .1 .1 .0 .1 .1 .1 .0 .1 .0 .1))
+    ∙ recorder-stored block (s .pre) (λ i. known .slice-known .given i .fits) r
 
 pub put-recorder-spec : {M : Type 1} → statement M
 put-recorder-spec =

@@ -6,10 +6,6 @@ use Rattle.document.specs.Message.{wellFormed}
 use Rattle.commands.proofs.Forms.{formed-told, formed-fixed}
 use Rattle.commands.proofs.command.is_formed.Statement.{statement}
 use Rattle.commands.proofs.command.is_formed.Tie as tie
-use Rattle.commands.proofs.command.is_formed.Reads as reads
-use Rattle.commands.proofs.command.is_formed.Lts as lts
-use Rattle.codes.proofs.data_length.Reads as data-length-reads
-use Rattle.commands.proofs.command.wide.Reads as wide-reads
 
 returns : tie.Need-returns
 unfolding wellFormed
@@ -24,8 +20,8 @@ enum-told c = search needs
 enum-known-length : tie.Need-enum-known-length
 enum-known-length c = search needs
 
-wide-requires : tie.Need-wide-requires
-wide-requires c κs = search needs
+usize-of-u8-requires : tie.Need-usize-of-u8-requires
+usize-of-u8-requires c κs = search needs
 
 returns-2 : tie.Need-returns-2
 returns-2 c =
@@ -38,8 +34,8 @@ returns-3 c =
     let e = c .before .before in
     let d = e .before .before in
     let start = d .before .before .before in
-    formed-fixed (start .args .command) (start .args .body .now) (d .before .if1 .left) (e .length .given .0 .0) (c .wide .result)
-    (sym (e .length .given .1) ∙ d .data-length .ensures) (c .wide .ensures)
+    formed-fixed (start .args .command) (start .args .body .now) (d .before .if1 .left) (e .length .given .0 .0) (c .usize-of-u8 .result)
+    (sym (e .length .given .1) ∙ d .data-length .ensures) (c .usize-of-u8 .ensures .0)
 
 pub is-formed-spec : {M : Type 1} → statement M
 is-formed-spec =
@@ -49,6 +45,6 @@ is-formed-spec =
     data-length-requires
     enum-told
     enum-known-length
-    wide-requires
+    usize-of-u8-requires
     returns-2
     returns-3)

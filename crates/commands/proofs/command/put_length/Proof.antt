@@ -6,9 +6,6 @@ use Rattle.line.proofs.Writing.{progressed-none}
 use borrow.Author.Needs.{needs}
 use Rattle.commands.proofs.command.put_length.Statement.{statement}
 use Rattle.commands.proofs.command.put_length.Tie as tie
-use Rattle.commands.proofs.command.put_length.Reads as reads
-use Rattle.commands.proofs.command.put_length.Lts as lts
-use Rattle.line.proofs.doubling.put.Reads as put-reads
 
 cast-put : tie.Need-cast-put
 cast-put c = search needs

@@ -18,13 +18,6 @@ use Rattle.commands.proofs.Commands.{between, command-framed, command-l
 use borrow.Author.Needs.{needs}
 use Rattle.commands.proofs.command.write_command.Statement.{statement}
 use Rattle.commands.proofs.command.write_command.Tie as tie
-use Rattle.commands.proofs.command.write_command.Reads as reads
-use Rattle.commands.proofs.command.write_command.Lts as lts
-use Rattle.commands.proofs.command.is_formed.Reads as is-formed-reads
-use Rattle.commands.proofs.command.put_length.Reads as put-length-reads
-use Rattle.commands.proofs.measure.wire_length.Reads as wire-length-reads
-use Rattle.line.proofs.doubling.put_all.Reads as put-all-reads
-use Rattle.line.proofs.doubling.put_sum.Reads as put-sum-reads
 
 is-formed-requires : tie.Need-is-formed-requires
 is-formed-requires c κs = search needs
@@ -46,15 +39,15 @@ few c =
     let a = c .before .before .before .before .args in
     formed-short (a .command) (a .body .now) (formed c)
 
-wire-length-requires : tie.Need-wire-length-requires
-wire-length-requires c κs = few c
+is-short-requires : tie.Need-is-short-requires
+is-short-requires c κs = few c
 
 returns-2 : tie.Need-returns-2
 unfolding commandRefusal commandWritten commandBuffer
 returns-2 c =
     record {
-      result = simp (← c .before .before .before .is-formed .ensures, c .before .before .if1 .left, ← c .before .wire-length .ensures, c .if2 .taken);
-      buffer = simp (← c .before .before .before .is-formed .ensures, c .before .before .if1 .left, ← c .before .wire-length .ensures, c .if2 .taken);
+      result = simp (← c .before .before .before .is-formed .ensures, c .before .before .if1 .left, ← c .before .is-short .ensures, c .if2 .taken);
+      buffer = simp (← c .before .before .before .is-formed .ensures, c .before .before .if1 .left, ← c .before .is-short .ensures, c .if2 .taken);
     }
 
 abbrev asked : tie.Else2 → tie.Start
@@ -62,7 +55,7 @@ asked c = c .before .before .before .before .before .before
 
 room : (c : tie.Else2) → length (commandOnWire (asked c .args .command) (asked c .args .body .now)) ≤ length (asked c .args .out .now)
 room c =
-    omega (arith, c .before .wire-length .ensures, ltb-false (length (asked c .args .out .now)) (c .before .wire-length .result) (c .if2 .left))
+    ltb-false (length (asked c .args .out .now)) _ (sym (c .before .is-short .ensures) ∙ c .if2 .left)
 
 parts : (c : tie.Else2) →
     2
@@ -103,10 +96,10 @@ put-sum-requires c κs =
 
 same-length : tie.Need-same-length
 same-length c =
-    c .before .before .put-sum .kept .1 .0
-    ∙ c .before .before .before .before .before .before .put-all .kept .1 .1 .0
-    ∙ c .before .before .before .before .before .before .before .before .before .before .put-length .kept .1 .1 .1 .0
-    ∙ simp length-set
+    let r = c .before .before in
+    let q = r .before .before .before .before in
+    let p = q .before .before .before .before in
+    r .put-sum .kept .1 .0 ∙ q .put-all .kept .1 .1 .0 ∙ p .put-length .kept .1 .1 .1 .0 ∙ simp length-set
 
 returns-3 : tie.Need-returns-3
 returns-3 c =
@@ -134,7 +127,7 @@ write-command-spec =
     (tie.spec
     is-formed-requires
     returns
-    wire-length-requires
+    is-short-requires
     returns-2
     slice-write-out
     slice-write-out-2

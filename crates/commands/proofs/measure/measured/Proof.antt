@@ -4,9 +4,6 @@ use borrow.Author.Tests.{ne-eqb}
 use borrow.Author.Needs.{needs}
 use Rattle.commands.proofs.measure.measured.Statement.{statement}
 use Rattle.commands.proofs.measure.measured.Tie as tie
-use Rattle.commands.proofs.measure.measured.Reads as reads
-use Rattle.commands.proofs.measure.measured.Lts as lts
-use Rattle.line.proofs.sum.added.Reads as added-reads
 
 add-t4 : tie.Need-add-t4
 add-t4 c = search needs

@@ -6,9 +6,6 @@ use Rattle.line.proofs.Writing.{progressed-none}
 use borrow.Author.Needs.{needs}
 use Rattle.commands.proofs.measure.measured_length.Statement.{statement}
 use Rattle.commands.proofs.measure.measured_length.Tie as tie
-use Rattle.commands.proofs.measure.measured_length.Reads as reads
-use Rattle.commands.proofs.measure.measured_length.Lts as lts
-use Rattle.commands.proofs.measure.measured.Reads as measured-reads
 
 cast-measured : tie.Need-cast-measured
 cast-measured c = search needs

@@ -11,12 +11,6 @@ use Rattle.commands.proofs.Commands.{length-part-short, measured-comman
 use borrow.Author.Needs.{needs}
 use Rattle.commands.proofs.measure.wire_length.Statement.{statement}
 use Rattle.commands.proofs.measure.wire_length.Tie as tie
-use Rattle.commands.proofs.measure.wire_length.Reads as reads
-use Rattle.commands.proofs.measure.wire_length.Lts as lts
-use Rattle.commands.proofs.measure.measured.Reads as measured-reads
-use Rattle.commands.proofs.measure.measured_all.Reads as measured-all-reads
-use Rattle.commands.proofs.measure.measured_length.Reads as measured-length-reads
-use Rattle.line.proofs.sum.sum_byte.Reads as sum-byte-reads
 
 measured-length-requires : tie.Need-measured-length-requires
 measured-length-requires c κs = search needs

@@ -10,11 +10,11 @@ use Rattle.memory.proofs.ranges.within.Tie as tie
 returns : tie.Need-returns
 returns c = let a = c .before .args in rw (lt-leb (a .address + a .size) (a .end) (omega arith))
 
-wide-requires : tie.Need-wide-requires
-wide-requires c κs = search needs
+usize-of-u32-requires : tie.Need-usize-of-u32-requires
+usize-of-u32-requires c κs = search needs
 
 returns-2 : tie.Need-returns-2
-returns-2 c = let a = c .before .before .args in size-off-end (a .address) (a .size) (a .end) (c .wide .result) (search needs) (c .wide .ensures)
+returns-2 c = let a = c .before .before .args in size-off-end (a .address) (a .size) (a .end) (c .usize-of-u32 .result) (search needs) (c .usize-of-u32 .ensures .0)
 
 pub within-spec : {M : Type 1} → statement M
-within-spec = tie.close (tie.spec returns wide-requires returns-2)
+within-spec = tie.close (tie.spec returns usize-of-u32-requires returns-2)

@@ -26,11 +26,11 @@ sub-i c = search needs
 mul-x : tie.Need-mul-x Inv-loop μ-loop
 mul-x c = omega (arith, fewer-bytes (length (c .before .before .before .args .bytes .now) - c .before .loop .i) 3 (omega arith))
 
-shared-slice-read-wide : tie.Need-shared-slice-read-wide Inv-loop μ-loop
-shared-slice-read-wide c = search needs
+shared-slice-read-u32-of-u8 : tie.Need-shared-slice-read-u32-of-u8 Inv-loop μ-loop
+shared-slice-read-u32-of-u8 c = search needs
 
-wide-requires : tie.Need-wide-requires Inv-loop μ-loop
-wide-requires c κs = search needs
+u32-of-u8-requires : tie.Need-u32-of-u8-requires Inv-loop μ-loop
+u32-of-u8-requires c κs = search needs
 
 add-x : tie.Need-add-x Inv-loop μ-loop
 add-x c =
@@ -46,8 +46,8 @@ loop-again c =
     let s = c .before .before .before .before .before .args .bytes .now in
     let l = c .before .before .before .loop in (
       search needs,
-      byte-more s (l .i) (l .x) (c .wide .result) (omega arith) (l .inv .0) (l .inv .1) (c .wide .ensures),
-      byte-more-below s (l .i) (l .x) (c .wide .result) (omega arith) (l .inv .0) (l .inv .2) (omega (arith, c .before .shared-slice-known2 .given (l .i - 1))),
+      byte-more s (l .i) (l .x) (c .u32-of-u8 .result) (omega arith) (l .inv .0) (l .inv .1) (c .u32-of-u8 .ensures .0),
+      byte-more-below s (l .i) (l .x) (c .u32-of-u8 .result) (omega arith) (l .inv .0) (l .inv .2) (omega (arith, c .before .shared-slice-known2 .given (l .i - 1))),
     )
 
 returns : tie.Need-returns Inv-loop μ-loop
@@ -65,8 +65,8 @@ number-spec =
     loop-holds
     sub-i
     mul-x
-    shared-slice-read-wide
-    wide-requires
+    shared-slice-read-u32-of-u8
+    u32-of-u8-requires
     add-x
     loop-less
     loop-again

@@ -3,14 +3,14 @@ use borrow.Author.Needs.{needs}
 use Rattle.plans.proofs.bounds.does_fit.Statement.{statement}
 use Rattle.plans.proofs.bounds.does_fit.Tie as tie
 
-wide-number-requires : tie.Need-wide-number-requires
-wide-number-requires c κs = search needs
+u64-of-u32-requires : tie.Need-u64-of-u32-requires
+u64-of-u32-requires c κs = search needs
 
 too-large-requires : tie.Need-too-large-requires
 too-large-requires c κs = search needs
 
 returns : tie.Need-returns
-returns c = rw (c .before .wide-number .ensures, c .too-large .ensures)
+returns c = rw (c .before .u64-of-u32 .ensures .0, c .too-large .ensures)
 
 pub does-fit-spec : {M : Type 1} → statement M
-does-fit-spec = tie.close (tie.spec wide-number-requires too-large-requires returns)
+does-fit-spec = tie.close (tie.spec u64-of-u32-requires too-large-requires returns)

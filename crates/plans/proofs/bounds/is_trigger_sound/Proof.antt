@@ -30,8 +30,8 @@ returns-3 c =
       lt-leb (s .args .sign) 1 (c .if3 .taken),
     )
 
-wide-size-requires : tie.Need-wide-size-requires
-wide-size-requires c κs = search needs
+usize-of-u8-requires : tie.Need-usize-of-u8-requires
+usize-of-u8-requires c κs = search needs
 
 may-be-recorded-requires : tie.Need-may-be-recorded-requires
 may-be-recorded-requires c κs = search needs
@@ -44,7 +44,7 @@ returns-4 c =
       le-leb (s .args .mode) 2 (e .before .before .before .if1 .left),
       sym (e .before .before .is-size-sound .ensures) ∙ not-false _ (e .before .if2 .left),
       le-leb (s .args .sign) 1 (e .if3 .left),
-      ← c .before .before .wide-size .ensures,
+      ← c .before .before .usize-of-u8 .ensures .0,
       sym (c .before .may-be-recorded .ensures) ∙ not-true _ (c .if4 .taken),
     )
 
@@ -54,7 +54,7 @@ does-fit-requires c κs =
     let s = e .before .before .before .before in
     let b =
     size-bounds (s .args .mode) (s .args .size) (sym (e .before .before .is-size-sound .ensures) ∙ not-false _ (e .before .if2 .left)) in
-    omega (arith, b .1, c .before .before .wide-size .ensures)
+    omega (arith, b .1, c .before .before .usize-of-u8 .ensures .0)
 
 returns-5 : tie.Need-returns-5
 returns-5 c =
@@ -64,7 +64,7 @@ returns-5 c =
       le-leb (s .args .mode) 2 (e .before .before .before .if1 .left),
       sym (e .before .before .is-size-sound .ensures) ∙ not-false _ (e .before .if2 .left),
       le-leb (s .args .sign) 1 (e .if3 .left),
-      ← c .before .before .before .wide-size .ensures,
+      ← c .before .before .before .usize-of-u8 .ensures .0,
       sym (c .before .before .may-be-recorded .ensures) ∙ not-false _ (c .before .if4 .left),
     )
     (c .does-fit .ensures)
@@ -77,7 +77,7 @@ is-trigger-sound-spec =
     is-size-sound-requires
     returns-2
     returns-3
-    wide-size-requires
+    usize-of-u8-requires
     may-be-recorded-requires
     returns-4
     does-fit-requires

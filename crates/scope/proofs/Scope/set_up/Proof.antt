@@ -2,8 +2,8 @@
 use mathlib.Core.Path.{_≡_, sym, ap, _∙_}
 use borrow.Author.Needs.{needs}
 use Rattle.scope.specs.Setup.{partStatus, setUpStatus}
-use Rattle.variables.proofs.Read.{read-count}
-use Rattle.variables.specs.declared.parts.Part.{Part}
+use Rattle.definitions.proofs.Read.{read-count}
+use Rattle.definitions.specs.declared.parts.Part.{Part}
 use Rattle.variables.specs.declared.Variables.{Variables}
 use Rattle.scope.proofs.Accepted.{part-status, part-variables, next-taken, next-refused}
 use Rattle.scope.proofs.Scope.set_up.Statement.{statement}

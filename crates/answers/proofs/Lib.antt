@@ -1,0 +1,2 @@
+-- What follows from the promise of a reply.
+pub mod Replies

@@ -1,0 +1,15 @@
+-- What is not served is refused with its one line.
+use borrow.Author.Needs.{needs}
+use Rattle.document.specs.Commands.{served}
+use Rattle.answers.proofs.unserved.Statement.{statement}
+use Rattle.answers.proofs.unserved.Tie as tie
+
+alone-requires : tie.Need-alone-requires
+alone-requires c κs = search needs
+
+returns : tie.Need-returns
+unfolding served
+returns c = λ g s body. c .alone .ensures
+
+pub unserved-spec : {M : Type 1} → statement M
+unserved-spec = tie.close (tie.spec alone-requires returns)

@@ -1,0 +1,136 @@
+-- What a byte and a tick store is the encoding of the next state: the parts they leave alone are there already.
+use mathlib.Core.Path.{_≡_, refl, sym, ap, _∙_}
+use mathlib.Core.List.{List, _++_}
+use Prim.Native.Nat.{ℕ, _+_, _<_, _≤_}
+use native.Mathlib.Omega.{arith}
+use lib.ListN.{length, getD, set, take, length-set}
+use lib.Seq.{sets, length-sets, drop-set-lt}
+use Rattle.document.specs.Numbers.{mostData}
+use Rattle.document.specs.Areas.{bytesAt}
+use Rattle.link.specs.declared.Receiver.{Receiver}
+use Rattle.scope.specs.declared.Scope.{Scope}
+use Rattle.runs.specs.declared.run.Run.{Run}
+use Rattle.recorder.specs.declared.state.Recorder.{Recorder}
+use Rattle.state.specs.State.{Instruments}
+use Rattle.history.proofs.Bytes.{bytes-behind}
+use Rattle.blocks.specs.Layout.{decodedReceiver, decodedBody, decodedScope, decodedRecorder, decodedInstruments, encodedReceiver, encodedScope, encodedRun, encodedRecorder, encodedInstruments, encoded}
+use Rattle.blocks.specs.Places.{receiverLength, variablesLength, planLength, recorderLength, instrumentsLength, bodyPlace, scopePlace, recorderPlace, runPlace, stateLength}
+use Rattle.block_fields.proofs.Ranges.{bytes-length, sets-same, sets-set, sets-apart}
+use Rattle.blocks.proofs.Parts.{receiver-length, sets-two}
+use Rattle.blocks.proofs.Kept.{receiver-kept, scope-kept, recorder-kept, same-recorder-kept, instruments-kept}
+
+module _ (block : List ℕ) (long : stateLength ≤ length block) where
+  parts-stored : (r : Receiver) (body rest : List ℕ) → length body ≡ mostData
+      → sets block 0 (encodedReceiver r ++ (body ++ rest)) ≡ sets (sets (sets block 0 (encodedReceiver r)) bodyPlace body) scopePlace rest
+  parts-stored r body rest e =
+      sets-two block (encodedReceiver r) (body ++ rest) 0 receiverLength bodyPlace (receiver-length r) refl
+      ∙ sets-two (sets block 0 (encodedReceiver r)) body rest bodyPlace mostData scopePlace e refl
+
+  -- a range behind the receiver, stored over it
+  behind-same : (r : Receiver) (at n : ℕ) → receiverLength ≤ at → at + n ≤ stateLength → sets (sets block 0 (encodedReceiver r)) at (bytesAt block at n) ≡ sets block 0 (encodedReceiver r)
+  behind-same r at n h f =
+      ap (sets (sets block 0 (encodedReceiver r)) at) (sym (bytes-behind (encodedReceiver r) block 0 at n (omega (arith, receiver-length r))))
+      ∙ sets-same n (sets block 0 (encodedReceiver r)) at (omega (arith, length-sets block 0 (encodedReceiver r)))
+
+  pub whole-stored : (r : Receiver) (i : Instruments)
+      → sets (sets block 0 (encodedReceiver r)) scopePlace (encodedInstruments i) ≡ sets block 0 (encoded (record { receiver = r; body = decodedBody block; instruments = i }))
+  whole-stored r i =
+      ap (λ (l : List ℕ). sets l scopePlace (encodedInstruments i)) (sym (behind-same r bodyPlace mostData (omega arith) (omega arith)))
+      ∙ sym (parts-stored r (decodedBody block) (encodedInstruments i) (bytes-length block bodyPlace mostData (omega arith)))
+
+  -- the receiver, stored last
+  pub answered-stored : (r : Receiver) (i : Instruments)
+      → sets (sets block scopePlace (encodedInstruments i)) 0 (encodedReceiver r) ≡ sets block 0 (encoded (record { receiver = r; body = decodedBody block; instruments = i }))
+  answered-stored r i =
+      sets-apart (encodedInstruments i) (encodedReceiver r) block scopePlace 0 (omega (arith, receiver-length r)) ∙ whole-stored r i
+
+  module _ (small : (i : ℕ) → getD block i 0 < 256) where
+    pub quiet-stored : (r : Receiver)
+        → sets block 0 (encodedReceiver r) ≡ sets block 0 (encoded (record { receiver = r; body = decodedBody block; instruments = decodedInstruments block }))
+    quiet-stored r =
+        sym (behind-same r scopePlace instrumentsLength (omega arith) (omega arith))
+        ∙ ap (sets (sets block 0 (encodedReceiver r)) scopePlace) (sym (instruments-kept block small long))
+        ∙ whole-stored r (decodedInstruments block)
+
+    pub keep-stored : (r : Receiver) (at b : ℕ) → at < mostData
+        → set (sets block 0 (encodedReceiver r)) (bodyPlace + at) b ≡ sets block 0 (encoded (record { receiver = r; body = set (decodedBody block) at b; instruments = decodedInstruments block }))
+    keep-stored r at b h =
+        sym
+        (parts-stored r (set (decodedBody block) at b) (encodedInstruments (decodedInstruments block)) (length-set (decodedBody block) at b ∙ bytes-length block bodyPlace mostData (omega arith))
+        ∙ ap (λ (l : List ℕ). sets l scopePlace (encodedInstruments (decodedInstruments block))) body-stored
+        ∙ ap (sets kept scopePlace) (instruments-kept block small long ∙ sym instruments-there)
+        ∙ sets-same instrumentsLength kept scopePlace (omega (arith, kept-length)))
+      where
+        headed : List ℕ
+        headed = sets block 0 (encodedReceiver r)
+
+        kept : List ℕ
+        kept = set headed (bodyPlace + at) b
+
+        headed-length : length headed ≡ length block
+        headed-length = length-sets block 0 (encodedReceiver r)
+
+        kept-length : length kept ≡ length block
+        kept-length = length-set headed (bodyPlace + at) b ∙ headed-length
+
+        body-stored : sets headed bodyPlace (set (decodedBody block) at b) ≡ kept
+        body-stored =
+            ap (λ (l : List ℕ). sets headed bodyPlace (set l at b)) (sym (bytes-behind (encodedReceiver r) block 0 bodyPlace mostData (omega (arith, receiver-length r))))
+            ∙ sets-set mostData headed bodyPlace at b h (omega (arith, headed-length))
+
+        instruments-there : bytesAt kept scopePlace instrumentsLength ≡ bytesAt block scopePlace instrumentsLength
+        instruments-there =
+            ap (take instrumentsLength) (drop-set-lt scopePlace headed (bodyPlace + at) b (omega arith))
+            ∙ bytes-behind (encodedReceiver r) block 0 scopePlace instrumentsLength (omega (arith, receiver-length r))
+
+    -- ---- one of the instruments, or a part of it: the others are there
+
+    same-scope : sets block scopePlace (encodedScope (decodedScope block)) ≡ block
+    same-scope = ap (sets block scopePlace) (scope-kept block small long) ∙ sets-same variablesLength block scopePlace (omega arith)
+
+    scope-width : length (encodedScope (decodedScope block)) ≡ variablesLength
+    scope-width = ap length (scope-kept block small long) ∙ bytes-length block scopePlace variablesLength (omega arith)
+
+    pub same-instruments : sets block scopePlace (encodedInstruments (decodedInstruments block)) ≡ block
+    same-instruments =
+        ap (sets block scopePlace) (instruments-kept block small long) ∙ sets-same instrumentsLength block scopePlace (omega arith)
+
+    pub scope-stored : (s : Scope) → length (encodedScope s) ≡ variablesLength
+        → sets block scopePlace (encodedScope s) ≡ sets block scopePlace (encodedInstruments (record { scope = s; recorder = decodedRecorder block }))
+    scope-stored s width =
+        sym
+        (sets-two block (encodedScope s) (encodedRecorder (decodedRecorder block)) scopePlace variablesLength recorderPlace width refl
+        ∙ ap (sets (sets block scopePlace (encodedScope s)) recorderPlace)
+        (same-recorder-kept block small long ∙ sym (bytes-behind (encodedScope s) block scopePlace recorderPlace recorderLength (omega (arith, width))))
+        ∙ sets-same recorderLength (sets block scopePlace (encodedScope s)) recorderPlace (omega (arith, length-sets block scopePlace (encodedScope s))))
+
+    pub recorder-stored : (r : Recorder)
+        → sets block recorderPlace (encodedRecorder r) ≡ sets block scopePlace (encodedInstruments (record { scope = decodedScope block; recorder = r }))
+    recorder-stored r =
+        sym
+        (sets-two block (encodedScope (decodedScope block)) (encodedRecorder r) scopePlace variablesLength recorderPlace scope-width refl
+        ∙ ap (λ (l : List ℕ). sets l recorderPlace (encodedRecorder r)) same-scope)
+
+    -- the recorder in the block, with another run
+    abbrev withRun : Run → Recorder
+    withRun run = record { ready = decodedRecorder block .ready; plan = decodedRecorder block .plan; run = run }
+
+    run-in-recorder : (run : Run) → sets block runPlace (encodedRun run) ≡ sets block recorderPlace (encodedRecorder (withRun run))
+    run-in-recorder run =
+        sym
+        (ap (sets block recorderPlace) (recorder-kept block small long run)
+        ∙ sets-two block (bytesAt block recorderPlace (1 + planLength)) (encodedRun run) recorderPlace (1 + planLength) runPlace (bytes-length block recorderPlace (1 + planLength) (omega arith)) refl
+        ∙ ap (λ (l : List ℕ). sets l runPlace (encodedRun run)) (sets-same (1 + planLength) block recorderPlace (omega arith)))
+
+    pub run-stored : (run : Run)
+        → sets block runPlace (encodedRun run) ≡ sets block scopePlace (encodedInstruments (record { scope = decodedScope block; recorder = withRun run }))
+    run-stored run = run-in-recorder run ∙ recorder-stored (withRun run)
+
+    -- what is set up, behind the link as it is there
+    pub instruments-stored : (i : Instruments)
+        → sets block scopePlace (encodedInstruments i)
+        ≡ sets block 0 (encoded (record { receiver = decodedReceiver block; body = decodedBody block; instruments = i }))
+    instruments-stored i =
+        ap (λ (l : List ℕ). sets l scopePlace (encodedInstruments i))
+        (sym (ap (sets block 0) (receiver-kept block small long) ∙ sets-same receiverLength block 0 (omega arith)))
+        ∙ whole-stored (decodedReceiver block) i

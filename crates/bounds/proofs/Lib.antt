@@ -1,0 +1,3 @@
+-- The bounds, test by test.
+pub mod Looked
+pub mod Within

@@ -1,0 +1,2 @@
+-- What is asked of a block.
+pub mod Measured

@@ -1,0 +1,2 @@
+-- A byte, by its event, refused and taken.
+pub mod Turns

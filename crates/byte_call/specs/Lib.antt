@@ -1,0 +1,2 @@
+-- What a byte promises.
+pub mod Promises

@@ -1,0 +1,3 @@
+-- The numbers with which calls refuse, and what a block is.
+pub mod Numbers
+pub mod Settled

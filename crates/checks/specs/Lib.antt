@@ -1,0 +1,2 @@
+-- What is asked of a block, and what reset and check promise.
+pub mod Promises

@@ -1,0 +1,65 @@
+// A state begun, and looked at: reset, check, and the numbers with which a byte and a tick refuse.
+ghost use mathlib.Core.Path.{_≡_};
+ghost use Rattle.document.specs.Calls.{byteRefusal, tickRefusal};
+ghost use Rattle.checks.specs.Promises.{blockSound, ResetDone, Checked};
+use blocks::STATE_LENGTH;
+use codes::ANSWER_ROOM;
+use codes::MEMORY_REFUSED;
+use codes::ROOM_REFUSED;
+use codes::STATE_REFUSED;
+use codes::TAKEN;
+use memory::MEMORY_END;
+
+pub fn reset(state: &mut [u8]) -> u8
+    ensures { λ r. ⌜ ResetDone (now (state .entry)) r (now (state .exit)) ⌝ }
+{
+    if state.len() < STATE_LENGTH {
+        return STATE_REFUSED;
+    }
+    blocks::reset(state);
+    TAKEN
+}
+
+fn is_sound(state: &[u8]) -> bool
+    ensures { λ r. ⌜ r ≡ blockSound (now (state .entry)) ⌝ }
+{
+    if state.len() < STATE_LENGTH {
+        return false;
+    }
+    bounds::is_sound(state)
+}
+
+pub fn check(state: &[u8]) -> u8
+    ensures { λ r. ⌜ Checked (now (state .entry)) r ⌝ }
+{
+    if is_sound(state) {
+        return TAKEN;
+    }
+    STATE_REFUSED
+}
+
+// The number that a byte and a tick ask for first.
+pub fn tick_refusal(state: &[u8], memory: &[u8]) -> u8
+    ensures { λ r. ⌜ r ≡ tickRefusal (blockSound (now (state .entry))) (now (memory .entry)) ⌝ }
+{
+    if !is_sound(state) {
+        return STATE_REFUSED;
+    }
+    if memory.len() != MEMORY_END {
+        return MEMORY_REFUSED;
+    }
+    TAKEN
+}
+
+pub fn byte_refusal(state: &[u8], memory: &[u8], answer: &[u8]) -> u8
+    ensures { λ r. ⌜ r ≡ byteRefusal (blockSound (now (state .entry))) (now (memory .entry)) (now (answer .entry)) ⌝ }
+{
+    let refusal = tick_refusal(state, memory);
+    if refusal != TAKEN {
+        return refusal;
+    }
+    if answer.len() < ANSWER_ROOM {
+        return ROOM_REFUSED;
+    }
+    TAKEN
+}

@@ -1,0 +1,148 @@
+-- A byte over a state that stands for the definition leaves one that does: the gate, the link and what goes over the wire.
+use mathlib.Core.Path.{_≡_, refl, sym, ap, subst, _∙_}
+use mathlib.Core.Bool.{true, false, cond}
+use mathlib.Core.List.{List, [], _∷_, _++_, map, append-nil, foldl-append}
+use Prim.Native.Nat.{ℕ, _≤_}
+use native.Mathlib.Omega.{arith}
+use borrow.Author.Tests.{ne-eqb}
+use lib.Dec.{eqb}
+use lib.ListN.{length, take, drop}
+use lib.Seq.{sets}
+use Rattle.document.specs.Numbers.{answerRoom}
+use Rattle.document.specs.Message.{Message, finishedBy}
+use Rattle.document.specs.Answer.{Answer, answerOnWire}
+use Rattle.document.specs.Gate.{Gate, Outcome}
+use Rattle.document.specs.Commands.{answered}
+use Rattle.document.specs.Happenings.{Since, told, after}
+use Rattle.document.specs.Happenings.Happening.{byte}
+use Rattle.line.proofs.Left.{sets-front, sets-behind, answer-fits}
+use Rattle.link.specs.declared.Receiver.{Receiver}
+use Rattle.link.specs.declared.Taken.{Taken as StepTaken}
+use Rattle.link.specs.declared.Event.{Event}
+use Rattle.link.specs.declared.Event.the-variants.{Nothing, Keep, Whole}
+use Rattle.link.specs.Bounds as link
+use Rattle.link.specs.Step.{stepped}
+use Rattle.link.specs.Report.{Held, held, Beside, bodyAfter, reportOf, onByte, sinceReset}
+use Rattle.link.proofs.Reports.{reports}
+use Rattle.outcomes.proofs.Answered.{answered-formed}
+use Rattle.state.specs.State.{Instruments, Target, gateOf}
+use Rattle.target.specs.AnsweredHeld.{answeredHeld}
+use Rattle.target.proofs.Held.{answered-held}
+use Rattle.target.proofs.HeldLaws.{held-kept}
+use Rattle.target.specs.Turn.{Turn, silent, keeping, heldBy, answering, onEvent, turn}
+use Rattle.target.proofs.TurnLaws.{nextOf, by-event}
+use Rattle.demands.specs.Stands.{blank, linkIn}
+use Rattle.demands.proofs.Served.{replied}
+
+-- ---- lists
+map-none : (ms : List Message) → map held ms ≡ [] → ms ≡ []
+map-none [] e = refl
+map-none (m ∷ ms) e = let z : _≡_ {A = ℕ} 0 1 = cc in absurd (omega arith)
+
+-- ---- answers
+wire-long : (a : Answer) → eqb (length (answerOnWire a)) 0 ≡ false
+unfolding answerOnWire
+wire-long a = ne-eqb (length (answerOnWire a)) 0 (λ e. let b : ⊥ = omega arith in b)
+
+-- an answer that fits stands at the front of the buffer
+pub replied-one : (a : Answer) (buffer : List ℕ) → length (answerOnWire a) ≤ length buffer
+    → cond (eqb (length (answerOnWire a)) 0) [] (take (length (answerOnWire a)) (sets buffer 0 (answerOnWire a)) ∷ []) ≡ answerOnWire a ∷ []
+replied-one a buffer fits = rw (wire-long a) (ap (λ (l : List ℕ). l ∷ []) (sets-front (answerOnWire a) buffer fits))
+
+-- what the messages that a byte finishes are told
+abbrev pub answersTo : Gate → List Message → List Answer
+answersTo g [] = []
+answersTo g (m ∷ ms) = answered g m .answer ∷ []
+
+abbrev pub gateAfter : Gate → List Message → Gate
+gateAfter g [] = g
+gateAfter g (m ∷ ms) = answered g m .gate
+
+-- a turn's state, memory and reply stand for what the definition gives, behind the bytes bs and with this buffer lent
+pub record TurnStands (u : Turn) (buffer : List ℕ) (g : Gate) (bs : List ℕ) (ms : List Message) : Type 0 where
+  pub gate : gateOf (u .next .instruments) (u .memory) ≡ gateAfter g ms
+  pub link-part : linkIn (u .next) ≡ sinceReset blank bs
+  pub answers : replied u ≡ map answerOnWire (answersTo g ms)
+  pub behind : drop (u .length) (u .buffer) ≡ drop (u .length) buffer
+  pub fits : u .length ≤ answerRoom
+
+module _ (t : Target) (b : ℕ) (memory buffer : List ℕ) (room : answerRoom ≤ length buffer) (s : Since)
+    (stands : gateOf (t .instruments) memory ≡ s .gate) (linked : linkIn t ≡ sinceReset blank (s .bytes)) where
+  abbrev grown : List ℕ
+  grown = s .bytes ++ (b ∷ [])
+
+  event-reports : reportOf (stepped (t .receiver) b .event) (t .body) ≡ map held (finishedBy (s .bytes) b)
+  event-reports =
+      ap (λ (q : Beside). reportOf (stepped (q .receiver) b .event) (q .body)) linked
+      ∙ reports blank refl (s .bytes) b
+
+  -- the receiver and the body go on as since reset
+  link-next : (e : Event) → stepped (t .receiver) b .event ≡ e
+      → _≡_ {A = Beside} (record { receiver = stepped (t .receiver) b .next; body = bodyAfter e (t .body) }) (sinceReset blank grown)
+  link-next e is =
+      ap (λ (k : Event). record { receiver = stepped (t .receiver) b .next; body = bodyAfter k (t .body) }) (sym is)
+      ∙ ap (λ (q : Beside). onByte q b) linked
+      ∙ sym (foldl-append onByte (record { receiver = link.fresh; body = blank }) (s .bytes) (b ∷ []))
+
+  -- a byte that finishes nothing
+  quiet : (e : Event) (u : Turn) → stepped (t .receiver) b .event ≡ e → reportOf e (t .body) ≡ []
+      → turn t b memory buffer ≡ u → TurnStands u buffer (s .gate) grown []
+      → TurnStands (turn t b memory buffer) buffer (s .gate) grown (finishedBy (s .bytes) b)
+  quiet e u is none turned silent-stands =
+      let nothing : finishedBy (s .bytes) b ≡ [] =
+      map-none (finishedBy (s .bytes) b) (sym event-reports ∙ ap (λ (k : Event). reportOf k (t .body)) is ∙ none) in
+      subst (λ (q : Turn). TurnStands q buffer (s .gate) grown (finishedBy (s .bytes) b)) (sym turned)
+      (subst (λ (ms : List Message). TurnStands u buffer (s .gate) grown ms) (sym nothing) silent-stands)
+
+  -- a byte that finishes a message
+  module _ (c n sum : ℕ) (is : stepped (t .receiver) b .event ≡ Whole c n sum) where
+    abbrev next : Target
+    next = nextOf t b memory buffer
+
+    abbrev H : Held
+    H = heldBy next c n sum
+
+    told-stands : (m : Message) (ms : List Message) → H ≡ held m
+        → TurnStands (answering next c n sum memory buffer) buffer (s .gate) grown (m ∷ ms)
+    told-stands m ms same =
+        let outcome : answeredHeld (gateOf (t .instruments) memory) H ≡ answered (s .gate) m =
+        (λ j. answeredHeld (stands j) (same j)) ∙ answered-held (s .gate) m in
+        let a : Answer = answeredHeld (gateOf (t .instruments) memory) H .answer in
+        let short : length (answerOnWire a) ≤ answerRoom =
+        subst (λ (o : Outcome). length (answerOnWire (o .answer)) ≤ answerRoom) (sym outcome) (answer-fits (answered (s .gate) m .answer) (answered-formed (s .gate) m)) in
+        let fits : length (answerOnWire a) ≤ length buffer = omega (arith, room, short) in
+        record {
+          gate = held-kept (t .instruments) memory H ∙ ap (λ (o : Outcome). o .gate) outcome;
+          link-part = link-next (Whole c n sum) is;
+          answers = replied-one a buffer fits ∙ ap (λ (o : Outcome). answerOnWire (o .answer) ∷ []) outcome;
+          behind = sets-behind (answerOnWire a) buffer fits;
+          fits = short;
+        }
+
+    whole-stands : TurnStands (turn t b memory buffer) buffer (s .gate) grown (finishedBy (s .bytes) b)
+    whole-stands = by (finishedBy (s .bytes) b) refl
+      where
+        reported : H ∷ [] ≡ map held (finishedBy (s .bytes) b)
+        reported = ap (λ (k : Event). reportOf k (t .body)) (sym is) ∙ event-reports
+
+        by : (ms : List Message) → finishedBy (s .bytes) b ≡ ms → TurnStands (turn t b memory buffer) buffer (s .gate) grown (finishedBy (s .bytes) b)
+        by [] e =
+            let none : H ∷ [] ≡ [] = reported ∙ ap (λ (l : List Message). map held l) e in
+            let z : _≡_ {A = ℕ} 0 1 = cc in absurd (omega arith)
+        by (m ∷ ms) e =
+            let some : H ∷ [] ≡ held m ∷ map held ms = reported ∙ ap (λ (l : List Message). map held l) e in
+            let same : H ≡ held m = cc in
+            subst (λ (q : Turn). TurnStands q buffer (s .gate) grown (finishedBy (s .bytes) b)) (sym (by-event t b memory buffer (Whole c n sum) is))
+            (subst (λ (l : List Message). TurnStands (answering next c n sum memory buffer) buffer (s .gate) grown l) (sym e) (told-stands m ms same))
+
+  pub turn-stands : TurnStands (turn t b memory buffer) buffer (s .gate) grown (finishedBy (s .bytes) b)
+  turn-stands = by (stepped (t .receiver) b .event) refl
+    where
+      by : (e : Event) → stepped (t .receiver) b .event ≡ e → TurnStands (turn t b memory buffer) buffer (s .gate) grown (finishedBy (s .bytes) b)
+      by Nothing e =
+          quiet Nothing (silent (nextOf t b memory buffer) memory buffer) e refl (by-event t b memory buffer Nothing e)
+          (record { gate = stands; link-part = link-next Nothing e; answers = refl; behind = refl; fits = omega arith })
+      by (Keep at v) e =
+          quiet (Keep at v) (silent (keeping (nextOf t b memory buffer) at v) memory buffer) e refl (by-event t b memory buffer (Keep at v) e)
+          (record { gate = stands; link-part = link-next (Keep at v) e; answers = refl; behind = refl; fits = omega arith })
+      by (Whole c n sum) e = whole-stands c n sum e

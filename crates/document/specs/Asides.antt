@@ -1,0 +1,19 @@
+-- What happens to a gate beside the bytes of its line, and what each does to it. The line never sees one.
+use mathlib.Core.List.{List}
+use Prim.Native.Nat.{ℕ}
+use Rattle.document.specs.Stores.{stored}
+use Rattle.document.specs.Recorder.{ticked, tickedMemory}
+use Rattle.document.specs.Gate.{Gate, withMemory, withRecorder}
+
+pub data Aside : Type 0 where
+  -- "The gate calls a tick."
+  tick : Aside
+  -- the gate's own program writes bytes from an address on
+  writes : ℕ → List ℕ → Aside
+
+abbrev pub tickedGate : Gate → Gate
+tickedGate g = withMemory (withRecorder g (ticked (g .recorder) (g .memory))) (tickedMemory (g .recorder) (g .memory))
+
+unfoldable pub beside : Gate → Aside → Gate
+beside g tick = tickedGate g
+beside g (writes address bytes) = withMemory g (stored (g .memory) address bytes)

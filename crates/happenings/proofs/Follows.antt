@@ -1,0 +1,123 @@
+-- From one accepted start to the next the gate's recorder and memory are those of the recorder's own history.
+use mathlib.Core.Path.{_≡_, refl, sym, ap, subst, _∙_}
+use mathlib.Core.Bool.{false}
+use mathlib.Core.List.{List, [], _∷_, _++_}
+use Prim.Native.Nat.{ℕ, _<_}
+use lib.ListN.{length, drop}
+use Rattle.document.specs.Areas.{bufferBegin, memoryEnd}
+use Rattle.document.specs.Message.{Message, finishedBy}
+use Rattle.document.specs.Stores.{stored}
+use Rattle.document.specs.Plan.{Plan}
+use Rattle.document.specs.Run.{ranTick, memoryAfterTick}
+use Rattle.document.specs.Recorder.{Recorder, ticked, tickedMemory}
+use Rattle.document.specs.Recorder.Recorder.{planned}
+use Rattle.document.specs.Gate.{Gate}
+use Rattle.document.specs.Commands.{answered}
+use Rattle.document.specs.Happenings.{Happening, Since, told, after, afterAll}
+use Rattle.document.specs.Asides.{Aside, beside}
+use Rattle.document.specs.Asides.Aside.{tick, writes}
+use Rattle.document.specs.Happenings.Happening.{byte, aside}
+use Rattle.document.proofs.Cases.{split}
+use Rattle.memory.proofs.Copies.{stored-length}
+use Rattle.history.specs.History.{Event, Recording, AllLeaveBuffer}
+use Rattle.history.specs.History as history
+use Rattle.outcomes.specs.Starts.{starts, stops}
+use Rattle.outcomes.proofs.Recording.{stop-stops, others-pass}
+use Rattle.happenings.specs.Recording.{eventsOf, eventsBeside, eventsAt, events, NoStart, LeavesBuffer, Undisturbed, AllUndisturbed}
+use Rattle.happenings.proofs.Recording.{message-leaves, ticked-length}
+
+-- the gate's recorder has this plan, and goes through this history
+pub record Follows (p : Plan) (gate : Gate) (g : Recording) : Type 0 where
+  pub recorder : gate .recorder ≡ planned p (g .run)
+  pub memory : gate .memory ≡ g .memory
+  pub size : length (gate .memory) ≡ memoryEnd
+
+module _ (p : Plan) where
+  -- what is left, and that the buffer is
+  pub record Followed (gate : Gate) (g : Recording) (es : List Event) : Type 0 where
+    pub follows : Follows p gate (history.after p g es)
+    pub leaves : AllLeaveBuffer p g es
+
+  followed-message : (gate : Gate) (g : Recording) (m : Message) (ms : List Message) → Follows p gate g → starts gate m ≡ false
+      → Followed (answered gate m .gate) g (eventsOf gate (m ∷ ms))
+  followed-message gate g m ms f no-start =
+      split (stops gate m)
+      (λ t.
+      let s = stop-stops gate m p (g .run) (f .recorder) t in
+      rw t
+      (record {
+        follows = record { recorder = s .0; memory = s .1 ∙ f .memory; size = ap length (s .1) ∙ f .size };
+        leaves = (tt, tt);
+      }))
+      (λ n.
+      let left = message-leaves gate m (f .size) in
+      rw n
+      (record {
+        follows = record { recorder = others-pass gate m p (g .run) (f .recorder) no-start n; memory = refl; size = left .0 };
+        leaves = ((left .0, left .1 ∙ ap (drop bufferBegin) (f .memory)), tt);
+      }))
+
+  module _ (s : Since) (g : Recording) (f : Follows p (s .gate) g) where
+    followed-byte : (b : ℕ) → Undisturbed s (byte b) → Followed (after s (byte b) .gate) g (eventsAt s (byte b))
+    followed-byte b quiet = by (finishedBy (s .bytes) b) refl
+      where
+        by : (ms : List Message) → finishedBy (s .bytes) b ≡ ms → Followed (after s (byte b) .gate) g (eventsAt s (byte b))
+        by [] e =
+            subst (λ (ms : List Message). Followed (told (record { bytes = s .bytes ++ (b ∷ []); gate = s .gate; answers = s .answers }) ms .gate) g (eventsOf (s .gate) ms)) (sym e)
+            (record { follows = f; leaves = tt })
+        by (m ∷ ms) e =
+            subst (λ (ms : List Message). Followed (told (record { bytes = s .bytes ++ (b ∷ []); gate = s .gate; answers = s .answers }) ms .gate) g (eventsOf (s .gate) ms)) (sym e)
+            (followed-message (s .gate) g m ms f
+            (subst (λ (l : List Message). NoStart (s .gate) l) e quiet))
+
+    followed-beside : (a : Aside) → LeavesBuffer (s .gate) a → Followed (beside (s .gate) a) g (eventsBeside (s .gate) a)
+    unfolding beside
+    followed-beside tick quiet =
+        record {
+          follows =
+              record {
+                recorder =
+                    ap (λ (r : Recorder). ticked r (s .gate .memory)) (f .recorder)
+                    ∙ ap (λ (m : List ℕ). planned p (ranTick p (g .run) m)) (f .memory);
+                memory =
+                    ap (λ (r : Recorder). tickedMemory r (s .gate .memory)) (f .recorder)
+                    ∙ ap (λ (m : List ℕ). memoryAfterTick p (g .run) m) (f .memory);
+                size = ticked-length (s .gate .recorder) (s .gate .memory) ∙ f .size;
+              };
+          leaves = (tt, tt);
+        }
+    followed-beside (writes address bytes) quiet =
+        let size : length (stored (s .gate .memory) address bytes) ≡ memoryEnd =
+        stored-length (s .gate .memory) (stored (s .gate .memory) address bytes) bytes address refl ∙ f .size in
+        record {
+          follows = record { recorder = f .recorder; memory = refl; size = size };
+          leaves = ((size, quiet ∙ ap (drop bufferBegin) (f .memory)), tt);
+        }
+
+  -- ---- one after the other
+  after-append : (es fs : List Event) (g : Recording) → history.after p g (es ++ fs) ≡ history.after p (history.after p g es) fs
+  after-append [] fs g = refl
+  after-append (e ∷ es) fs g = after-append es fs (history.stepped p g e)
+
+  leaves-append : (es fs : List Event) (g : Recording) → AllLeaveBuffer p g es → AllLeaveBuffer p (history.after p g es) fs → AllLeaveBuffer p g (es ++ fs)
+  leaves-append [] fs g left right = right
+  leaves-append (e ∷ es) fs g left right = (left .0, leaves-append es fs (history.stepped p g e) (left .1) right)
+
+  followed-append : (between last : Gate) (g : Recording) (es fs : List Event) → Followed between g es → Followed last (history.after p g es) fs → Followed last g (es ++ fs)
+  followed-append between last g es fs first second =
+      record {
+        follows = subst (λ (q : Recording). Follows p last q) (sym (after-append es fs g)) (second .follows);
+        leaves = leaves-append es fs g (first .leaves) (second .leaves);
+      }
+
+  pub followed-all : (hs : List Happening) (s : Since) (g : Recording) → Follows p (s .gate) g → AllUndisturbed s hs
+      → Followed (afterAll s hs .gate) g (events s hs)
+  followed-all [] s g f quiet = record { follows = f; leaves = tt }
+  followed-all (byte b ∷ hs) s g f quiet =
+      let one = followed-byte s g f b (quiet .0) in
+      followed-append (after s (byte b) .gate) (afterAll (after s (byte b)) hs .gate) g (eventsAt s (byte b)) (events (after s (byte b)) hs) one
+      (followed-all hs (after s (byte b)) (history.after p g (eventsAt s (byte b))) (one .follows) (quiet .1))
+  followed-all (aside a ∷ hs) s g f quiet =
+      let one = followed-beside s g f a (quiet .0) in
+      followed-append (beside (s .gate) a) (afterAll (after s (aside a)) hs .gate) g (eventsBeside (s .gate) a) (events (after s (aside a)) hs) one
+      (followed-all hs (after s (aside a)) (history.after p g (eventsBeside (s .gate) a)) (one .follows) (quiet .1))

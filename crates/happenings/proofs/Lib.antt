@@ -1,0 +1,5 @@
+-- The laws, lowest first.
+pub mod Happened
+pub mod Resync
+pub mod Recording
+pub mod Follows

@@ -1,0 +1,53 @@
+-- The recorder among what happens to a gate: what a message, a tick and a write are to it, from one accepted start to the next.
+use mathlib.Core.Path.{_≡_}
+use mathlib.Core.Bool.{false, cond}
+use mathlib.Core.List.{List, [], _∷_, _++_}
+use Prim.Native.Nat.{ℕ}
+use lib.ListN.{drop}
+use Rattle.document.specs.Areas.{bufferBegin}
+use Rattle.document.specs.Message.{Message, finishedBy}
+use Rattle.document.specs.Gate.{Gate}
+use Rattle.document.specs.Commands.{answered}
+use Rattle.document.specs.Asides.{Aside, beside}
+use Rattle.document.specs.Asides.Aside.{tick, writes}
+use Rattle.document.specs.Happenings.{Happening, Since, after}
+use Rattle.document.specs.Happenings.Happening.{byte, aside}
+use Rattle.history.specs.History.{Event}
+use Rattle.history.specs.History.Event.{tick as ticks, others, stop}
+use Rattle.outcomes.specs.Starts.{starts, stops}
+
+-- every message but a stop leaves the recorder, and may write memory
+abbrev pub eventsOf : Gate → List Message → List Event
+eventsOf g [] = []
+eventsOf g (m ∷ ms) = cond (stops g m) (stop ∷ []) (others (answered g m .gate .memory) ∷ [])
+
+abbrev pub eventsBeside : Gate → Aside → List Event
+eventsBeside g tick = ticks ∷ []
+eventsBeside g (writes address bytes) = others (beside g (writes address bytes) .memory) ∷ []
+
+abbrev pub eventsAt : Since → Happening → List Event
+eventsAt s (byte b) = eventsOf (s .gate) (finishedBy (s .bytes) b)
+eventsAt s (aside a) = eventsBeside (s .gate) a
+
+abbrev pub events : Since → List Happening → List Event
+events s [] = []
+events s (h ∷ hs) = eventsAt s h ++ events (after s h) hs
+
+-- no message starts the recorder anew
+abbrev pub NoStart : Gate → List Message → Type 0
+NoStart g [] = Unit {0}
+NoStart g (m ∷ ms) = starts g m ≡ false
+
+-- "So long as nobody else writes the buffer": commands cannot, and the gate's own program does not
+abbrev pub LeavesBuffer : Gate → Aside → Type 0
+LeavesBuffer g tick = Unit {0}
+LeavesBuffer g (writes address bytes) =
+    drop bufferBegin (beside g (writes address bytes) .memory) ≡ drop bufferBegin (g .memory)
+
+abbrev pub Undisturbed : Since → Happening → Type 0
+Undisturbed s (byte b) = NoStart (s .gate) (finishedBy (s .bytes) b)
+Undisturbed s (aside a) = LeavesBuffer (s .gate) a
+
+abbrev pub AllUndisturbed : Since → List Happening → Type 0
+AllUndisturbed s [] = Unit {0}
+AllUndisturbed s (h ∷ hs) = Undisturbed s h × AllUndisturbed (after s h) hs

@@ -1,0 +1,4 @@
+-- The laws, lowest first.
+pub mod Statuses
+pub mod Readings
+pub mod Changing

@@ -1,0 +1,35 @@
+-- The recorder says its status.
+use mathlib.Core.Path.{ap, _∙_}
+use borrow.Author.Needs.{needs}
+use Rattle.recorder.specs.declared.state.Recorder.{Recorder}
+use Rattle.recorder.specs.State.{recorderOf}
+use Rattle.recorder.specs.Calls.{statusStatus}
+use Rattle.answers.proofs.Replies.{reply-as}
+use Rattle.state.specs.State.{gateOf}
+use Rattle.blocks.specs.Layout.{decodedInstruments}
+use Rattle.instruments.proofs.Statuses.{alone, recorder-asked}
+use Rattle.instruments.proofs.recording.status.Statement.{statement}
+use Rattle.instruments.proofs.recording.status.Tie as tie
+
+recorder-in-requires : tie.Need-recorder-in-requires
+recorder-in-requires c κs = search needs
+
+status-requires : tie.Need-status-requires
+status-requires c κs = search needs
+
+alone-requires : tie.Need-alone-requires
+alone-requires c κs = search needs
+
+returns : tie.Need-returns
+returns c =
+    let asked = c .before in
+    let found = asked .before in
+    let block = found .before .before .args .state .now in
+    λ memory out s body.
+    reply-as _ _
+    (ap alone (asked .status .ensures ∙ ap (λ (q : Recorder). statusStatus (recorderOf q)) (found .recorder-in .ensures))
+    ∙ recorder-asked (gateOf (decodedInstruments block) memory) s body)
+    (c .alone .ensures out)
+
+pub status-spec : {M : Type 1} → statement M
+status-spec = tie.close (tie.spec recorder-in-requires status-requires alone-requires returns)

@@ -1,0 +1,2 @@
+-- What a command leaves.
+pub mod Operates

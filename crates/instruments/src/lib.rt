@@ -1,0 +1,12 @@
+// The scope and the recorder in the block that holds the state, as their commands ask for them. Each command takes out what it looks
+// at, and stores what it changes.
+mod recording;
+mod scoping;
+
+pub use recording::query_buffer;
+pub use recording::set_up_recorder;
+pub use recording::start;
+pub use recording::status;
+pub use recording::stop;
+pub use scoping::read_scope;
+pub use scoping::set_up_scope;

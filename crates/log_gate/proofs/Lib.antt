@@ -1,5 +1,0 @@
-pub mod Stored
-pub mod Turns
-pub mod Settled
-pub mod Readings
-pub mod Outcomes

@@ -1,0 +1,2 @@
+-- Words in which masked stores can be read.
+pub mod Bits

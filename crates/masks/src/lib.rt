@@ -1,0 +1,6 @@
+// Masked stores, by and, or and complement: of bytes, and of a word. Who asks has seen that the range may be written.
+mod bytes;
+mod words;
+
+pub use bytes::mix_in;
+pub use words::mix_in_word;

@@ -1,0 +1,7 @@
+// The most room that a script can lend to a writer or to the reader.
+pub const LENT: usize = 600;
+
+// The text that is read at once, which holds the longest line, and the bytes that such a line can give.
+pub const TEXT: usize = 1048576;
+
+pub const BYTES: usize = 524288;

@@ -1,0 +1,3 @@
+-- What the calls of the reader come to.
+pub mod Readings
+pub mod Back

@@ -1,0 +1,2 @@
+-- What follows from the definition of a read.
+pub mod ReadLaws

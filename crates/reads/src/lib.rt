@@ -1,0 +1,54 @@
+// Reads: 1, 2 or 4 bytes at an address, or a block.
+ghost use mathlib.Core.Path.{_≡_};
+ghost use Prim.Native.Nat.{_≤_};
+ghost use lib.ListN.{length};
+ghost use Rattle.document.specs.Numbers.{mostData};
+ghost use Rattle.document.specs.Areas.{memoryEnd};
+ghost use Rattle.document.specs.Commands.{served};
+ghost use Rattle.document.specs.Gate.{Gate};
+ghost use Rattle.document.specs.declared.Operation.the-variants.{Read};
+ghost use Rattle.outcomes.specs.Known.{knownAs};
+ghost use Rattle.answers.specs.IsReply.{IsReply};
+ghost use Rattle.fields.specs.Blocks.{OwnFits};
+ghost use Rattle.reads.specs.ReadStatus.{readStatus};
+use answers::Reply;
+use answers::alone;
+use answers::done_with;
+use codes::ANSWER_TOO_LONG;
+use codes::DONE;
+use codes::MOST_DATA;
+use codes::RANGE_WRONG;
+use document::Service;
+use fields::Block;
+use fields::block_in;
+use memory::may_be_read;
+use widths::usize_of_u32;
+
+fn read_status(block: Block) -> u8
+    ensures { λ r. ⌜ r ≡ readStatus block ⌝ }
+{
+    if block.status != DONE {
+        return block.status;
+    }
+    if block.size > MOST_DATA {
+        return ANSWER_TOO_LONG;
+    }
+    if !may_be_read(block.address, block.size) {
+        return RANGE_WRONG;
+    }
+    DONE
+}
+
+pub fn read(service: Service, body: &[u8], memory: &[u8], out: &mut [u8]) -> Reply
+    requires { ⌜ OwnFits service 0 (now body) × (length (now memory) ≡ memoryEnd) × (mostData ≤ length (now out)) ⌝ }
+    ensures { λ r. ⌜ ((g : Gate) → g .memory ≡ now (memory .entry) → IsReply (served g (knownAs Read service) (now (body .entry)) .answer) r (now (out .exit))) ⌝ }
+{
+    let block = block_in(service, body, 0);
+    let status = read_status(block);
+    if status != DONE {
+        return alone(status);
+    }
+    let from = usize_of_u32(block.address);
+    let to = from + block.size;
+    done_with(&memory[from..to], out)
+}

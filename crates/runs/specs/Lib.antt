@@ -1,0 +1,3 @@
+-- What a run means, and its bounds.
+pub mod State
+pub mod Bounds

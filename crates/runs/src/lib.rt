@@ -1,0 +1,7 @@
+// A run of the recorder: how it begins, what a set changes of it, and its bounds.
+mod bounds;
+mod run;
+mod steps;
+
+pub use bounds::is_watch_sound;
+pub use run::Run;

@@ -1,0 +1,379 @@
+-- One arm for each operation: its function's promise, read with the operation known.
+use mathlib.Core.Path.{_≡_, refl, subst}
+use mathlib.Core.List.{List}
+use Prim.Native.Nat.{ℕ}
+use borrow.Author.Needs.{needs}
+use Rattle.document.specs.declared.Operation.{Operation}
+use Rattle.document.specs.declared.Operation.the-variants.{Unserved, Describe, DescribeBriefly, Read, Write, WriteMasked, SetUpScope, ReadScope, SetUpRecorder, Start, Stop, Status, QueryBuffer}
+use Rattle.outcomes.specs.Changes.{changeOf}
+use Rattle.fields.specs.Blocks.{OwnFits}
+use Rattle.fields.specs.Framed.{partsOf}
+use Rattle.blocks.specs.Layout.{dataTo}
+use Rattle.services.proofs.Arms.{Asked, known, replied, wrote}
+use Rattle.services.proofs.serve.Statement.{statement}
+use Rattle.services.proofs.serve.Tie as tie
+
+-- every arm hangs on this place
+abbrev begun : tie.After-slice-known3 → tie.Start
+begun m = m .before .before .before
+
+-- the data of the message
+abbrev told : tie.After-slice-known3 → List ℕ
+told m = dataTo (begun m .args .state .now) (begun m .args .to)
+
+-- the framing of a service whose operation is known
+framed : (m : tie.After-slice-known3) (o : Operation) → begun m .args .service .operation ≡ o
+    → OwnFits (begun m .args .service) (partsOf (changeOf o)) (told m)
+framed m o is =
+    subst (λ (p : Operation). OwnFits (begun m .args .service) (partsOf (changeOf p)) (told m)) is (begun m .pre .0)
+
+abbrev asked : tie.After-slice-known3 → Asked
+asked m =
+    record {
+      service = begun m .args .service;
+      block = begun m .args .state .now;
+      long = begun m .pre .3;
+      small = λ i. m .before .before .slice-known .given i .fits;
+      body = told m;
+      memory = begun m .args .memory .now;
+    }
+
+enum-told : tie.Need-enum-told
+enum-told c = search needs
+
+unserved-requires : tie.Need-unserved-requires
+unserved-requires c κs = search needs
+
+enum-told-2 : tie.Need-enum-told-2
+enum-told-2 c = search needs
+
+describe-requires : tie.Need-describe-requires
+describe-requires c κs = search needs
+
+enum-told-3 : tie.Need-enum-told-3
+enum-told-3 c = search needs
+
+describe-briefly-requires : tie.Need-describe-briefly-requires
+describe-briefly-requires c κs = search needs
+
+enum-told-4 : tie.Need-enum-told-4
+enum-told-4 c = search needs
+
+sub-read : tie.Need-sub-read
+sub-read c = search needs
+
+part-read-start : tie.Need-part-read-start
+part-read-start c = search needs
+
+part-read-end : tie.Need-part-read-end
+part-read-end c = search needs
+
+read-requires : tie.Need-read-requires
+read-requires c κs =
+    let t = c .before .before .before .before in
+    let s = begun (t .before .before) in
+    (framed (t .before .before) Read (t .enum-told4 .given .1), s .pre .5, s .pre .6)
+
+enum-told-5 : tie.Need-enum-told-5
+enum-told-5 c = search needs
+
+sub-write : tie.Need-sub-write
+sub-write c = search needs
+
+part-write-start : tie.Need-part-write-start
+part-write-start c = search needs
+
+part-write-end : tie.Need-part-write-end
+part-write-end c = search needs
+
+write-requires : tie.Need-write-requires
+write-requires c κs =
+    let t = c .before .before .before in
+    let s = begun (t .before .before) in
+    (framed (t .before .before) Write (t .enum-told5 .given .1), s .pre .5)
+
+alone-requires : tie.Need-alone-requires
+alone-requires c κs = search needs
+
+enum-told-6 : tie.Need-enum-told-6
+enum-told-6 c = search needs
+
+sub-write-masked : tie.Need-sub-write-masked
+sub-write-masked c = search needs
+
+part-write-masked-start : tie.Need-part-write-masked-start
+part-write-masked-start c = search needs
+
+part-write-masked-end : tie.Need-part-write-masked-end
+part-write-masked-end c = search needs
+
+write-masked-requires : tie.Need-write-masked-requires
+write-masked-requires c κs =
+    let t = c .before .before .before in
+    let s = begun (t .before .before) in
+    (framed (t .before .before) WriteMasked (t .enum-told6 .given .1), s .pre .5)
+
+alone-requires-2 : tie.Need-alone-requires-2
+alone-requires-2 c κs = search needs
+
+enum-told-7 : tie.Need-enum-told-7
+enum-told-7 c = search needs
+
+set-up-scope-requires : tie.Need-set-up-scope-requires
+set-up-scope-requires c κs = search needs
+
+enum-told-8 : tie.Need-enum-told-8
+enum-told-8 c = search needs
+
+read-scope-requires : tie.Need-read-scope-requires
+read-scope-requires c κs = search needs
+
+enum-told-9 : tie.Need-enum-told-9
+enum-told-9 c = search needs
+
+set-up-recorder-requires : tie.Need-set-up-recorder-requires
+set-up-recorder-requires c κs = search needs
+
+enum-told-10 : tie.Need-enum-told-10
+enum-told-10 c = search needs
+
+start-requires : tie.Need-start-requires
+start-requires c κs = search needs
+
+enum-told-11 : tie.Need-enum-told-11
+enum-told-11 c = search needs
+
+stop-requires : tie.Need-stop-requires
+stop-requires c κs = search needs
+
+enum-told-12 : tie.Need-enum-told-12
+enum-told-12 c = search needs
+
+status-requires : tie.Need-status-requires
+status-requires c κs = search needs
+
+enum-told-13 : tie.Need-enum-told-13
+enum-told-13 c = search needs
+
+query-buffer-requires : tie.Need-query-buffer-requires
+query-buffer-requires c κs = search needs
+
+returns : tie.Need-returns
+returns c =
+    let t = c .before in
+    let q = asked (t .before .before) in
+    replied q Unserved (t .enum-told .given .1) refl (c .unserved .ensures _ (q .service) _ _)
+
+same-length : tie.Need-same-length
+same-length c = search needs
+
+returns-2 : tie.Need-returns-2
+returns-2 c =
+    let d = c .before .before in
+    let t = d .before .before in
+    let q = asked (t .before .before) in
+    replied q Describe (t .enum-told2 .given .1) refl (d .describe .ensures _ (q .service) _)
+
+same-length-2 : tie.Need-same-length-2
+same-length-2 c = search needs
+
+returns-3 : tie.Need-returns-3
+returns-3 c =
+    let d = c .before .before in
+    let t = d .before .before in
+    let q = asked (t .before .before) in
+    replied q DescribeBriefly (t .enum-told3 .given .1) refl (d .describe-briefly .ensures _ (q .service) _)
+
+same-length-3 : tie.Need-same-length-3
+same-length-3 c = search needs
+
+same-length-4 : tie.Need-same-length-4
+same-length-4 c = search needs
+
+same-length-5 : tie.Need-same-length-5
+same-length-5 c = search needs
+
+returns-4 : tie.Need-returns-4
+returns-4 c =
+    let d = c .before .before in
+    let t = d .before .before .before .before .before in
+    let q = asked (t .before .before) in
+    replied q Read (t .enum-told4 .given .1) refl (d .read .ensures _ refl)
+
+same-length-6 : tie.Need-same-length-6
+same-length-6 c = search needs
+
+same-length-7 : tie.Need-same-length-7
+same-length-7 c = search needs
+
+returns-5 : tie.Need-returns-5
+returns-5 c =
+    let w = c .before .before .before in
+    let t = w .before .before .before .before in
+    let q = asked (t .before .before) in
+    wrote q Write (t .enum-told5 .given .1) refl (w .write .result) _ (w .write .ensures _ refl) (c .alone .ensures _)
+
+same-length-8 : tie.Need-same-length-8
+same-length-8 c = search needs
+
+same-length-9 : tie.Need-same-length-9
+same-length-9 c = search needs
+
+returns-6 : tie.Need-returns-6
+returns-6 c =
+    let w = c .before .before .before in
+    let t = w .before .before .before .before in
+    let q = asked (t .before .before) in
+    wrote q WriteMasked (t .enum-told6 .given .1) refl (w .write-masked .result) _ (w .write-masked .ensures _ refl) (c .alone2 .ensures _)
+
+same-length-10 : tie.Need-same-length-10
+same-length-10 c = search needs
+
+returns-7 : tie.Need-returns-7
+returns-7 c =
+    let d = c .before .before in
+    let t = d .before .before in
+    let q = asked (t .before .before) in
+    known q SetUpScope (t .enum-told7 .given .1) (d .set-up-scope .ensures _ _)
+
+same-length-11 : tie.Need-same-length-11
+same-length-11 c = search needs
+
+same-length-12 : tie.Need-same-length-12
+same-length-12 c = search needs
+
+same-length-13 : tie.Need-same-length-13
+same-length-13 c = search needs
+
+returns-8 : tie.Need-returns-8
+returns-8 c =
+    let d = c .before .before in
+    let t = d .before .before .before .before in
+    let q = asked (t .before .before) in
+    replied q ReadScope (t .enum-told8 .given .1) refl (d .read-scope .ensures (q .service) _)
+
+same-length-14 : tie.Need-same-length-14
+same-length-14 c = search needs
+
+returns-9 : tie.Need-returns-9
+returns-9 c =
+    let d = c .before .before in
+    let t = d .before .before in
+    let q = asked (t .before .before) in
+    known q SetUpRecorder (t .enum-told9 .given .1) (d .set-up-recorder .ensures _ _)
+
+same-length-15 : tie.Need-same-length-15
+same-length-15 c = search needs
+
+returns-10 : tie.Need-returns-10
+returns-10 c =
+    let d = c .before .before in
+    let t = d .before .before in
+    let q = asked (t .before .before) in
+    known q Start (t .enum-told10 .given .1) (d .start .ensures _ _ (q .service) _)
+
+same-length-16 : tie.Need-same-length-16
+same-length-16 c = search needs
+
+returns-11 : tie.Need-returns-11
+returns-11 c =
+    let d = c .before .before in
+    let t = d .before .before in
+    let q = asked (t .before .before) in
+    known q Stop (t .enum-told11 .given .1) (d .stop .ensures _ _ (q .service) _)
+
+same-length-17 : tie.Need-same-length-17
+same-length-17 c = search needs
+
+returns-12 : tie.Need-returns-12
+returns-12 c =
+    let t = c .before .before in
+    let q = asked (t .before .before) in
+    replied q Status (t .enum-told12 .given .1) refl (c .status .ensures _ _ (q .service) _)
+
+same-length-18 : tie.Need-same-length-18
+same-length-18 c = search needs
+
+same-length-19 : tie.Need-same-length-19
+same-length-19 c = search needs
+
+returns-13 : tie.Need-returns-13
+returns-13 c =
+    let d = c .before .before in
+    let t = d .before .before .before in
+    let q = asked (t .before .before) in
+    replied q QueryBuffer (t .enum-told13 .given .1) refl (d .query-buffer .ensures _ _)
+
+pub serve-spec : {M : Type 1} → statement M
+serve-spec =
+    tie.close
+    (tie.spec
+    enum-told
+    unserved-requires
+    enum-told-2
+    describe-requires
+    enum-told-3
+    describe-briefly-requires
+    enum-told-4
+    sub-read
+    part-read-start
+    part-read-end
+    read-requires
+    enum-told-5
+    sub-write
+    part-write-start
+    part-write-end
+    write-requires
+    alone-requires
+    enum-told-6
+    sub-write-masked
+    part-write-masked-start
+    part-write-masked-end
+    write-masked-requires
+    alone-requires-2
+    enum-told-7
+    set-up-scope-requires
+    enum-told-8
+    read-scope-requires
+    enum-told-9
+    set-up-recorder-requires
+    enum-told-10
+    start-requires
+    enum-told-11
+    stop-requires
+    enum-told-12
+    status-requires
+    enum-told-13
+    query-buffer-requires
+    returns
+    same-length
+    returns-2
+    same-length-2
+    returns-3
+    same-length-3
+    same-length-4
+    same-length-5
+    returns-4
+    same-length-6
+    same-length-7
+    returns-5
+    same-length-8
+    same-length-9
+    returns-6
+    same-length-10
+    returns-7
+    same-length-11
+    same-length-12
+    same-length-13
+    returns-8
+    same-length-14
+    returns-9
+    same-length-15
+    returns-10
+    same-length-16
+    returns-11
+    same-length-17
+    returns-12
+    same-length-18
+    same-length-19
+    returns-13)

@@ -1,0 +1,61 @@
+// A service whose message has a right sum and length: one arm for each operation. The message's data stand in the block, up to a place.
+ghost use mathlib.Core.Path.{_≡_};
+ghost use mathlib.Core.Bool.{true};
+ghost use Prim.Native.Nat.{_≤_};
+ghost use lib.ListN.{length};
+ghost use Rattle.document.specs.Numbers.{mostData};
+ghost use Rattle.document.specs.Areas.{memoryEnd};
+ghost use Rattle.document.specs.Commands.{served};
+ghost use Rattle.scope.specs.State.{sound};
+ghost use Rattle.fields.specs.Framed.{Framed};
+ghost use Rattle.state.specs.State.{gateOf};
+ghost use Rattle.target.specs.After.{instrumentsAfter};
+ghost use Rattle.blocks.specs.Places.{bodyPlace, scopePlace, stateLength};
+ghost use Rattle.blocks.specs.Layout.{dataTo, decodedScope, decodedInstruments};
+ghost use Rattle.instruments.specs.Operates.{Operates};
+use answers::Reply;
+use answers::alone;
+use answers::describe;
+use answers::describe_briefly;
+use answers::unserved;
+use blocks::BODY;
+use document::Operation;
+use document::Service;
+use instruments::query_buffer;
+use instruments::read_scope;
+use instruments::set_up_recorder;
+use instruments::set_up_scope;
+use instruments::start;
+use instruments::status;
+use instruments::stop;
+use reads::read;
+use writes::write;
+use writes::write_masked;
+
+pub fn serve(
+    service: Service,
+    state: &mut [u8],
+    to: usize,
+    memory: &mut [u8],
+    out: &mut [u8],
+) -> Reply
+    requires { ⌜ Framed service (dataTo (now state) to) × (bodyPlace ≤ to) × (to ≤ scopePlace) × (stateLength ≤ length (now state)) × (sound (decodedScope (now state)) ≡ true) × (length (now memory) ≡ memoryEnd) × (mostData ≤ length (now out)) ⌝ }
+    ensures { λ r. ⌜ Operates (served (gateOf (decodedInstruments (now (state .entry))) (now (memory .entry))) service (dataTo (now (state .entry)) to)) (instrumentsAfter (service .operation) (decodedInstruments (now (state .entry))) service (dataTo (now (state .entry)) to)) (now (state .entry)) r (now (out .exit)) (now (state .exit)) (now (memory .exit)) ⌝ }
+{
+    let operation = service.operation;
+    match operation {
+        Operation::Unserved => unserved(),
+        Operation::Describe => describe(out),
+        Operation::DescribeBriefly => describe_briefly(out),
+        Operation::Read => read(service, &state[BODY..to], memory, out),
+        Operation::Write => alone(write(service, &state[BODY..to], memory)),
+        Operation::WriteMasked => alone(write_masked(service, &state[BODY..to], memory)),
+        Operation::SetUpScope => set_up_scope(state, service, to),
+        Operation::ReadScope => read_scope(state, memory, out),
+        Operation::SetUpRecorder => set_up_recorder(state, service, to),
+        Operation::Start => start(state),
+        Operation::Stop => stop(state),
+        Operation::Status => status(state),
+        Operation::QueryBuffer => query_buffer(state, service, out),
+    }
+}

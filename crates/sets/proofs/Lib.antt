@@ -1,0 +1,2 @@
+-- What follows from the definitions, for the proofs of this crate.
+pub mod Places

@@ -1,0 +1,2 @@
+-- What reading a setup gives.
+pub mod Setup

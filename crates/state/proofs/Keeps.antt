@@ -1,0 +1,118 @@
+-- What the calls of scope and recorder leave is within bounds and widths, where what they found was.
+use mathlib.Core.Path.{_≡_, refl, _∙_}
+use mathlib.Core.Bool.{Bool, true}
+use mathlib.Core.List.{List, []}
+use Prim.Native.Nat.{ℕ, _+_, _*_, _^_, _<_, _≤_}
+use native.Mathlib.Omega.{arith}
+use lib.Dec.{eqb}
+use lib.ListN.{length, take, drop}
+use Rattle.document.specs.Areas.{memoryEnd, bytesAt}
+use Rattle.document.specs.Bytes.{AllBytes}
+use Rattle.document.specs.Stores.{stored}
+use Rattle.document.specs.Variables.{addressWidth}
+use Rattle.document.specs.Plan.{modeField, triggerSizeField, planIn}
+use Rattle.document.specs.Trigger.{triggerValue}
+use Rattle.document.specs.Run.{setOf, placeBegins, memoryAfterTick}
+use Rattle.document.specs.Recorder.{Recorder, tickedMemory}
+use Rattle.document.specs.Recorder.Recorder.{absent, planned}
+use Rattle.document.proofs.Cases.{split}
+use Rattle.memory.proofs.Copies.{stored-length}
+use Rattle.link.proofs.Sound.{reset-sound}
+use Rattle.scope.specs.declared.Scope.{Scope}
+use Rattle.scope.specs.Setup as scope
+use Rattle.scope.proofs.Bounds.{new-sound as new-scope}
+use Rattle.scope.proofs.Accepted as scope-accepted
+use Rattle.plans.specs.State.{triggerOf}
+use Rattle.recorder.specs.declared.state.Recorder.{Recorder as RecorderState}
+use Rattle.recorder.specs.Setup as recorder
+use Rattle.recorder.specs.Calls.{startedState, haltedState}
+use Rattle.ticks.specs.Tick.{tickedState}
+use Rattle.recorder.proofs.Answers as recorder-answers
+use Rattle.recorder.proofs.Keeps as recorder-keeps
+use Rattle.ticks.proofs.Ticked.{ticked-sound}
+use Rattle.state.specs.State.{Target}
+use Rattle.state.specs.Bounds.{sound, fresh}
+use Rattle.state.specs.Widths.{TargetFits}
+use Rattle.state.specs.Within.{ScopeWithin, RecorderWithin, MemoryWithin, LinkWithin, Within}
+use Rattle.state.proofs.Parts.{whole-of}
+use Rattle.state.proofs.ByteLaws.{take-short, all-sets, all-take, all-range, all-values, all-zeros, number-below}
+use Rattle.state.proofs.Fits.{scope-fit, set-up-fit, started-fit, halted-fit, ticked-fit, kept-fit, no-recorder-fit}
+
+-- ---- the numbers that bytes of the memory or a message hold
+
+-- "only the first 'trigger size' bytes count"
+threshold-fits : (ex : Bool) (body : List ℕ) → AllBytes body
+    → planIn ex body .trigger .size ≤ 4 → planIn ex body .trigger .threshold < 2 ^ (8 * planIn ex body .trigger .size)
+unfolding planIn
+threshold-fits ex body all small =
+    let size : ℕ = triggerSizeField ex body in
+    let four : List ℕ = bytesAt body (9 + addressWidth ex) 4 in
+    split (eqb (modeField body) 0)
+    (λ none. rw none (omega arith))
+    (λ some. rw some (number-below (take size four) size (all-take size four (all-range body (9 + addressWidth ex) 4 all)) (take-short size four)))
+
+value-fits : (r : RecorderState) (m : List ℕ) → AllBytes m → triggerValue (triggerOf (r .plan)) m < 2 ^ (8 * r .plan .size)
+value-fits r m all =
+    number-below (bytesAt m (r .plan .address) (r .plan .size)) (r .plan .size) (all-range m (r .plan .address) (r .plan .size) all)
+    (take-short (r .plan .size) (drop (r .plan .address) m))
+
+-- ---- setups, start and stop
+
+module _ (ex : Bool) (body : List ℕ) (all : AllBytes body) where
+  pub scope-set-up : (s : Scope) → ScopeWithin s → ScopeWithin (scope.setUpNext s ex body)
+  scope-set-up s w =
+      record { sound = scope-accepted.set-up-sound ex body s (w .sound); fits = scope-fit s ex body all (w .fits) }
+
+  pub recorder-set-up : (r : RecorderState) → RecorderWithin r → RecorderWithin (recorder.setUpNext r ex body)
+  recorder-set-up r w =
+      record {
+        sound = recorder-answers.set-up-sound r ex body (w .sound) (threshold-fits ex body all);
+        fits = set-up-fit r ex body all (w .fits);
+      }
+
+pub recorder-started : (r : RecorderState) → RecorderWithin r → RecorderWithin (startedState r)
+recorder-started r w = record { sound = recorder-keeps.started-sound r (w .sound); fits = started-fit r (w .fits) }
+
+pub recorder-halted : (r : RecorderState) → RecorderWithin r → RecorderWithin (haltedState r)
+recorder-halted r w = record { sound = recorder-keeps.halted-sound r (w .sound); fits = halted-fit r (w .fits) }
+
+-- ---- a tick
+
+pub recorder-ticked : (r : RecorderState) (m : List ℕ) → RecorderWithin r → MemoryWithin m → RecorderWithin (tickedState r m)
+recorder-ticked r m w good =
+    let ok = ticked-sound r m (w .sound) (λ runs due. value-fits r m (good .bytes)) in
+    record { sound = ok; fits = ticked-fit r m ok (w .fits) }
+
+pub memory-stored : (m : List ℕ) (a : ℕ) (vs : List ℕ) → MemoryWithin m → AllBytes vs → MemoryWithin (stored m a vs)
+memory-stored m a vs good all =
+    record { size = stored-length m (stored m a vs) vs a refl ∙ good .size; bytes = all-sets vs m a (good .bytes) all }
+
+pub memory-ticked : (r : Recorder) (m : List ℕ) → MemoryWithin m → MemoryWithin (tickedMemory r m)
+unfolding memoryAfterTick
+memory-ticked absent m good = good
+memory-ticked (planned p r) m good =
+    split (r .running)
+    (λ runs. split (eqb (r .wait) 0)
+    (λ due. rw (runs, due) (memory-stored m (placeBegins p (r .place)) (setOf p m) good (all-values m (p .variables) (good .bytes))))
+    (λ waits. rw (runs, waits) good))
+    (λ still. rw still good)
+
+-- ---- the whole
+
+module _ (t : Target) (memory : List ℕ) (w : Within t memory) where
+  pub within-sound : sound t ≡ true
+  within-sound =
+      whole-of t (record { receiver = w .link-part .receiver; scope-part = w .scope-part .sound; recorder-part = w .recorder-part .sound })
+
+  pub within-fits : TargetFits t
+  within-fits = record { body = w .link-part .size; scope = w .scope-part .fits; recorder = w .recorder-part .fits }
+
+-- at reset
+pub within-reset : (memory : List ℕ) → MemoryWithin memory → Within fresh memory
+within-reset memory good =
+    record {
+      link-part = record { receiver = reset-sound; command = omega arith; size = refl; body = all-zeros 64 };
+      scope-part = record { sound = new-scope; fits = kept-fit [] tt };
+      recorder-part = record { sound = recorder-answers.new-sound; fits = no-recorder-fit };
+      memory-part = good;
+    }

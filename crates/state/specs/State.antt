@@ -1,0 +1,24 @@
+-- The target's state between two calls, and the gate that it stands for.
+use mathlib.Core.List.{List}
+use Prim.Native.Nat.{ℕ}
+use Rattle.document.specs.Gate.{Gate}
+use Rattle.link.specs.declared.Receiver.{Receiver}
+use Rattle.scope.specs.declared.Scope.{Scope}
+use Rattle.scope.specs.State.{scopeOf}
+use Rattle.recorder.specs.declared.state.Recorder.{Recorder}
+use Rattle.recorder.specs.State.{recorderOf}
+
+-- what is set up
+pub record Instruments : Type 0 where
+  pub scope : Scope
+  pub recorder : Recorder
+
+-- the receiver, the data of the message it is in, and what is set up
+pub record Target : Type 0 where
+  pub receiver : Receiver
+  pub body : List ℕ
+  pub instruments : Instruments
+
+-- what is set up, with the memory that is lent
+abbrev pub gateOf : Instruments → List ℕ → Gate
+gateOf i memory = record { memory = memory; scope = scopeOf (i .scope); recorder = recorderOf (i .recorder) }

@@ -1,0 +1,94 @@
+-- What a service leaves of scope and recorder: it stands for the gate that the definition leaves, and is within its bounds.
+use mathlib.Core.Path.{_≡_, refl, ap}
+use mathlib.Core.List.{List}
+use Prim.Native.Nat.{ℕ}
+use borrow.Author.Tests.{ne-eqb}
+use lib.ListN.{length}
+use Rattle.document.specs.Numbers.{done}
+use Rattle.document.specs.Bytes.{AllBytes}
+use Rattle.document.specs.Areas.{bytesAt}
+use Rattle.document.specs.Fields.{sizeField, addressField, dataPlace, dataField, maskField}
+use Rattle.document.specs.Stores.{maskedBytes}
+use Rattle.document.specs.Gate.{Gate}
+use Rattle.document.specs.Commands.{served}
+use Rattle.document.specs.declared.Service.{Service}
+use Rattle.scope.specs.Setup as scope
+use Rattle.scope.specs.State.{scopeOf}
+use Rattle.scope.proofs.Accepted.{set-up-scope, next-refused}
+use Rattle.recorder.specs.Setup as recorder
+use Rattle.recorder.specs.State.{recorderOf}
+use Rattle.recorder.proofs.Answers.{set-up-means}
+use Rattle.recorder.proofs.Meanings.{started-means, halted-means}
+use Rattle.outcomes.specs.Changes.{Change, changeOf, changed, Accepted, Refused}
+use Rattle.outcomes.specs.Changes.Change.{nothing, store, maskedStore, scopeSetUp, recorderSetUp, recorderStart, recorderStop}
+use Rattle.outcomes.proofs.Served.{served-either, served-memory}
+use Rattle.state.specs.State.{Instruments, gateOf}
+use Rattle.target.specs.After.{instrumentsChanged, instrumentsAfter}
+use Rattle.state.specs.Within.{ScopeWithin, RecorderWithin, MemoryWithin}
+use Rattle.state.proofs.ByteLaws.{all-range, all-masked}
+use Rattle.state.proofs.Keeps.{scope-set-up, recorder-set-up, recorder-started, recorder-halted, memory-stored}
+
+module _ (i : Instruments) (memory : List ℕ) (s : Service) (body : List ℕ) where
+  abbrev g : Gate
+  g = gateOf i memory
+
+  refused-kept : (c : Change) → Refused c g s body → instrumentsChanged c i s body ≡ i
+  unfolding scope.setUpStatus recorder.setUpStatus recorder.setUpNext
+  refused-kept nothing r = refl
+  refused-kept store r = refl
+  refused-kept maskedStore r = refl
+  refused-kept scopeSetUp r = λ j. record { scope = next-refused (s .ex) body (i .scope) r j; recorder = i .recorder }
+  refused-kept recorderSetUp r = rw (ne-eqb (recorder.setUpStatus (recorderOf (i .recorder)) (s .ex) body) done r) refl
+  refused-kept recorderStart r = rw r refl
+  refused-kept recorderStop r = rw r refl
+
+  accepted-kept : (c : Change) → Accepted c g s body → gateOf (instrumentsChanged c i s body) (changed c g s body .memory) ≡ changed c g s body
+  unfolding scope.setUpStatus recorder.setUpStatus
+  accepted-kept nothing a = refl
+  accepted-kept store a = refl
+  accepted-kept maskedStore a = refl
+  accepted-kept scopeSetUp a =
+      λ j. record { memory = memory; scope = set-up-scope (s .ex) body (i .scope) a j; recorder = recorderOf (i .recorder) }
+  accepted-kept recorderSetUp a =
+      λ j. record { memory = memory; scope = scopeOf (i .scope); recorder = set-up-means (i .recorder) (s .ex) body a j }
+  accepted-kept recorderStart a =
+      λ j. record { memory = memory; scope = scopeOf (i .scope); recorder = started-means (i .recorder) j }
+  accepted-kept recorderStop a =
+      λ j. record { memory = memory; scope = scopeOf (i .scope); recorder = halted-means (i .recorder) j }
+
+  pub served-kept : gateOf (instrumentsAfter (s .operation) i s body) (served g s body .gate .memory) ≡ served g s body .gate
+  served-kept =
+      served-either g s body (λ (q : Gate). gateOf (instrumentsAfter (s .operation) i s body) (q .memory) ≡ q)
+      (λ refused. ap (λ (k : Instruments). gateOf k memory) (refused-kept (changeOf (s .operation)) refused))
+      (accepted-kept (changeOf (s .operation)))
+
+-- ---- within bounds
+
+module _ (i : Instruments) (s : Service) (body : List ℕ) (all : AllBytes body) where
+  pub scope-changed : (c : Change) → ScopeWithin (i .scope) → ScopeWithin (instrumentsChanged c i s body .scope)
+  scope-changed nothing w = w
+  scope-changed store w = w
+  scope-changed maskedStore w = w
+  scope-changed scopeSetUp w = scope-set-up (s .ex) body all (i .scope) w
+  scope-changed recorderSetUp w = w
+  scope-changed recorderStart w = w
+  scope-changed recorderStop w = w
+
+  pub recorder-changed : (c : Change) → RecorderWithin (i .recorder) → RecorderWithin (instrumentsChanged c i s body .recorder)
+  recorder-changed nothing w = w
+  recorder-changed store w = w
+  recorder-changed maskedStore w = w
+  recorder-changed scopeSetUp w = w
+  recorder-changed recorderSetUp w = recorder-set-up (s .ex) body all (i .recorder) w
+  recorder-changed recorderStart w = recorder-started (i .recorder) w
+  recorder-changed recorderStop w = recorder-halted (i .recorder) w
+
+pub memory-served : (g : Gate) (s : Service) (body : List ℕ) → AllBytes body → MemoryWithin (g .memory) → MemoryWithin (served g s body .gate .memory)
+memory-served g s body all w =
+    let at : ℕ = addressField s body in
+    let values : List ℕ = dataField s body in
+    let masks : List ℕ = maskField s body in
+    let old : List ℕ = bytesAt (g .memory) at (length values) in
+    served-memory g s body MemoryWithin w
+    (λ may. memory-stored (g .memory) at values w (all-range body (dataPlace s) (sizeField s body) all))
+    (λ may. memory-stored (g .memory) at (maskedBytes old values masks) w (all-masked old values masks))

@@ -1,0 +1,66 @@
+-- A byte keeps everything within bounds and widths, so that a call over many bytes need look at the state once.
+use mathlib.Core.Path.{_≡_, refl, sym, ap, subst, _∙_}
+use mathlib.Core.Bool.{true}
+use mathlib.Core.List.{List, []}
+use Prim.Native.Nat.{ℕ, _<_}
+use lib.ListN.{length, set, length-set}
+use Rattle.document.specs.Numbers.{mostData}
+use Rattle.document.specs.Bytes.{AllBytes}
+use Rattle.link.specs.declared.Event.{Event}
+use Rattle.link.specs.declared.Event.the-variants.{Nothing, Keep, Whole}
+use Rattle.link.specs.Step.{stepped}
+use Rattle.link.specs.Report.{Held}
+use Rattle.link.proofs.Sound.{step-sound}
+use Rattle.link.proofs.Events.{kept-byte, command-byte}
+use Rattle.state.specs.State.{Target, gateOf}
+use Rattle.state.specs.Within.{MemoryWithin, LinkWithin, Within}
+use Rattle.state.proofs.ByteLaws.{all-set, all-take}
+use Rattle.target.specs.AnsweredHeld.{answeredHeld, instrumentsHeld}
+use Rattle.target.proofs.HeldLaws.{scope-within, recorder-within, memory-within}
+use Rattle.target.specs.Turn.{Turn, keeping, heldBy, turn}
+use Rattle.target.proofs.TurnLaws.{nextOf, by-event}
+
+module _ (t : Target) (memory buffer : List ℕ) (w : Within t memory) (b : ℕ) (small : b < 256) where
+  abbrev next : Target
+  next = nextOf t b memory buffer
+
+  link-next : LinkWithin (nextOf t b memory buffer)
+  link-next =
+      record {
+        receiver = step-sound (t .receiver) b (w .link-part .receiver);
+        command = command-byte (t .receiver) b (w .link-part .command) small;
+        size = w .link-part .size;
+        body = w .link-part .body;
+      }
+
+  pub byte-keeps : Within (turn t b memory buffer .next) (turn t b memory buffer .memory)
+  byte-keeps = by (stepped (t .receiver) b .event) refl
+    where
+      by : (e : Event) → stepped (t .receiver) b .event ≡ e → Within (turn t b memory buffer .next) (turn t b memory buffer .memory)
+      by Nothing e =
+          subst (λ (u : Turn). Within (u .next) (u .memory)) (sym (by-event t b memory buffer Nothing e))
+          (record { link-part = link-next; scope-part = w .scope-part; recorder-part = w .recorder-part; memory-part = w .memory-part })
+      by (Keep at v) e =
+          subst (λ (u : Turn). Within (u .next) (u .memory)) (sym (by-event t b memory buffer (Keep at v) e))
+          (record {
+            link-part =
+                record {
+                  receiver = link-next .receiver;
+                  command = link-next .command;
+                  size = length-set (t .body) at v ∙ w .link-part .size;
+                  body = all-set (t .body) at v (w .link-part .body) (subst (λ (k : ℕ). k < 256) (sym (kept-byte (t .receiver) b at v e)) small);
+                };
+            scope-part = w .scope-part;
+            recorder-part = w .recorder-part;
+            memory-part = w .memory-part;
+          })
+      by (Whole c n sum) e =
+          let H : Held = heldBy next c n sum in
+          let all : AllBytes (H .kept) = all-take n (t .body) (w .link-part .body) in
+          subst (λ (u : Turn). Within (u .next) (u .memory)) (sym (by-event t b memory buffer (Whole c n sum) e))
+          (record {
+            link-part = record { receiver = link-next .receiver; command = link-next .command; size = link-next .size; body = link-next .body };
+            scope-part = scope-within (t .instruments) H all (w .scope-part);
+            recorder-part = recorder-within (t .instruments) H all (w .recorder-part);
+            memory-part = memory-within (gateOf (t .instruments) memory) H all (w .memory-part);
+          })

@@ -1,0 +1,2 @@
+-- A tick, refused and taken.
+pub mod Ticks

@@ -1,0 +1,2 @@
+-- What a tick promises.
+pub mod Tick
