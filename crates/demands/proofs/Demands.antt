@@ -24,7 +24,7 @@ use Rattle.document.specs.Commands.{answered}
 use Rattle.document.specs.Asides.Aside.{tick}
 use Rattle.document.specs.Happenings.{Happening, Since, after as happened, afterAll, fromReset as since}
 use Rattle.document.specs.Happenings.Happening.{byte, aside}
-use Rattle.history.specs.History.{memoriesLeft, TriggersNext, Unstopped, ticks}
+use Rattle.history.specs.History.{memoriesLeft, TriggersNext, Unstopped}
 use Rattle.line.specs.declared.Written.{Written}
 use Rattle.line.specs.AnswerWritten.{AnswerWritten}
 use Rattle.link.specs.Report.{Beside, sinceReset}
@@ -34,7 +34,7 @@ use Rattle.commands.specs.CommandWritten.{CommandWritten}
 use Rattle.outcomes.specs.Starts.{starts, Begins}
 use Rattle.outcomes.proofs.Recording.{start-begins}
 use Rattle.happenings.specs.Bytes.{bytesOf, besideBytes, AreBytes}
-use Rattle.happenings.specs.Recording.{events, AllUndisturbed}
+use Rattle.happenings.specs.Recording.{events, ticksOf, AllUndisturbed}
 use Rattle.happenings.proofs.Resync.{told-bytes, bytes-after, resync-even, resync-next}
 use Rattle.state.specs.Within.{MemoryWithin}
 use Rattle.blocks.specs.Places.{stateLength}
@@ -207,7 +207,7 @@ module _ (block memory : List ℕ) (r : ℕ) (after : List ℕ) (long : stateLen
     -- the next tick, and `hs` is what happens behind it
     pub recorder-stops : TriggersNext p (record { run = run-now; memory = h .memory }) → (hs : List Happening) (last : House) → AreBytes hs
         → AllUndisturbed reached (aside tick ∷ hs) → Unstopped (events (happened reached (aside tick)) hs) → Run h (aside tick ∷ hs) last
-        → Goes p last (ltb (ticks (events (happened reached (aside tick)) hs)) (p .postTrigger * suc (p .divider)))
+        → Goes p last (ltb (ticksOf hs) (p .postTrigger * suc (p .divider)))
     recorder-stops triggers hs last more quiet unstopped on =
         run-stops h last reached (there .stands) p run-now has (there .within .memory-part .size) hs quiet
         (reached-run h last (aside tick ∷ hs) on reached (tt, more) there .stands)

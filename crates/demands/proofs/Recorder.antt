@@ -18,12 +18,13 @@ use Rattle.document.specs.Asides.{beside}
 use Rattle.document.specs.Asides.Aside.{tick}
 use Rattle.document.specs.Happenings.{Happening, Since, told, after, afterAll}
 use Rattle.document.specs.Happenings.Happening.{byte, aside}
-use Rattle.history.specs.History.{PlanFits, Recording, TriggersNext, Unstopped, ticks}
+use Rattle.history.specs.History.{PlanFits, Recording, TriggersNext, Unstopped}
 use Rattle.history.proofs.Ticks.{tick-before, tick-behind}
 use Rattle.history.proofs.Stop.{stops}
 use Rattle.outcomes.specs.Starts.{starts}
 use Rattle.outcomes.proofs.Recording.{start-begins}
-use Rattle.happenings.specs.Recording.{events, AllUndisturbed}
+use Rattle.happenings.specs.Recording.{events, ticksOf, AllUndisturbed}
+use Rattle.happenings.proofs.Ticks.{ticks-counted}
 use Rattle.happenings.proofs.Follows.{followed-all}
 use Rattle.demands.specs.House.{House, gateIn}
 use Rattle.demands.specs.Stands.{Stands}
@@ -59,7 +60,7 @@ module _ (h last : House) (s : Since) (now : Stands h s) where
     -- the trigger comes at the next tick, and behind that tick these happen
     module _ (size : length (h .memory) ≡ memoryEnd) (hs : List Happening) (quiet : AllUndisturbed s (aside tick ∷ hs)) (end : Stands last (afterAll s (aside tick ∷ hs))) where
       pub run-stops : TriggersNext p (record { run = r; memory = h .memory }) → Unstopped (events (after s (aside tick)) hs)
-          → Goes p last (ltb (ticks (events (after s (aside tick)) hs)) (p .postTrigger * suc (p .divider)))
+          → Goes p last (ltb (ticksOf hs) (p .postTrigger * suc (p .divider)))
       run-stops triggers unstopped =
           let g : Recording = record { run = r; memory = h .memory } in
           let same-memory : s .gate .memory ≡ h .memory = ap (λ (q : Gate). q .memory) (sym (now .gate)) in
@@ -74,5 +75,7 @@ module _ (h last : House) (s : Since) (now : Stands h s) where
           record {
             run = _;
             recorder = ap (λ (q : Gate). q .recorder) (end .gate) ∙ followed .follows .recorder;
-            is = stops p g (events (after s (aside tick)) hs) triggers unstopped;
+            is =
+                stops p g (events (after s (aside tick)) hs) triggers unstopped
+                ∙ ap (λ (n : ℕ). ltb n (p .postTrigger * suc (p .divider))) (ticks-counted hs (after s (aside tick)));
           }

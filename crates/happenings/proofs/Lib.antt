@@ -3,4 +3,5 @@ pub mod Happened
 pub mod Resync
 pub mod FreshLink
 pub mod Recording
+pub mod Ticks
 pub mod Follows
