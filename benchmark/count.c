@@ -219,6 +219,16 @@ static void prepare_eight(void)
     start_recorder(8, 0);
 }
 
+/* The longest set there is: eight variables of 255 bytes. */
+static void prepare_longest(void)
+{
+    uint8_t bytes[64] = {1, 2, 0, 0, 0, 0, 0, 16, 0, 2, 0, 0, 0x70, 0, 0, 8};
+    for (unsigned i = 0; i < 8; i++)
+        memcpy(bytes + 16 + 3 * i, (uint8_t[]){255, (uint8_t)(16 * i), 1}, 3);
+    form(&message, LOG_GATE_SET_UP_RECORDER, bytes, 40);
+    expect_done(&message);
+}
+
 static void prepare_answer(void)
 {
     write_answer();
@@ -251,6 +261,7 @@ static const struct bench_case {
     {"tick-wait", 1, "a tick that waits, recorder of 8", prepare_waiting, tick},
     {"tick-set-1", 1, "a tick with a set of 1 and trigger", prepare_one, tick},
     {"tick-set-8", 1, "a tick with a set of 8 and trigger", prepare_eight, tick},
+    {"tick-set-2040", 1, "a tick with the longest set, 8 of 255", prepare_longest, tick},
     {"write-command", 1, "command writer, 64 data", nothing, write_command},
     {"write-answer", 1, "answer writer, 64 data", nothing, write_answer},
     {"read-answer", 67, "answer reader, a byte of 64 data", prepare_answer, read_answer},
