@@ -78,7 +78,10 @@ enum {
     LOG_GATE_RANGE_WRONG = 0x89
 };
 
-/* The commands that are served; all others are answered LOG_GATE_NOT_SERVED. EX: addresses of 4 bytes instead of 2. */
+/*
+ * The commands that are served, with their data, and what they answer when nothing refuses. Another command gets
+ * LOG_GATE_NOT_SERVED, when its sum and length are right. EX: addresses of 4 bytes instead of 2.
+ */
 enum {
     LOG_GATE_READ_BYTES = 0x01,         /* size, address */
     LOG_GATE_WRITE_BYTES = 0x02,        /* size, address, data */
@@ -86,19 +89,19 @@ enum {
     LOG_GATE_READ_BYTES_EX = 0x04,
     LOG_GATE_WRITE_BYTES_EX = 0x05,
     LOG_GATE_WRITE_BYTES_MASKED_EX = 0x06,
-    LOG_GATE_SET_UP_SCOPE = 0x08,
-    LOG_GATE_SET_UP_RECORDER = 0x09,
+    LOG_GATE_SET_UP_SCOPE = 0x08,    /* count, then size and address each */
+    LOG_GATE_SET_UP_RECORDER = 0x09, /* mode, samples, post-trigger, divider, trigger, then as 0x08; it also starts */
     LOG_GATE_SET_UP_SCOPE_EX = 0x0A,
     LOG_GATE_SET_UP_RECORDER_EX = 0x0B,
-    LOG_GATE_DESCRIBE = 0xC0, /* answers 35 bytes */
-    LOG_GATE_START_RECORDER = 0xC1,
-    LOG_GATE_STOP_RECORDER = 0xC2,
-    LOG_GATE_RECORDER_STATUS = 0xC3,
-    LOG_GATE_QUERY_BUFFER = 0xC4, /* answers the buffer's address and the start index, 2 bytes each */
-    LOG_GATE_READ_SCOPE = 0xC5,
+    LOG_GATE_DESCRIBE = 0xC0,         /* answers 35 bytes */
+    LOG_GATE_START_RECORDER = 0xC1,   /* answers LOG_GATE_DONE or LOG_GATE_RECORDER_RUNS */
+    LOG_GATE_STOP_RECORDER = 0xC2,    /* answers LOG_GATE_DONE or LOG_GATE_RECORDER_STOPPED */
+    LOG_GATE_RECORDER_STATUS = 0xC3,  /* answers LOG_GATE_RECORDER_RUNS or LOG_GATE_RECORDER_STOPPED */
+    LOG_GATE_QUERY_BUFFER = 0xC4,     /* answers the buffer's address and the start index, 2 bytes each */
+    LOG_GATE_READ_SCOPE = 0xC5,       /* answers the variables' bytes */
     LOG_GATE_DESCRIBE_BRIEFLY = 0xC8, /* answers 6 bytes */
-    LOG_GATE_QUERY_BUFFER_EX = 0xC9,  /* the same with an address of 4 bytes */
-    LOG_GATE_READ_1 = 0xD0, /* address; so the next five */
+    LOG_GATE_QUERY_BUFFER_EX = 0xC9,  /* as 0xC4, with an address of 4 bytes */
+    LOG_GATE_READ_1 = 0xD0,           /* address; so the next five */
     LOG_GATE_READ_2 = 0xD1,
     LOG_GATE_READ_4 = 0xD2,
     LOG_GATE_READ_1_EX = 0xE0,
@@ -122,7 +125,7 @@ typedef struct {
 /* Reset: an idle link, and nothing set up. Refuses a state that is too short. */
 log_gate_result log_gate_reset(uint8_t *state, size_t state_length);
 
-/* Whether the other calls would take this state: LOG_GATE_TAKEN or LOG_GATE_STATE_REFUSED. */
+/* Whether a byte and a tick would take this state: LOG_GATE_TAKEN or LOG_GATE_STATE_REFUSED. */
 log_gate_result log_gate_check(const uint8_t *state, size_t state_length);
 
 /* A byte came over the port. */
