@@ -293,7 +293,7 @@ static void throw_write_command(void)
 {
     struct message m = random_message();
     if (one_in(16))
-        m.command = one_in(2) ? 0x2B : 0xD0;
+        m.command = one_in(2) ? 0x2B : LOG_GATE_READ_1;
     int standard = m.command < 0xC0;
     int formed = m.command != 0x2B && (m.command < 0xC0 || m.length == (m.command >> 4 & 3) * 2u);
     uint8_t first = (uint8_t)(m.command + (standard ? m.length : 0));
@@ -330,8 +330,8 @@ static uint8_t next_answer_byte(void)
         size_t length = live_reader[3] <= 64 ? live_reader[3] : 0;
         random_fill(data, sizeof data);
         at = 0;
-        end = one_in(4) ? log_gate_write_answer(0x89, data, 0, answer, sizeof answer).length
-                        : log_gate_write_answer(0x00, data, length, answer, sizeof answer).length;
+        end = one_in(4) ? log_gate_write_answer(LOG_GATE_RANGE_WRONG, data, 0, answer, sizeof answer).length
+                        : log_gate_write_answer(LOG_GATE_DONE, data, length, answer, sizeof answer).length;
     }
     uint8_t byte = answer[at++];
     return one_in(100) ? random_byte() : byte;

@@ -29,6 +29,7 @@ fail() {
 }
 
 . tests/usage.sh
+. tests/header.sh
 . tests/calls.sh
 . tests/scripts.sh
 . tests/port.sh
