@@ -11,6 +11,7 @@ mod line;
 mod make;
 mod message;
 mod play;
+mod reachable;
 mod recorder;
 mod refusals;
 mod request;
@@ -34,7 +35,7 @@ const USAGE: &str = "\
 second play [FILE]               plays a script (standard input without FILE)
 second make SEED [OPERATIONS]    writes a random script (1,000 operations)
 second compare A B               compares two outputs byte for byte
-second cover FILE..              counts statuses and refusals in outputs";
+second cover FILE..              counts what scripts reach, of what they can";
 
 fn main() -> ExitCode {
     let arguments: Vec<String> = std::env::args().skip(1).collect();
@@ -45,7 +46,7 @@ fn main() -> ExitCode {
         ["make", seed] => make_script(seed, "1000"),
         ["make", seed, operations] => make_script(seed, operations),
         ["compare", first, second] => compare_files(first, second),
-        ["cover", files @ ..] if !files.is_empty() => cover_files(files),
+        ["cover", files @ ..] if !files.is_empty() => cover_scripts(files),
         _ => Err(USAGE.to_string()),
     };
     match done {
@@ -93,12 +94,19 @@ fn compare_files(first: &str, second: &str) -> Result<ExitCode, String> {
     }
 }
 
-fn cover_files(files: &[&str]) -> Result<ExitCode, String> {
+fn cover_scripts(files: &[&str]) -> Result<ExitCode, String> {
     let mut counts = cover::Counts::none();
     for file in files {
-        let added = counts.add(open(file)?);
-        added.map_err(|e| format!("{file}: {e}"))?;
+        let played = play::play_counting(&mut open(file)?, &mut io::sink(), &mut counts);
+        played.map_err(|wrong| format!("{file}: {wrong}"))?;
     }
+    let (commands, calls) = counts.reachable();
     print!("{}", counts.tell());
-    Ok(ExitCode::SUCCESS)
+    println!("reachable: {commands} pairs of command and status, {calls} of call and refusal");
+    let faults = counts.faults();
+    print!("{faults}");
+    Ok(match faults.is_empty() {
+        true => ExitCode::SUCCESS,
+        false => ExitCode::FAILURE,
+    })
 }

@@ -3,6 +3,7 @@
 use std::io::{BufRead, Write};
 
 use crate::adler::adler32;
+use crate::cover::Counts;
 use crate::host::{write_answer, write_command, Reader, Refusal};
 use crate::script::{parse, Call, Operation};
 use crate::target::Target;
@@ -24,17 +25,28 @@ struct Player<'a, O: Write> {
     read: u64,
     /// A B, T, P or M line came.
     memory_used: bool,
+    reached: &'a mut Counts,
     out: &'a mut O,
 }
 
 /// Plays the script in one pass, "from reset with memory all zero".
 pub fn play(script: &mut impl BufRead, out: &mut impl Write) -> Result<(), Failure> {
+    play_counting(script, out, &mut Counts::none())
+}
+
+/// The same; what it reaches is added to the counts.
+pub fn play_counting(
+    script: &mut impl BufRead,
+    out: &mut impl Write,
+    reached: &mut Counts,
+) -> Result<(), Failure> {
     let mut player = Player {
         target: Target::reset(),
         reader: Reader::begin(0).expect("0 is not above 64"),
         given: 0,
         read: 0,
         memory_used: false,
+        reached,
         out,
     };
     let played = player.lines(script);
@@ -99,7 +111,10 @@ impl<O: Write> Player<'_, O> {
         let index = self.given;
         self.given += 1;
         match self.target.byte(byte) {
-            Some(answer) => self.print(&format!("A {index}"), &answer),
+            Some(answer) => {
+                self.reached.answered(answer.command, answer.status);
+                self.print(&format!("A {index}"), &answer.wire)
+            }
             None => Ok(()),
         }
     }
@@ -110,6 +125,7 @@ impl<O: Write> Player<'_, O> {
             Ok(written) => (0, written),
             Err(refusal) => (refusal, 0),
         };
+        self.reached.called(letter, refusal);
         self.print(&format!("{letter} {refusal} {written}"), &lent)
     }
 
@@ -122,6 +138,7 @@ impl<O: Write> Player<'_, O> {
             }
             Err(refusal) => refusal,
         };
+        self.reached.called('E', refusal);
         self.print(&format!("E {refusal}"), &[])
     }
 
@@ -132,10 +149,14 @@ impl<O: Write> Player<'_, O> {
         match self.reader.byte(byte, &mut lent) {
             Ok(None) => Ok(()),
             Ok(Some(answer)) => {
+                self.reached.called('R', 0);
                 let (status, count) = (answer.status, answer.count);
                 self.print(&format!("R {index} 0 {status:02X} {count}"), &lent)
             }
-            Err(refusal) => self.print(&format!("R {index} {refusal}"), &[]),
+            Err(refusal) => {
+                self.reached.called('R', refusal);
+                self.print(&format!("R {index} {refusal}"), &[])
+            }
         }
     }
 
