@@ -28,8 +28,17 @@ fail() {
     exit 1
 }
 
-. tests/usage.sh
-. tests/calls.sh
-. tests/scripts.sh
-. tests/port.sh
-echo "tests/run.sh: all passed"
+# part NAME: the tests of tests/NAME.sh, which use what is above and what the parts before them left.
+part() {
+    began=$(date +%s)
+    . "tests/$1.sh"
+    times="$times, $1 $(($(date +%s) - began)) s"
+}
+
+times=
+part usage
+part calls
+part scripts
+part wrong
+part port
+echo "tests/run.sh: all passed (${times#, })"

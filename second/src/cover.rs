@@ -2,6 +2,7 @@
 //! which refusals the calls gave; and holds it against what can be reached.
 
 use crate::message::fast_length;
+use crate::play::Watch;
 use crate::reachable::{CALLS, OTHER_FAST, OTHER_STANDARD, SERVED};
 
 /// A command or a call, and how often each of its results occurred.
@@ -84,25 +85,6 @@ impl Counts {
         }
     }
 
-    /// A message of a command was answered with a status.
-    pub fn answered(&mut self, command: u8, status: u8) {
-        let name = format!("{command:02X}");
-        let other = match fast_length(command) {
-            None => "other standard",
-            Some(_) => "other fast",
-        };
-        let mut rows = self.commands.iter_mut();
-        let row = rows.find(|row| row.name == name || row.name == other);
-        row.expect("each command has a row").counts[usize::from(status)] += 1;
-    }
-
-    /// A call of a line with this letter gave a refusal, or 0.
-    pub fn called(&mut self, letter: char, refusal: u8) {
-        let name = letter.to_string();
-        let row = self.calls.iter_mut().find(|row| row.name == name);
-        row.expect("each call has a row").counts[usize::from(refusal)] += 1;
-    }
-
     /// The two tables.
     pub fn tell(&self) -> String {
         table("command", &self.commands) + &table("call", &self.calls)
@@ -119,6 +101,25 @@ impl Counts {
     pub fn reachable(&self) -> (usize, usize) {
         let pairs = |rows: &[Row]| rows.iter().map(|row| row.reachable.len()).sum();
         (pairs(&self.commands), pairs(&self.calls))
+    }
+}
+
+impl Watch for Counts {
+    fn answered(&mut self, command: u8, status: u8) {
+        let name = format!("{command:02X}");
+        let other = match fast_length(command) {
+            None => "other standard",
+            Some(_) => "other fast",
+        };
+        let mut rows = self.commands.iter_mut();
+        let row = rows.find(|row| row.name == name || row.name == other);
+        row.expect("each command has a row").counts[usize::from(status)] += 1;
+    }
+
+    fn called(&mut self, letter: char, refusal: u8) {
+        let name = letter.to_string();
+        let row = self.calls.iter_mut().find(|row| row.name == name);
+        row.expect("each call has a row").counts[usize::from(refusal)] += 1;
     }
 }
 

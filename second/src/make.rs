@@ -156,7 +156,7 @@ mod tests {
     use std::io::sink;
 
     use crate::cover::Counts;
-    use crate::play::play_counting;
+    use crate::play::play_watched;
 
     #[test]
     fn the_same_seed_gives_the_same_script() {
@@ -175,7 +175,7 @@ mod tests {
         let mut counts = Counts::none();
         for seed in 0..40 {
             let script = script(seed, 500);
-            let played = play_counting(&mut script.as_bytes(), &mut sink(), &mut counts);
+            let played = play_watched(&mut script.as_bytes(), &mut sink(), &mut counts);
             assert_eq!(played, Ok(()));
         }
         assert_eq!(counts.faults(), "");

@@ -3,7 +3,6 @@
 use std::io::{BufRead, Write};
 
 use crate::adler::adler32;
-use crate::cover::Counts;
 use crate::host::{write_answer, write_command, Reader, Refusal};
 use crate::script::{parse, Call, Operation};
 use crate::target::Target;
@@ -17,7 +16,21 @@ pub type Failure = String;
 /// A writer of the other end of the cable.
 type Writer = fn(u8, &[u8], &mut [u8]) -> Result<usize, Refusal>;
 
-struct Player<'a, O: Write> {
+/// Whoever is told of every answer and of every call at the other end.
+pub trait Watch {
+    /// A message of a command was answered with a status.
+    fn answered(&mut self, command: u8, status: u8);
+    /// A call of a line with this letter gave a refusal, or 0.
+    fn called(&mut self, letter: char, refusal: u8);
+}
+
+/// Nobody.
+impl Watch for () {
+    fn answered(&mut self, _command: u8, _status: u8) {}
+    fn called(&mut self, _letter: char, _refusal: u8) {}
+}
+
+struct Player<'a, O: Write, W: Watch> {
     target: Target,
     reader: Reader,
     /// Wire bytes given so far, on B lines and on R lines.
@@ -25,20 +38,20 @@ struct Player<'a, O: Write> {
     read: u64,
     /// A B, T, P or M line came.
     memory_used: bool,
-    reached: &'a mut Counts,
+    watch: &'a mut W,
     out: &'a mut O,
 }
 
 /// Plays the script in one pass, "from reset with memory all zero".
 pub fn play(script: &mut impl BufRead, out: &mut impl Write) -> Result<(), Failure> {
-    play_counting(script, out, &mut Counts::none())
+    play_watched(script, out, &mut ())
 }
 
-/// The same; what it reaches is added to the counts.
-pub fn play_counting(
+/// The same, and somebody watches.
+pub fn play_watched(
     script: &mut impl BufRead,
     out: &mut impl Write,
-    reached: &mut Counts,
+    watch: &mut impl Watch,
 ) -> Result<(), Failure> {
     let mut player = Player {
         target: Target::reset(),
@@ -46,7 +59,7 @@ pub fn play_counting(
         given: 0,
         read: 0,
         memory_used: false,
-        reached,
+        watch,
         out,
     };
     let played = player.lines(script);
@@ -55,7 +68,7 @@ pub fn play_counting(
     played
 }
 
-impl<O: Write> Player<'_, O> {
+impl<O: Write, W: Watch> Player<'_, O, W> {
     fn lines(&mut self, script: &mut impl BufRead) -> Result<(), Failure> {
         let mut line = Vec::new();
         for number in 1.. {
@@ -112,7 +125,7 @@ impl<O: Write> Player<'_, O> {
         self.given += 1;
         match self.target.byte(byte) {
             Some(answer) => {
-                self.reached.answered(answer.command, answer.status);
+                self.watch.answered(answer.command, answer.status);
                 self.print(&format!("A {index}"), &answer.wire)
             }
             None => Ok(()),
@@ -125,7 +138,7 @@ impl<O: Write> Player<'_, O> {
             Ok(written) => (0, written),
             Err(refusal) => (refusal, 0),
         };
-        self.reached.called(letter, refusal);
+        self.watch.called(letter, refusal);
         self.print(&format!("{letter} {refusal} {written}"), &lent)
     }
 
@@ -138,7 +151,7 @@ impl<O: Write> Player<'_, O> {
             }
             Err(refusal) => refusal,
         };
-        self.reached.called('E', refusal);
+        self.watch.called('E', refusal);
         self.print(&format!("E {refusal}"), &[])
     }
 
@@ -149,12 +162,12 @@ impl<O: Write> Player<'_, O> {
         match self.reader.byte(byte, &mut lent) {
             Ok(None) => Ok(()),
             Ok(Some(answer)) => {
-                self.reached.called('R', 0);
+                self.watch.called('R', 0);
                 let (status, count) = (answer.status, answer.count);
                 self.print(&format!("R {index} 0 {status:02X} {count}"), &lent)
             }
             Err(refusal) => {
-                self.reached.called('R', refusal);
+                self.watch.called('R', refusal);
                 self.print(&format!("R {index} {refusal}"), &[])
             }
         }
