@@ -41,4 +41,6 @@ part calls
 part scripts
 part wrong
 part port
+echo "tests/run.sh: compared $compared bytes of $played scripts and their answers: second/, the proved player, the archive and the plain C give the same"
+echo "tests/run.sh: compared the fuzzing loop's answers, states and memory: the archive and the plain C give the same"
 echo "tests/run.sh: all passed (${times#, })"

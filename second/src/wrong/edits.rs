@@ -82,6 +82,16 @@ mod tests {
         assert!(edits[0].apply("let x = 1; let y = 1;").is_err());
     }
 
+    /// An edit that the sources have outgrown shows before it is built.
+    #[test]
+    fn every_edit_of_the_list_can_be_made() {
+        for edit in read(include_str!("../../wrong.txt")).unwrap() {
+            let file = format!("{}/src/{}", env!("CARGO_MANIFEST_DIR"), edit.file);
+            let text = std::fs::read_to_string(file).unwrap();
+            assert_ne!(edit.apply(&text).unwrap(), text, "{}", edit.name);
+        }
+    }
+
     #[test]
     fn lists_that_are_none() {
         assert!(read("one\n    a.rs\n    - x\n").is_err());

@@ -61,9 +61,15 @@ impl Bench {
         }
     }
 
+    /// A variant that is told is not kept; one that is not can be looked at.
     pub fn try_out(&self, number: usize, edit: &Edit) -> Result<ToldBy, String> {
-        let player = self.build(&format!("{number:03}"), Some(edit))?;
-        self.told_by(&player)
+        let name = format!("{number:03}");
+        let told_by = self.told_by(&self.build(&name, Some(edit))?)?;
+        if told_by.is_some() {
+            let directory = self.built.join(&name);
+            fs::remove_dir_all(directory).map_err(|e| format!("{name}: {e}"))?;
+        }
+        Ok(told_by)
     }
 
     fn told_by(&self, player: &Path) -> Result<ToldBy, String> {
@@ -100,7 +106,10 @@ impl Bench {
         let said = rustc.output().map_err(|e| format!("rustc: {e}"))?;
         match said.status.success() {
             true => Ok(player),
-            false => Err(format!("{name}: {}", String::from_utf8_lossy(&said.stderr))),
+            false => {
+                let name = edit.map_or(name, |edit| &edit.name);
+                Err(format!("{name}: {}", String::from_utf8_lossy(&said.stderr)))
+            }
         }
     }
 
