@@ -7,7 +7,7 @@ use std::process::{Command, Stdio};
 use super::edits::Edit;
 use crate::play::play;
 
-/// A variant that goes on for longer than so many seconds goes on for ever.
+/// What goes on for longer than so many seconds goes on for ever.
 const MOST_SECONDS: &str = "60";
 
 /// A script and what the right implementation prints.
@@ -32,13 +32,18 @@ impl Script {
         paths.iter().map(read).collect()
     }
 
-    /// Whether a player prints anything else.
+    /// Whether a player prints anything else. One that merely breaks off, or
+    /// goes on for ever, says nothing about a target that does neither.
     fn tells(&self, player: &Path) -> Result<bool, String> {
         let script = File::open(&self.path).map_err(|e| e.to_string())?;
         let mut played = Command::new("timeout");
         played.arg(MOST_SECONDS).arg(player).stdin(script);
         let played = played.stderr(Stdio::null()).output();
-        Ok(played.map_err(|e| e.to_string())?.stdout != self.right)
+        let printed = played.map_err(|e| e.to_string())?.stdout;
+        if printed != self.right && self.right.starts_with(&printed) {
+            return Err(format!("it comes to no end with {}", self.name));
+        }
+        Ok(printed != self.right)
     }
 }
 
@@ -64,7 +69,9 @@ impl Bench {
     /// A variant that is told is not kept; one that is not can be looked at.
     pub fn try_out(&self, number: usize, edit: &Edit) -> Result<ToldBy, String> {
         let name = format!("{number:03}");
-        let told_by = self.told_by(&self.build(&name, Some(edit))?)?;
+        let player = self.build(&name, Some(edit))?;
+        let told_by = self.told_by(&player);
+        let told_by = told_by.map_err(|wrong| format!("{}: {wrong}", edit.name))?;
         if told_by.is_some() {
             let directory = self.built.join(&name);
             fs::remove_dir_all(directory).map_err(|e| format!("{name}: {e}"))?;
