@@ -34,7 +34,7 @@ use Rattle.commands.specs.CommandWritten.{CommandWritten}
 use Rattle.outcomes.specs.Starts.{starts, Begins}
 use Rattle.outcomes.proofs.Recording.{start-begins}
 use Rattle.happenings.specs.Bytes.{bytesOf, besideBytes, AreBytes}
-use Rattle.happenings.specs.Recording.{events, ticksOf, AllUndisturbed}
+use Rattle.happenings.specs.Recording.{events, ticksOf, AllUnstarted, AllUndisturbed}
 use Rattle.happenings.proofs.Resync.{told-bytes, bytes-after, resync-even, resync-next}
 use Rattle.state.specs.Within.{MemoryWithin}
 use Rattle.blocks.specs.Places.{stateLength}
@@ -206,10 +206,10 @@ module _ (block memory : List ℕ) (r : ℕ) (after : List ℕ) (long : stateLen
     -- "Unless a stop comes sooner, it thus stops post-trigger × (time divider + 1) ticks after the trigger.": the trigger comes at
     -- the next tick, and `hs` is what happens behind it
     pub recorder-stops : TriggersNext p (record { run = run-now; memory = h .memory }) → (hs : List Happening) (last : House) → AreBytes hs
-        → AllUndisturbed reached (aside tick ∷ hs) → Unstopped (events (happened reached (aside tick)) hs) → Run h (aside tick ∷ hs) last
+        → AllUnstarted (happened reached (aside tick)) hs → Unstopped (events (happened reached (aside tick)) hs) → Run h (aside tick ∷ hs) last
         → Goes p last (ltb (ticksOf hs) (p .postTrigger * suc (p .divider)))
     recorder-stops triggers hs last more quiet unstopped on =
-        run-stops h last reached (there .stands) p run-now has (there .within .memory-part .size) hs quiet
+        run-stops h last reached (there .stands) p run-now has (there .within .memory-part .size) hs (tt, quiet)
         (reached-run h last (aside tick ∷ hs) on reached (tt, more) there .stands)
         triggers unstopped
 

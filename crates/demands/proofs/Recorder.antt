@@ -23,7 +23,7 @@ use Rattle.history.proofs.Ticks.{tick-before, tick-behind}
 use Rattle.history.proofs.Stop.{stops}
 use Rattle.outcomes.specs.Starts.{starts}
 use Rattle.outcomes.proofs.Recording.{start-begins}
-use Rattle.happenings.specs.Recording.{events, ticksOf, AllUndisturbed}
+use Rattle.happenings.specs.Recording.{events, ticksOf, AllUnstarted}
 use Rattle.happenings.proofs.Ticks.{ticks-counted}
 use Rattle.happenings.proofs.Follows.{followed-all}
 use Rattle.demands.specs.House.{House, gateIn}
@@ -58,7 +58,7 @@ module _ (h last : House) (s : Since) (now : Stands h s) where
         }
 
     -- the trigger comes at the next tick, and behind that tick these happen
-    module _ (size : length (h .memory) ≡ memoryEnd) (hs : List Happening) (quiet : AllUndisturbed s (aside tick ∷ hs)) (end : Stands last (afterAll s (aside tick ∷ hs))) where
+    module _ (size : length (h .memory) ≡ memoryEnd) (hs : List Happening) (quiet : AllUnstarted s (aside tick ∷ hs)) (end : Stands last (afterAll s (aside tick ∷ hs))) where
       pub run-stops : TriggersNext p (record { run = r; memory = h .memory }) → Unstopped (events (after s (aside tick)) hs)
           → Goes p last (ltb (ticksOf hs) (p .postTrigger * suc (p .divider)))
       run-stops triggers unstopped =

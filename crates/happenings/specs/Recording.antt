@@ -48,6 +48,14 @@ abbrev pub NoStart : Gate → List Message → Type 0
 NoStart g [] = Unit {0}
 NoStart g (m ∷ ms) = starts g m ≡ false
 
+abbrev pub Unstarted : Since → Happening → Type 0
+Unstarted s (byte b) = NoStart (s .gate) (finishedBy (s .bytes) b)
+Unstarted s (aside a) = Unit {0}
+
+abbrev pub AllUnstarted : Since → List Happening → Type 0
+AllUnstarted s [] = Unit {0}
+AllUnstarted s (h ∷ hs) = Unstarted s h × AllUnstarted (after s h) hs
+
 -- "So long as nobody else writes the buffer": commands cannot, and the gate's own program does not
 abbrev pub LeavesBuffer : Gate → Aside → Type 0
 LeavesBuffer g tick = Unit {0}
