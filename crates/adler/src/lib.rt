@@ -1,7 +1,7 @@
 // The checksum of RFC 1950, by which two runs compare a whole memory in one line.
 ghost use mathlib.Core.Path.{_≡_};
 ghost use Prim.Native.Nat.{_<_};
-ghost use Rattle.words.specs.Adler.{adler32};
+ghost use Rattle.adler.specs.Adler.{adler32};
 
 // The largest prime below 65,536.
 const MODULUS: u32 = 65521;

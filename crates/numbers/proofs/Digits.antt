@@ -6,8 +6,8 @@ use native.Mathlib.Numerals.{add-one}
 use borrow.Author.Tests.{lt-ltb, le-ltb}
 use lib.ListN.{length, getD, drop}
 use lib.Seq.{drop-cons}
-use Rattle.words.specs.Numbers.{digitOf, decimalFrom}
-use Rattle.words.specs.declared.numbers.Number.the-variants as Number
+use Rattle.numbers.specs.Numbers.{digitOf, decimalFrom}
+use Rattle.numbers.specs.declared.Number.the-variants as Number
 
 module _ (n : ℕ) (t : List ℕ) (i : ℕ) (h : i < length t) where
   pub decimal-goes : digitOf (getD t i 0) < 10 → n * 10 + digitOf (getD t i 0) < 2 ^ 64

@@ -4,10 +4,10 @@ use mathlib.Core.List.{[]}
 use Prim.Native.Nat.{_-_, _<_, _≤_}
 use borrow.Author.Needs.{needs}
 use lib.ListN.{length, drop, drop-of-length-le}
-use Rattle.words.specs.Adler.{adlerFrom, adler32}
-use Rattle.words.proofs.Sums.{adler-next}
-use Rattle.words.proofs.adler.adler32.Statement.{statement}
-use Rattle.words.proofs.adler.adler32.Tie as tie
+use Rattle.adler.specs.Adler.{adlerFrom, adler32}
+use Rattle.adler.proofs.Sums.{adler-next}
+use Rattle.adler.proofs.adler32.Statement.{statement}
+use Rattle.adler.proofs.adler32.Tie as tie
 
 abbrev Inv-loop : tie.InvT-loop
 Inv-loop bytes low₀ high₀ i₀ low high i =

@@ -2,8 +2,8 @@
 use native.Mathlib.Omega.{arith}
 use borrow.Author.Tests.{eq-eqb, ne-eqb, lt-ltb, le-ltb}
 use borrow.Author.Needs.{needs}
-use Rattle.words.proofs.numbers.hex.Statement.{statement}
-use Rattle.words.proofs.numbers.hex.Tie as tie
+use Rattle.numbers.proofs.hex.Statement.{statement}
+use Rattle.numbers.proofs.hex.Tie as tie
 
 shared-slice-read-digit : tie.Need-shared-slice-read-digit
 shared-slice-read-digit c = search needs

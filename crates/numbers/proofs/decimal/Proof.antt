@@ -6,10 +6,10 @@ use native.Mathlib.Omega.{arith}
 use borrow.Author.Needs.{needs}
 use borrow.Author.Tests.{eq-eqb, ne-eqb}
 use lib.ListN.{length, getD, drop, drop-of-length-le}
-use Rattle.words.specs.Numbers.{digitOf, decimalFrom, decimalOf}
-use Rattle.words.proofs.Digits.{decimal-goes, decimal-no-digit, decimal-too-large}
-use Rattle.words.proofs.numbers.decimal.Statement.{statement}
-use Rattle.words.proofs.numbers.decimal.Tie as tie
+use Rattle.numbers.specs.Numbers.{digitOf, decimalFrom, decimalOf}
+use Rattle.numbers.proofs.Digits.{decimal-goes, decimal-no-digit, decimal-too-large}
+use Rattle.numbers.proofs.decimal.Statement.{statement}
+use Rattle.numbers.proofs.decimal.Tie as tie
 
 abbrev Inv-loop : tie.InvT-loop
 Inv-loop text value₀ i₀ value i = (i ≤ length text) × (decimalFrom value (drop i text) ≡ decimalOf text)

@@ -1,7 +1,7 @@
 // What a word says: a byte in hex or a decimal number. A word that says neither is told apart.
 ghost use mathlib.Core.Path.{_≡_};
 ghost use Prim.Native.Nat.{_≤_, _<_};
-ghost use Rattle.words.specs.Numbers.{digitOf, hexOf, decimalOf};
+ghost use Rattle.numbers.specs.Numbers.{digitOf, hexOf, decimalOf};
 
 pub enum Byte {
     Is(u8),

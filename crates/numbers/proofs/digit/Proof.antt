@@ -1,8 +1,8 @@
 -- Each test that was passed by or taken is one of the definition.
 use borrow.Author.Needs.{needs}
 use borrow.Author.Tests.{lt-ltb, le-ltb}
-use Rattle.words.proofs.numbers.digit.Statement.{statement}
-use Rattle.words.proofs.numbers.digit.Tie as tie
+use Rattle.numbers.proofs.digit.Statement.{statement}
+use Rattle.numbers.proofs.digit.Tie as tie
 
 returns : tie.Need-returns
 returns c = (simp (lt-ltb _ _ (c .if1 .taken)), search needs)

@@ -4,10 +4,10 @@ use mathlib.Core.List.{List, [], _∷_}
 use Prim.Native.Nat.{ℕ, _+_, _-_, _*_, _^_}
 use lib.Dec.{ltb, eqb}
 use lib.ListN.{length, getD}
-use Rattle.words.specs.declared.numbers.Byte.{Byte}
-use Rattle.words.specs.declared.numbers.Byte.the-variants as Byte
-use Rattle.words.specs.declared.numbers.Number.{Number}
-use Rattle.words.specs.declared.numbers.Number.the-variants as Number
+use Rattle.numbers.specs.declared.Byte.{Byte}
+use Rattle.numbers.specs.declared.Byte.the-variants as Byte
+use Rattle.numbers.specs.declared.Number.{Number}
+use Rattle.numbers.specs.declared.Number.the-variants as Number
 
 -- '0' to '9', 'A' to 'F', 'a' to 'f'; 16 for any other character
 abbrev pub digitOf : ℕ → ℕ
