@@ -38,3 +38,13 @@ pub mod Asides
 pub mod Happenings
 pub mod Staples
 pub mod Further
+pub mod Hex
+pub mod Rows
+pub mod LineRows
+pub mod ReadRows
+pub mod WriteRows
+pub mod ScopeRows
+pub mod SetupRows
+pub mod RecorderRows
+pub mod EdgeRows
+pub mod TriggerRows
