@@ -1,6 +1,8 @@
 pub mod Areas
+pub mod Calls
 pub mod Cases
 pub mod Order
+pub mod Pairs
 pub mod Places
 pub mod Rows
 pub mod Staples

@@ -54,6 +54,9 @@ holds given said = same (same (same eqb)) given said
 pub holds-eq : (given said : List (List (List ℕ))) → T (holds given said) → given ≡ said
 holds-eq given said h = same-eq (same (same eqb)) (same-eq (same eqb) (same-eq eqb eqb→eq)) given said h
 
+pub lists-eq : (given said : List (List ℕ)) → T (same (same eqb) given said) → given ≡ said
+lists-eq given said h = same-eq (same eqb) (same-eq eqb eqb→eq) given said h
+
 -- ---- the table
 
 abbrev rows : List Row

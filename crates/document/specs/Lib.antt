@@ -48,3 +48,8 @@ pub mod SetupRows
 pub mod RecorderRows
 pub mod EdgeRows
 pub mod TriggerRows
+pub mod RefusalPairs
+pub mod KindRows
+pub mod CallRows
+pub mod ReaderRows
+pub mod SetRows

@@ -96,7 +96,7 @@ abbrev toldEach : Since → List Message → Since
 toldEach s [] = s
 toldEach s (m ∷ ms) = toldEach (told s (m ∷ [])) ms
 
-abbrev afterSteps : Since → Row → Since
+abbrev pub afterSteps : Since → Row → Since
 afterSteps s [] = s
 afterSteps s (t ∷ ts) = afterSteps (afterAll (toldEach s (heard (t .bytes))) (map aside (t .asides))) ts
 
