@@ -9,10 +9,10 @@ use Rattle.document.specs.CommandWriter.{commandRefusal, commandWritten,
 use Rattle.document.specs.AnswerReader.{readRoomRefusal, brought}
 use Rattle.document.specs.Plan.{planIn}
 use Rattle.document.specs.Trigger.{fires}
-use Rattle.document.specs.Sets.{setsTaken, readRound}
+use Rattle.document.specs.Sets.{setsTaken}
 use Rattle.document.specs.CallRows.{Line, callRows, answerRows, commandRows, statusRows}
 use Rattle.document.specs.ReaderRows.{readerRows}
-use Rattle.document.specs.SetRows.{plainPlan, exPlan, plainPlanNoTrigger, plansIn, bufferAnswers, histories, taken, written, lasts}
+use Rattle.document.specs.SetRows.{plainPlan, exPlan, plainPlanNoTrigger, plansIn, bufferAnswers, histories, taken, written, lasts, rounds}
 use Rattle.document.proofs.Rows.{holds-eq, lists-eq}
 
 abbrev pub lines : List Line
@@ -36,3 +36,6 @@ histories-hold = holds-eq (map taken histories) (map written histories) tt
 
 pub lasts-hold : lasts ≡ (hex "20" ∷ hex "30" ∷ [])
 lasts-hold = lists-eq lasts (hex "20" ∷ hex "30" ∷ []) tt
+
+pub rounds-hold : rounds ≡ (hex "20" ∷ hex "10" ∷ hex "20" ∷ [])
+rounds-hold = lists-eq rounds (hex "20" ∷ hex "10" ∷ hex "20" ∷ []) tt

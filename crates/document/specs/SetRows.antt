@@ -1,14 +1,15 @@
 -- Rows for what a setup fixes, and for the sets of a run said without the recorder's state.
 use mathlib.Core.Bool.{true, false}
-use mathlib.Core.List.{List, [], _∷_, map}
+use mathlib.Core.List.{List, [], _∷_, _++_, map}
 use Prim.Native.Nat.{ℕ}
 use Prim.Native.String.{String}
+use lib.ListN.{replicate}
 use Rattle.document.specs.Hex.{hex}
 use Rattle.document.specs.Plan.{Plan, noTrigger, planIn}
 use Rattle.document.specs.Recorder.{bufferAnswer}
 use Rattle.document.specs.Recorder.Recorder.{planned}
 use Rattle.document.specs.Run.Watch.{unprimed}
-use Rattle.document.specs.Sets.{setsTaken, lastOf}
+use Rattle.document.specs.Sets.{setsTaken, readRound, lastOf}
 
 -- ---- every field at its full width: "samples 2, post-trigger 2, time divider 2", "threshold 4"
 
@@ -96,3 +97,7 @@ written h = map single (h .sets)
 -- "the last sets of that history"
 abbrev pub lasts : List (List ℕ)
 lasts = lastOf 2 (map single (hex "10 20 30"))
+
+-- "reading round from it": from place 1 of 2
+abbrev pub rounds : List (List ℕ)
+rounds = readRound (planOf (history 0 0 "" "")) (replicate 12288 0 ++ hex "10 20 30") 1 3
