@@ -21,21 +21,21 @@ lines = callRows ++ answerRows ++ commandRows ++ statusRows ++ readerRows
 
 pub lines-hold : map (λ (l : Line). l .gives) lines ≡ map (λ (l : Line). l .says) lines
 unfolding callRows answerRows commandRows statusRows readerRows wellFormed onWire answerOnWire answersHeard answerFinishedBy answerRefusal answerWritten answerBuffer commandRefusal commandWritten commandBuffer readRoomRefusal brought
-lines-hold = lists-eq (map (λ (l : Line). l .gives) lines) (map (λ (l : Line). l .says) lines) tt
+lines-hold = lists-eq (map (λ (l : Line). l .gives) lines) (map (λ (l : Line). l .says) lines) refl
 
 pub plans-hold : plansIn ≡ (plainPlan ∷ exPlan ∷ plainPlanNoTrigger ∷ [])
 unfolding planIn
 plans-hold = refl
 
 pub buffer-answers-hold : bufferAnswers ≡ (hex "0030 0201" ∷ hex "00300000 0201" ∷ [])
-buffer-answers-hold = lists-eq bufferAnswers (hex "0030 0201" ∷ hex "00300000 0201" ∷ []) tt
+buffer-answers-hold = lists-eq bufferAnswers (hex "0030 0201" ∷ hex "00300000 0201" ∷ []) refl
 
 pub histories-hold : map taken histories ≡ map written histories
 unfolding histories setsTaken fires
-histories-hold = holds-eq (map taken histories) (map written histories) tt
+histories-hold = holds-eq (map taken histories) (map written histories) refl
 
 pub lasts-hold : lasts ≡ (hex "20" ∷ hex "30" ∷ [])
-lasts-hold = lists-eq lasts (hex "20" ∷ hex "30" ∷ []) tt
+lasts-hold = lists-eq lasts (hex "20" ∷ hex "30" ∷ []) refl
 
 pub rounds-hold : rounds ≡ (hex "20" ∷ hex "10" ∷ hex "20" ∷ [])
-rounds-hold = lists-eq rounds (hex "20" ∷ hex "10" ∷ hex "20" ∷ []) tt
+rounds-hold = lists-eq rounds (hex "20" ∷ hex "10" ∷ hex "20" ∷ []) refl

@@ -18,11 +18,11 @@ use Rattle.document.proofs.Rows.{holds-eq, lists-eq}
 
 pub pairs-hold : map stepByStep (pairRows faultyMessages) ≡ map saidBy (pairRows faultyMessages)
 unfolding faultyMessages heard answerOnWire serviceOf planIn mayBeWritten refusal answered
-pairs-hold = holds-eq (map stepByStep (pairRows faultyMessages)) (map saidBy (pairRows faultyMessages)) tt
+pairs-hold = holds-eq (map stepByStep (pairRows faultyMessages)) (map saidBy (pairRows faultyMessages)) refl
 
 pub faults-apply : map faultsOf faultyMessages ≡ map (λ (f : Faulty). f .faults) faultyMessages
 unfolding faultyMessages heard answerOnWire serviceOf planIn mayBeWritten refusal answered
-faults-apply = lists-eq (map faultsOf faultyMessages) (map (λ (f : Faulty). f .faults) faultyMessages) tt
+faults-apply = lists-eq (map faultsOf faultyMessages) (map (λ (f : Faulty). f .faults) faultyMessages) refl
 
 pub order-written : order ≡ hex "82 83 81 88 87 85 86 84 89"
 order-written = refl

@@ -1,9 +1,9 @@
 -- The rows hold of the definitions: all of them by one computation. It is a test of numbers, which is fast where the
 -- comparison of two terms is not, and the test's truth is their equality.
-use mathlib.Core.Path.{_≡_, refl, ap}
-use mathlib.Core.Bool.{Bool, true, false, _&&_}
-use mathlib.Core.List.{List, [], _∷_, _++_, map}
-use Prim.Native.Nat.{ℕ}
+use mathlib.Core.Path.{_≡_, refl}
+use mathlib.Core.Bool.{Bool, true, false, cond, _&&_}
+use mathlib.Core.List.{List, [], _∷_, _++_, map, cons≢nil}
+use Prim.Native.Nat.{ℕ, suc}
 use lib.Dec.{T, eqb, eqb→eq}
 use Rattle.document.specs.Services.{serviceOf}
 use Rattle.document.specs.Message.{heard, finishedBy}
@@ -23,11 +23,11 @@ use Rattle.document.specs.ScopeRows.{scopeRows}
 use Rattle.document.specs.SetupRows.{setupRows}
 use Rattle.document.specs.RecorderRows.{recorderRows}
 use Rattle.document.specs.TriggerRows.{triggerRows}
-use Rattle.document.specs.EdgeRows.{Edge, firesAt, edges}
+use Rattle.document.specs.EdgeRows.{Edge, firesAt, edges, complements, complementsWritten}
 
 -- ---- the test
 
-abbrev pub same : {A : Type 0} → (A → A → Bool) → List A → List A → Bool
+abbrev same : {A : Type 0} → (A → A → Bool) → List A → List A → Bool
 same one [] [] = true
 same one [] (y ∷ ys) = false
 same one (x ∷ xs) [] = false
@@ -48,14 +48,37 @@ same-eq one eq (x ∷ xs) [] h = absurd h
 same-eq one eq (x ∷ xs) (y ∷ ys) h =
     λ i. eq x y (left (one x y) (same one xs ys) h) i ∷ same-eq one eq xs ys (right (one x y) (same one xs ys) h) i
 
-abbrev pub holds : List (List (List ℕ)) → List (List (List ℕ)) → Bool
-holds given said = same (same (same eqb)) given said
+-- the numbers of the rows that differ, the first of them n: what the prover prints where a row does not hold
+abbrev differing : {A : Type 0} → (A → A → Bool) → ℕ → List A → List A → List ℕ
+differing one n [] [] = []
+differing one n [] (y ∷ ys) = n ∷ []
+differing one n (x ∷ xs) [] = n ∷ []
+differing one n (x ∷ xs) (y ∷ ys) = cond (one x y) (differing one (suc n) xs ys) (n ∷ differing one (suc n) xs ys)
 
-pub holds-eq : (given said : List (List (List ℕ))) → T (holds given said) → given ≡ said
-holds-eq given said h = same-eq (same (same eqb)) (same-eq (same eqb) (same-eq eqb eqb→eq)) given said h
+agreed : (b : Bool) (n : ℕ) (ns : List ℕ) → cond b ns (n ∷ ns) ≡ [] → T b × (ns ≡ [])
+agreed true n ns e = (tt, e)
+agreed false n ns e = absurd (cons≢nil e)
 
-pub lists-eq : (given said : List (List ℕ)) → T (same (same eqb) given said) → given ≡ said
-lists-eq given said h = same-eq (same eqb) (same-eq eqb eqb→eq) given said h
+none-differs : {A : Type 0} (one : A → A → Bool) → ((x y : A) → T (one x y) → x ≡ y) → (n : ℕ) (xs ys : List A) → differing one n xs ys ≡ [] → xs ≡ ys
+none-differs one eq n [] [] e = refl
+none-differs one eq n [] (y ∷ ys) e = absurd (cons≢nil e)
+none-differs one eq n (x ∷ xs) [] e = absurd (cons≢nil e)
+none-differs one eq n (x ∷ xs) (y ∷ ys) e =
+    let both : T (one x y) × (differing one (suc n) xs ys ≡ []) = agreed (one x y) n (differing one (suc n) xs ys) e in
+    λ i. eq x y (both .0) i ∷ none-differs one eq (suc n) xs ys (both .1) i
+
+-- of rows that are lists of bytes, and of rows that are lists of answers
+abbrev pub unlike : List (List ℕ) → List (List ℕ) → List ℕ
+unlike given said = differing (same eqb) 0 given said
+
+abbrev pub unanswered : List (List (List ℕ)) → List (List (List ℕ)) → List ℕ
+unanswered given said = differing (same (same eqb)) 0 given said
+
+pub lists-eq : (given said : List (List ℕ)) → unlike given said ≡ [] → given ≡ said
+lists-eq given said e = none-differs (same eqb) (same-eq eqb eqb→eq) 0 given said e
+
+pub holds-eq : (given said : List (List (List ℕ))) → unanswered given said ≡ [] → given ≡ said
+holds-eq given said e = none-differs (same (same eqb)) (same-eq (same eqb) (same-eq eqb eqb→eq)) 0 given said e
 
 -- ---- the table
 
@@ -73,8 +96,11 @@ said = map saidBy lineRows ++ map saidBy rows
 
 pub rows-hold : given ≡ said
 unfolding lineRows readRows writeRows scopeRows setupRows recorderRows triggerRows answerOnWire heard finishedBy serviceOf mayBeWritten refusal answered planIn fires ranTick memoryAfterTick beside
-rows-hold = holds-eq given said tt
+rows-hold = holds-eq given said refl
 
 pub edges-hold : map firesAt edges ≡ map (λ (e : Edge). e .fires) edges
 unfolding edges fires
 edges-hold = refl
+
+pub complements-hold : complements ≡ complementsWritten
+complements-hold = refl

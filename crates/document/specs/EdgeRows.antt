@@ -4,7 +4,9 @@ use mathlib.Core.Bool.{Bool, true, false}
 use mathlib.Core.List.{List, [], _∷_, _++_}
 use Prim.Native.Nat.{ℕ}
 use Prim.Native.String.{String}
+use lib.IntN.{ℤ, pos, negsuc}
 use Rattle.document.specs.Hex.{hex}
+use Rattle.document.specs.Values.{twosComplement}
 use Rattle.document.specs.Plan.{Trigger, triggerIn}
 use Rattle.document.specs.Trigger.{triggerValue, fires}
 
@@ -67,3 +69,19 @@ edges =
     ∷ edge "00" "01 00 80000000" "7F" "80" false
     ∷ edge "00" "01 00 80000000" "81" "80" false
     ∷ []
+
+-- "two's complement": 0x7F, 0x80 and 0xFF in one byte, then 0x80 and the last number in two and in four
+abbrev pub complements : List ℤ
+complements =
+    twosComplement 1 0x7F
+    ∷ twosComplement 1 0x80
+    ∷ twosComplement 1 0xFF
+    ∷ twosComplement 2 0x80
+    ∷ twosComplement 2 0xFFFF
+    ∷ twosComplement 4 0x80
+    ∷ twosComplement 4 0xFFFFFFFF
+    ∷ []
+
+-- -128 is `negsuc 127`, and -1 `negsuc 0`
+abbrev pub complementsWritten : List ℤ
+complementsWritten = pos 127 ∷ negsuc 127 ∷ negsuc 0 ∷ pos 128 ∷ negsuc 0 ∷ pos 128 ∷ negsuc 0 ∷ []

@@ -8,6 +8,8 @@ unfoldable pub lineRows : List Row
 lineRows =
     -- "Literals outside a message are dropped.": before a message, and behind its sum byte
     (hears (hex "00 C8 38 2B C8 38 C8 38 2B C8 38") (hex "2B 00 03 00 01 01 00 40 BB" ∷ hex "2B 00 03 00 01 01 00 40 BB" ∷ []) ∷ [])
+    -- what happens beside the line leaves a message whole
+    ∷ (hears (hex "2B D0 10") [] ∷ puts 16 "7F" ∷ hears (hex "00 20") (hex "2B 00 7F 81" ∷ []) ∷ [])
     -- "A last 0x2B without a follower waits.", also behind a whole message
     ∷ (hears (hex "2B C8 38 2B") (hex "2B 00 03 00 01 01 00 40 BB" ∷ []) ∷ hears (hex "D0 10 00 20") (hex "2B 00 00 00" ∷ []) ∷ [])
     -- a sum byte of 0x2B is doubled, and the answer comes with its last wire byte; a third 0x2B is another start
