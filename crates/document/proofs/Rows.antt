@@ -16,7 +16,7 @@ use Rattle.document.specs.Refusals.{refusal}
 use Rattle.document.specs.Commands.{answered}
 use Rattle.document.specs.Asides.{beside}
 use Rattle.document.specs.Rows.{Row, saidBy, byteByByte, stepByStep}
-use Rattle.document.specs.LineRows.{lineRows}
+use Rattle.document.specs.LineRows.{lineRows, pairedBytes, tokens}
 use Rattle.document.specs.ReadRows.{readRows}
 use Rattle.document.specs.WriteRows.{writeRows}
 use Rattle.document.specs.ScopeRows.{scopeRows}
@@ -104,3 +104,6 @@ edges-hold = refl
 
 pub complements-hold : complements ≡ complementsWritten
 complements-hold = refl
+
+pub tokens-hold : pairedBytes ≡ tokens
+tokens-hold = refl
