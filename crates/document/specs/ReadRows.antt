@@ -15,15 +15,15 @@ readRows =
     -- all four bytes of an address count
     ∷ (asks "E0 10000100" "89" ∷ asks "E1 10000001" "89" ∷ asks "E2 10400000" "89" ∷ asks "04 05 01 10000100" "89" ∷ [])
     -- the last byte is 16,383
-    ∷ (puts 16380 "11 22 33 44" ∷ asks "D2 FC3F" "00 11223344" ∷ [])
+    ∷ (puts 16383 "44" ∷ asks "D2 FC3F" "00 000000 44" ∷ [])
     ∷ (asks "D0 0040" "89" ∷ asks "D1 FF3F" "89" ∷ asks "D2 FD3F" "89" ∷ asks "D0 FFFF" "89" ∷ [])
     ∷ (asks "E0 00400000" "89" ∷ asks "E1 FF3F0000" "89" ∷ asks "E2 FD3F0000" "89" ∷ [])
     -- "size, address: read", across the ends of areas
-    ∷ (puts 8190 "A1 A2 A3 A4" ∷ asks "01 03 04 FE1F" "00 A1A2A3A4" ∷ [])
+    ∷ (puts 8191 "A1 A2" ∷ asks "01 03 02 FF1F" "00 A1A2" ∷ [])
     ∷ (puts 12287 "B1 B2" ∷ asks "01 03 02 FF2F" "00 B1B2" ∷ [])
     ∷ (puts 16 "11 22 33 44 55" ∷ asks "04 05 03 11000000" "00 223344" ∷ asks "04 05 02 FF3F0000" "89" ∷ [])
     -- 64 bytes are read up to the memory's end, 65 nowhere
-    ∷ (puts 16320 "11 22" ∷ sends (hex "01 03 40 C03F") (hex "00 11 22" ++ replicate 62 0) ∷ asks "01 03 40 C13F" "89" ∷ [])
+    ∷ (sends (hex "01 03 40 C03F") (replicate 65 0) ∷ asks "01 03 40 C13F" "89" ∷ [])
     ∷ (asks "01 03 41 1000" "84" ∷ asks "04 05 41 10000000" "84" ∷ asks "04 05 FF 10000000" "84" ∷ [])
     -- "a data length that is not the one its fields give"; "a size of 0"
     ∷ (asks "01 02 01 10" "85" ∷ asks "01 04 01 1000 00" "85" ∷ asks "01 00" "85" ∷ asks "01 03 00 1000" "86" ∷ [])

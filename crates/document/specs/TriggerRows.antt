@@ -27,7 +27,7 @@ triggerRows =
     -- "the value at the previous set", not at the previous tick
     ∷ (runs "0000" "0100" ∷ passes "90 10 91" ∷ asks "C3" "01" ∷ [])
     -- a start forgets the trigger
-    ∷ (runs "0100" "0000" ∷ passes "10 90 91" ∷ asks "C1" "00" ∷ passes "92 93" ∷ asks "C3" "01" ∷ [])
+    ∷ (runs "0000" "0000" ∷ passes "10 90" ∷ asks "C1" "00" ∷ passes "91 92" ∷ asks "C3" "01" ∷ [])
     -- one that changes nothing forgets neither the trigger nor the value before it
     ∷ (runs "0100" "0000" ∷ passes "10" ∷ asks "C1" "01" ∷ passes "90" ∷ asks "C1" "01" ∷ passes "91" ∷ asks "C3" "02" ∷ [])
     -- "Unless a stop comes sooner"
