@@ -13,19 +13,15 @@ unfoldable pub recorderRows : List Row
 recorderRows =
     -- "with no accepted recorder setup since reset"; a tick then does nothing
     (asks "C1" "88" ∷ asks "C2" "88" ∷ asks "C3" "88" ∷ asks "C4" "88" ∷ asks "C9" "88" ∷ ticks 1 ∷ asks "C3" "88" ∷ [])
-    -- "Set k since the start goes to place k modulo 'samples'"; "A tick changes only that place."
-    ∷ (twoPlaces ∷ passes "A1 A2 A3" ∷ asks "D2 FF2F" "00 00 A3A2 00" ∷ [])
     -- "The start index is 0 until 'samples' sets are taken, then the place that would be written next."
     ∷ (twoPlaces ∷ passes "A1" ∷ asks "C2" "00" ∷ asks "C4" "00 0030 0000" ∷ [])
     ∷ (twoPlaces ∷ passes "A1 A2" ∷ asks "C2" "00" ∷ asks "C4" "00 0030 0000" ∷ [])
-    ∷ (twoPlaces ∷ passes "A1 A2 A3" ∷ asks "C2" "00" ∷ asks "C4" "00 0030 0100" ∷ asks "C9" "00 00300000 0100" ∷ [])
-    -- a start after a stop begins anew, at place 0
-    ∷ (twoPlaces ∷ passes "A1 A2 A3" ∷ asks "C2" "00" ∷ asks "C1" "00" ∷ asks "C3" "01" ∷ passes "B1" ∷ asks "D1 0030" "00 B1A2" ∷ asks "C2" "00" ∷ asks "C4" "00 0030 0000" ∷ [])
-    -- "running answers 0x01", and nothing else changes
-    ∷ (twoPlaces ∷ passes "A1" ∷ asks "C1" "01" ∷ asks "C3" "01" ∷ passes "A2" ∷ asks "D1 0030" "00 A1A2" ∷ [])
+    -- "Set k since the start goes to place k modulo 'samples'"; "A tick changes only that place."; a start after a stop begins
+    -- anew, at place 0
+    ∷ (twoPlaces ∷ passes "A1 A2 A3" ∷ asks "C2" "00" ∷ asks "D2 FF2F" "00 00 A3A2 00" ∷ asks "C4" "00 0030 0100" ∷ asks "C9" "00 00300000 0100" ∷ asks "C1" "00" ∷ asks "C3" "01" ∷ passes "B1" ∷ asks "D1 0030" "00 B1A2" ∷ asks "C2" "00" ∷ asks "C4" "00 0030 0000" ∷ [])
     -- "stopped answers 0x02"; "A stopped recorder does nothing at it."
     ∷ (twoPlaces ∷ passes "A1" ∷ asks "C2" "00" ∷ asks "C2" "02" ∷ passes "A2" ∷ asks "C3" "02" ∷ asks "D1 0030" "00 A100" ∷ [])
-    -- "After a start the first tick takes a set, then every (time divider + 1)th.", whatever is asked between them
+    -- "After a start the first tick takes a set, then every (time divider + 1)th."; "running answers 0x01", and nothing changes
     ∷ (everyThird ∷ passes "A1 A2" ∷ asks "C1" "01" ∷ passes "A3 A4 A5 A6 A7" ∷ asks "D1 0030" "00 A7A4" ∷ [])
     ∷ (everyThird ∷ passes "A1 A2" ∷ asks "C2" "00" ∷ asks "C1" "00" ∷ passes "A3" ∷ asks "D1 0030" "00 A300" ∷ [])
     -- "bytes copied in the order of the definitions", "12,288 + p × set size"
@@ -34,5 +30,5 @@ recorderRows =
     ∷ (twoPlaces ∷ asks "C2" "00" ∷ asks "09 13 00 0000 0000 0000 0000 00 00 00000000 01 01 1000" "86" ∷ asks "C3" "02" ∷ asks "C1" "00" ∷ passes "A1" ∷ asks "D1 0030" "00 A100" ∷ [])
     ∷ (twoPlaces ∷ asks "C2" "00" ∷ asks "0B 17 00 0100 0000 0000 00000000 00 00 00000000 01 01 10000000" "00" ∷ passes "A1 A2" ∷ asks "D1 0030" "00 A200" ∷ [])
     -- a write, a scope and a recorder do not touch each other
-    ∷ (asks "08 04 01 01 1100" "00" ∷ twoPlaces ∷ asks "E3 1100 05 00" "00" ∷ passes "A1" ∷ asks "C5" "00 05" ∷ asks "08 04 01 01 1000" "00" ∷ passes "A2" ∷ asks "C5" "00 A2" ∷ asks "D1 0030" "00 A1A2" ∷ [])
+    ∷ (asks "08 04 01 01 1100" "00" ∷ twoPlaces ∷ asks "E3 1100 05 00" "00" ∷ asks "C5" "00 05" ∷ asks "C3" "01" ∷ asks "08 04 01 01 1000" "00" ∷ asks "C3" "01" ∷ asks "D0 1100" "00 05" ∷ [])
     ∷ []

@@ -90,7 +90,7 @@ happeningsOf (s ∷ ss) = map byte (s .bytes) ++ map aside (s .asides) ++ happen
 abbrev pub byteByByte : Row → List (List ℕ)
 byteByByte row = map answerOnWire (afterAll (fromReset (fresh zeros)) (happeningsOf row) .answers)
 
--- ---- and, which is the same but quicker to compute, with each message heard by itself
+-- ---- and step by step: the messages of a step heard by themselves, which is quicker to compute
 
 abbrev toldEach : Since → List Message → Since
 toldEach s [] = s
