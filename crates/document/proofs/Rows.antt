@@ -48,7 +48,8 @@ same-eq one eq (x ∷ xs) [] h = absurd h
 same-eq one eq (x ∷ xs) (y ∷ ys) h =
     λ i. eq x y (left (one x y) (same one xs ys) h) i ∷ same-eq one eq xs ys (right (one x y) (same one xs ys) h) i
 
--- the numbers of the rows that differ, the first of them n: what the prover prints where a row does not hold
+-- the numbers of the rows that differ, the first row being n. To find one that does not hold, cut `rows` below short: the
+-- prover prints the numbers of a short table alone
 abbrev differing : {A : Type 0} → (A → A → Bool) → ℕ → List A → List A → List ℕ
 differing one n [] [] = []
 differing one n [] (y ∷ ys) = n ∷ []
