@@ -38,3 +38,19 @@ pub mod Asides
 pub mod Happenings
 pub mod Staples
 pub mod Further
+-- the rows behind the staples: how they are written, then by subject
+pub mod Hex
+pub mod Rows
+pub mod LineRows
+pub mod RefusalPairs
+pub mod CallRows
+pub mod ReaderRows
+pub mod KindRows
+pub mod ReadRows
+pub mod WriteRows
+pub mod ScopeRows
+pub mod SetupRows
+pub mod RecorderRows
+pub mod EdgeRows
+pub mod TriggerRows
+pub mod SetRows
