@@ -1,4 +1,4 @@
--- Document 01 as definitions, in its order. A reader must believe these files and nothing else.
+-- Document 01 as definitions, in its order, and rows that are proved of them. docs/PROMISES.md lists what else a reader must believe.
 
 -- "What the build holds"
 pub mod Bytes
