@@ -9,3 +9,4 @@ pub mod Refused
 pub mod Rows
 pub mod Staples
 pub mod Values
+pub mod Table
