@@ -58,7 +58,7 @@ static void tick(void)
 
 static void write_command(void)
 {
-    log_gate_write_command(0x02, memory, 64, message.wire, sizeof message.wire);
+    log_gate_write_command(LOG_GATE_WRITE_BYTES, memory, 64, message.wire, sizeof message.wire);
 }
 
 static void write_answer(void)
@@ -105,13 +105,13 @@ static size_t add_variables(uint8_t *bytes, unsigned count)
 static void form_recorder(struct message *m, unsigned variables, uint16_t divider)
 {
     uint8_t bytes[64] = {1, 16, 0, 0, 0, (uint8_t)divider, (uint8_t)(divider >> 8), 16, 0, 2, 0, 0, 0x70, 0, 0};
-    form(m, 0x09, bytes, 15 + add_variables(bytes + 15, variables));
+    form(m, LOG_GATE_SET_UP_RECORDER, bytes, 15 + add_variables(bytes + 15, variables));
 }
 
 static void form_scope(struct message *m)
 {
     uint8_t bytes[64];
-    form(m, 0x08, bytes, add_variables(bytes, 8));
+    form(m, LOG_GATE_SET_UP_SCOPE, bytes, add_variables(bytes, 8));
 }
 
 static void start_recorder(unsigned variables, uint16_t divider)
@@ -127,14 +127,14 @@ static void set_up_all(void)
     form_scope(&m);
     expect_done(&m);
     start_recorder(8, 0);
-    form(&m, 0xC2, data, 0);
+    form(&m, LOG_GATE_STOP_RECORDER, data, 0);
     expect_done(&m);
 }
 
 static void prepare_long(void)
 {
     uint8_t bytes[64] = {61, 64, 0};
-    form(&message, 0x02, bytes, 64);
+    form(&message, LOG_GATE_WRITE_BYTES, bytes, 64);
     expect_done(&message);
 }
 
@@ -146,7 +146,7 @@ static void prepare_long_set_up(void)
 
 static void prepare_read(void)
 {
-    form(&message, 0xD0, (uint8_t[]){16, 0}, 2);
+    form(&message, LOG_GATE_READ_1, (uint8_t[]){16, 0}, 2);
     expect_done(&message);
 }
 
@@ -158,47 +158,47 @@ static void prepare_read_set_up(void)
 
 static void prepare_describe(void)
 {
-    form(&message, 0xC8, data, 0);
+    form(&message, LOG_GATE_DESCRIBE_BRIEFLY, data, 0);
     expect_done(&message);
 }
 
 static void prepare_masked(void)
 {
-    form(&message, 0xE5, (uint8_t[]){16, 0, 0xF0, 0x3C}, 4);
+    form(&message, LOG_GATE_WRITE_1_MASKED, (uint8_t[]){16, 0, 0xF0, 0x3C}, 4);
     expect_done(&message);
 }
 
 static void prepare_block_read(void)
 {
-    form(&message, 0x01, (uint8_t[]){64, 64, 0}, 3);
+    form(&message, LOG_GATE_READ_BYTES, (uint8_t[]){64, 64, 0}, 3);
     expect_done(&message);
 }
 
 static void prepare_block_write(void)
 {
     uint8_t bytes[62] = {59, 64, 0};
-    form(&message, 0x02, bytes, 62);
+    form(&message, LOG_GATE_WRITE_BYTES, bytes, 62);
     expect_done(&message);
 }
 
 static void prepare_scope(void)
 {
     set_up_all();
-    form(&message, 0xC5, data, 0);
+    form(&message, LOG_GATE_READ_SCOPE, data, 0);
     expect_done(&message);
 }
 
 static void prepare_status(void)
 {
     set_up_all();
-    form(&message, 0xC3, data, 0);
+    form(&message, LOG_GATE_RECORDER_STATUS, data, 0);
     expect_done(&message);
 }
 
 static void prepare_setup(void)
 {
     form_recorder(&message, 8, 0);
-    form(&second, 0xC2, data, 0);
+    form(&second, LOG_GATE_STOP_RECORDER, data, 0);
     expect_done(&message);
     expect_done(&second);
 }
@@ -217,6 +217,16 @@ static void prepare_one(void)
 static void prepare_eight(void)
 {
     start_recorder(8, 0);
+}
+
+/* The longest set there is: eight variables of 255 bytes. */
+static void prepare_longest(void)
+{
+    uint8_t bytes[64] = {1, 2, 0, 0, 0, 0, 0, 16, 0, 2, 0, 0, 0x70, 0, 0, 8};
+    for (unsigned i = 0; i < 8; i++)
+        memcpy(bytes + 16 + 3 * i, (uint8_t[]){255, (uint8_t)(16 * i), 1}, 3);
+    form(&message, LOG_GATE_SET_UP_RECORDER, bytes, 40);
+    expect_done(&message);
 }
 
 static void prepare_answer(void)
@@ -251,6 +261,7 @@ static const struct bench_case {
     {"tick-wait", 1, "a tick that waits, recorder of 8", prepare_waiting, tick},
     {"tick-set-1", 1, "a tick with a set of 1 and trigger", prepare_one, tick},
     {"tick-set-8", 1, "a tick with a set of 8 and trigger", prepare_eight, tick},
+    {"tick-set-2040", 1, "a tick with the longest set, 8 of 255", prepare_longest, tick},
     {"write-command", 1, "command writer, 64 data", nothing, write_command},
     {"write-answer", 1, "answer writer, 64 data", nothing, write_answer},
     {"read-answer", 67, "answer reader, a byte of 64 data", prepare_answer, read_answer},

@@ -4,7 +4,7 @@
 #include <stdlib.h>
 
 /* A gate whose target refuses is broken: its state or its memory is not what the target left there. */
-static void expect_taken(uint8_t refusal)
+static void expect_taken(log_gate_result refusal)
 {
     if (refusal == LOG_GATE_TAKEN)
         return;

@@ -35,7 +35,7 @@ static void print_example(struct gate *g, const char *path)
 {
     const uint8_t address[] = {COIL_1, 0};
     uint8_t wire[LOG_GATE_COMMAND_ROOM];
-    log_gate_taken written = log_gate_write_command(0xD1, address, sizeof address, wire, sizeof wire);
+    log_gate_taken written = log_gate_write_command(LOG_GATE_READ_2, address, sizeof address, wire, sizeof wire);
     size_t length = 0;
     for (size_t i = 0; i < written.length; i++)
         length = gate_byte(g, wire[i]);

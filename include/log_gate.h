@@ -1,19 +1,36 @@
 /*
- * The log gate's serial target, for firmware in C. Link liblog_gate.a (./run library builds it).
+ * The log gate's serial target, for firmware in C or C++. Link liblog_gate.a (./run library builds it); of a C library it needs
+ * memcpy alone. docs/PORTING.md says what else it asks of a board.
  *
- * Every call takes anything: whatever the lent bytes hold, it returns, and what it refuses it leaves as it was. Three things no
- * call can check are asked of the caller: pointers are not NULL (a length of 0 does not change that), each points to as
- * many bytes as its length says, and what is lent for writing overlaps nothing else that is lent. A state needs no alignment.
+ * Every call takes anything: whatever the lent bytes hold, it returns, and what it refuses it leaves as it was. Four things no
+ * call can check are asked of the caller:
+ *
+ * - Pointers are not NULL (a length of 0 does not change that).
+ * - Each points to as many bytes as its length says.
+ * - What is lent for writing overlaps nothing else that is lent.
+ * - While a call runs, nobody else touches what it was lent: one call at a time for one state and its memory. Who ticks in an
+ *   interrupt holds it off while log_gate_byte runs; who gives bytes in one, while log_gate_tick runs.
+ *
+ * A state needs no alignment. Calls over different states and memories share nothing.
  */
 #ifndef LOG_GATE_H
 #define LOG_GATE_H
 
+#include <limits.h>
 #include <stddef.h>
 #include <stdint.h>
 
 #ifdef __cplusplus
 extern "C" {
 #endif
+
+/*
+ * The version of this header: the major number counts changes for which a caller must be changed or a kept state is void (a call, a
+ * number, a state's layout), the minor one additions. It counts apart from the protocol's version, 3, and from what 0xC0 answers.
+ */
+#define LOG_GATE_VERSION_MAJOR 1
+#define LOG_GATE_VERSION_MINOR 0
+#define LOG_GATE_VERSION (LOG_GATE_VERSION_MAJOR * 256 + LOG_GATE_VERSION_MINOR)
 
 /* Bytes of a target's state and of an answer reader's state; docs/STATE.md has their layout. More may be lent. */
 #define LOG_GATE_STATE 181u
@@ -29,7 +46,12 @@ extern "C" {
 /* Room that holds every command message: start, command, and 257 bytes that may all be doubled. */
 #define LOG_GATE_COMMAND_ROOM 516u
 
-/* Refusals of calls. A refused call changes no byte it was lent; LOG_GATE_SUM_REFUSED alone takes its byte. */
+/*
+ * What a call says: taken, or why it refuses. A refused call changes no byte it was lent; LOG_GATE_SUM_REFUSED alone takes its
+ * byte, and leaves the reader idle.
+ */
+typedef uint8_t log_gate_result;
+
 enum {
     LOG_GATE_TAKEN = 0,
     LOG_GATE_STATE_REFUSED = 1,    /* a state too short or outside its bounds */
@@ -56,26 +78,62 @@ enum {
     LOG_GATE_RANGE_WRONG = 0x89
 };
 
+/*
+ * The commands that are served, with their data, and what they answer when nothing refuses. Another command gets
+ * LOG_GATE_NOT_SERVED, when its sum and length are right. EX: addresses of 4 bytes instead of 2.
+ */
+enum {
+    LOG_GATE_READ_BYTES = 0x01,         /* size, address */
+    LOG_GATE_WRITE_BYTES = 0x02,        /* size, address, data */
+    LOG_GATE_WRITE_BYTES_MASKED = 0x03, /* size, address, data, as many mask bytes */
+    LOG_GATE_READ_BYTES_EX = 0x04,
+    LOG_GATE_WRITE_BYTES_EX = 0x05,
+    LOG_GATE_WRITE_BYTES_MASKED_EX = 0x06,
+    LOG_GATE_SET_UP_SCOPE = 0x08,    /* count, then size and address each */
+    LOG_GATE_SET_UP_RECORDER = 0x09, /* mode, samples, post-trigger, divider, trigger, then as 0x08; it also starts */
+    LOG_GATE_SET_UP_SCOPE_EX = 0x0A,
+    LOG_GATE_SET_UP_RECORDER_EX = 0x0B,
+    LOG_GATE_DESCRIBE = 0xC0,         /* answers 35 bytes */
+    LOG_GATE_START_RECORDER = 0xC1,   /* answers LOG_GATE_DONE or LOG_GATE_RECORDER_RUNS */
+    LOG_GATE_STOP_RECORDER = 0xC2,    /* answers LOG_GATE_DONE or LOG_GATE_RECORDER_STOPPED */
+    LOG_GATE_RECORDER_STATUS = 0xC3,  /* answers LOG_GATE_RECORDER_RUNS or LOG_GATE_RECORDER_STOPPED */
+    LOG_GATE_QUERY_BUFFER = 0xC4,     /* answers the buffer's address and the start index, 2 bytes each */
+    LOG_GATE_READ_SCOPE = 0xC5,       /* answers the variables' bytes */
+    LOG_GATE_DESCRIBE_BRIEFLY = 0xC8, /* answers 6 bytes */
+    LOG_GATE_QUERY_BUFFER_EX = 0xC9,  /* as 0xC4, with an address of 4 bytes */
+    LOG_GATE_READ_1 = 0xD0,           /* address; so the next five */
+    LOG_GATE_READ_2 = 0xD1,
+    LOG_GATE_READ_4 = 0xD2,
+    LOG_GATE_READ_1_EX = 0xE0,
+    LOG_GATE_READ_2_EX = 0xE1,
+    LOG_GATE_READ_4_EX = 0xE2,
+    LOG_GATE_WRITE_1 = 0xE3,        /* address, value, and a fourth byte that is ignored */
+    LOG_GATE_WRITE_2 = 0xE4,        /* address, value */
+    LOG_GATE_WRITE_1_MASKED = 0xE5, /* address, value, mask */
+    LOG_GATE_WRITE_4 = 0xF0,        /* address, value */
+    LOG_GATE_WRITE_2_MASKED = 0xF1  /* address, value, mask */
+};
+
 /* ---- the target */
 
 /* A refusal or LOG_GATE_TAKEN, and how many bytes of the lent buffer are an answer to be sent; 0 is none. */
 typedef struct {
-    uint8_t refusal;
+    log_gate_result refusal;
     size_t length;
 } log_gate_taken;
 
 /* Reset: an idle link, and nothing set up. Refuses a state that is too short. */
-uint8_t log_gate_reset(uint8_t *state, size_t state_length);
+log_gate_result log_gate_reset(uint8_t *state, size_t state_length);
 
-/* Whether the other calls would take this state: LOG_GATE_TAKEN or LOG_GATE_STATE_REFUSED. */
-uint8_t log_gate_check(const uint8_t *state, size_t state_length);
+/* Whether a byte and a tick would take this state: LOG_GATE_TAKEN or LOG_GATE_STATE_REFUSED. */
+log_gate_result log_gate_check(const uint8_t *state, size_t state_length);
 
 /* A byte came over the port. */
 log_gate_taken log_gate_byte(uint8_t *state, size_t state_length, uint8_t byte, uint8_t *memory, size_t memory_length,
                              uint8_t *answer, size_t answer_length);
 
 /* A tick, each millisecond. */
-uint8_t log_gate_tick(uint8_t *state, size_t state_length, uint8_t *memory, size_t memory_length);
+log_gate_result log_gate_tick(uint8_t *state, size_t state_length, uint8_t *memory, size_t memory_length);
 
 /* ---- both ends of the line */
 
@@ -88,17 +146,36 @@ log_gate_taken log_gate_write_command(uint8_t command, const uint8_t *data, size
 
 /* What a byte of an answer brought: with `whole` 1, the status, and how many bytes of the lent buffer are its data. */
 typedef struct {
-    uint8_t refusal;
+    log_gate_result refusal;
     uint8_t whole;
     uint8_t status;
     uint8_t length;
 } log_gate_read;
 
 /* A reading begins: answers with a clear top bit carry so many data. The reader may hold anything before. */
-uint8_t log_gate_reader_begin(uint8_t *reader, size_t reader_length, size_t expected);
+log_gate_result log_gate_reader_begin(uint8_t *reader, size_t reader_length, size_t expected);
 
 /* A byte came from the target. Needs LOG_GATE_DATA_ROOM, and writes it only with a whole right answer. */
 log_gate_read log_gate_reader_byte(uint8_t *reader, size_t reader_length, uint8_t byte, uint8_t *data, size_t data_length);
+
+/* ---- how the library lays out what it returns, and how wide a length is there; looked at where the language can */
+
+#if defined __cplusplus && __cplusplus >= 201103L
+#define LOG_GATE_ASSERT(holds, what) static_assert(holds, what)
+#elif !defined __cplusplus && defined __STDC_VERSION__ && __STDC_VERSION__ >= 201112L
+#define LOG_GATE_ASSERT(holds, what) _Static_assert(holds, what)
+#endif
+
+#ifdef LOG_GATE_ASSERT
+LOG_GATE_ASSERT(CHAR_BIT == 8, "a byte has 8 bits");
+LOG_GATE_ASSERT(sizeof(log_gate_taken) == 2 * sizeof(size_t), "log_gate_taken is two words");
+LOG_GATE_ASSERT(offsetof(log_gate_taken, length) == sizeof(size_t), "its length is the second");
+LOG_GATE_ASSERT(sizeof(log_gate_read) == 4, "log_gate_read is four bytes");
+#ifdef __x86_64__
+LOG_GATE_ASSERT(sizeof(size_t) == 8 && sizeof(void *) == 8, "lengths and pointers have 64 bits in the library");
+#endif
+#undef LOG_GATE_ASSERT
+#endif
 
 #ifdef __cplusplus
 }

@@ -32,6 +32,9 @@ enum call { RESET, CHECK, BYTE, TICK, WRITE_ANSWER, WRITE_COMMAND, READER_BEGIN,
 
 static const char *const names[CALLS] = {"reset",        "check",         "byte",         "tick",
                                          "write_answer", "write_command", "reader_begin", "reader_byte"};
+
+/* The refusals each call can give, 0 for none. Each of them has to come, and no other. */
+static const char *const reachable[CALLS] = {"01", "01", "0123", "012", "034", "034", "015", "0136"};
 static uint64_t counts[CALLS][7], answers[256];
 static uint64_t digest = 14695981039346656037ull;
 
@@ -293,7 +296,7 @@ static void throw_write_command(void)
 {
     struct message m = random_message();
     if (one_in(16))
-        m.command = one_in(2) ? 0x2B : 0xD0;
+        m.command = one_in(2) ? 0x2B : LOG_GATE_READ_1;
     int standard = m.command < 0xC0;
     int formed = m.command != 0x2B && (m.command < 0xC0 || m.length == (m.command >> 4 & 3) * 2u);
     uint8_t first = (uint8_t)(m.command + (standard ? m.length : 0));
@@ -330,8 +333,8 @@ static uint8_t next_answer_byte(void)
         size_t length = live_reader[3] <= 64 ? live_reader[3] : 0;
         random_fill(data, sizeof data);
         at = 0;
-        end = one_in(4) ? log_gate_write_answer(0x89, data, 0, answer, sizeof answer).length
-                        : log_gate_write_answer(0x00, data, length, answer, sizeof answer).length;
+        end = one_in(4) ? log_gate_write_answer(LOG_GATE_RANGE_WRONG, data, 0, answer, sizeof answer).length
+                        : log_gate_write_answer(LOG_GATE_DONE, data, length, answer, sizeof answer).length;
     }
     uint8_t byte = answer[at++];
     return one_in(100) ? random_byte() : byte;
@@ -395,7 +398,7 @@ static void throw_one(void)
         throw_reader_begin();
 }
 
-static void report(void)
+static void report_counts(void)
 {
     printf("call           taken     1     2     3     4     5     6\n");
     for (int call = 0; call < CALLS; call++) {
@@ -408,8 +411,19 @@ static void report(void)
     for (int status = 0; status < 256; status++)
         if (answers[status] > 0)
             printf(", %02X %llu", (unsigned)status, (unsigned long long)answers[status]);
-    printf("\nfuzz: seed %llu, %llu rounds, none wrong, digest %016llx\n", (unsigned long long)seed,
-           (unsigned long long)rounds, (unsigned long long)digest);
+    printf("\n");
+}
+
+/* After few rounds something may not have come yet; the rounds of a run without words are enough for any seed. */
+static void look_at_counts(void)
+{
+    char what[80];
+    for (int call = 0; call < CALLS; call++)
+        for (int refusal = 0; refusal < 7; refusal++) {
+            int can_come = strchr(reachable[call], '0' + refusal) != NULL, came = counts[call][refusal] > 0;
+            snprintf(what, sizeof what, "%s, refusal %d: it %s", names[call], refusal, came ? "cannot come" : "never came");
+            expect(can_come == came, what);
+        }
 }
 
 int main(int argc, char **argv)
@@ -426,6 +440,9 @@ int main(int argc, char **argv)
         if (current % (rounds / SWEEPS + 1) == 0)
             sweep();
     }
-    report();
+    report_counts();
+    look_at_counts();
+    printf("fuzz: seed %llu, %llu rounds, none wrong, digest %016llx\n", (unsigned long long)seed, (unsigned long long)rounds,
+           (unsigned long long)digest);
     return 0;
 }

@@ -86,7 +86,7 @@ static unsigned word(const uint8_t *bytes)
 static unsigned read_word(unsigned address)
 {
     const uint8_t body[] = {(uint8_t)address, (uint8_t)(address >> 8)};
-    expect(ask(0xD1, body, sizeof body, 2) == LOG_GATE_DONE, "two bytes can be read");
+    expect(ask(LOG_GATE_READ_2, body, sizeof body, 2) == LOG_GATE_DONE, "two bytes can be read");
     return word(data);
 }
 
@@ -98,7 +98,7 @@ static unsigned read_byte(unsigned address)
 static void write_word(unsigned address, unsigned value)
 {
     const uint8_t body[] = {(uint8_t)address, (uint8_t)(address >> 8), (uint8_t)value, (uint8_t)(value >> 8)};
-    expect(ask(0xE4, body, sizeof body, 0) == LOG_GATE_DONE, "two bytes can be written");
+    expect(ask(LOG_GATE_WRITE_2, body, sizeof body, 0) == LOG_GATE_DONE, "two bytes can be written");
 }
 
 /* ---- the scene */
@@ -135,13 +135,14 @@ static void test_recorder(void)
 {
     const uint8_t setup[] = {1, SAMPLES, 0, POST_TRIGGER, 0, 0, 0, COIL_1, 0, 2, 0, EDGE % 256, EDGE / 256, 0, 0, 1, 2, COIL_1, 0};
     const uint8_t whole_buffer[] = {SAMPLES * 2, BUFFER % 256, BUFFER / 256};
-    expect(ask(0x09, setup, sizeof setup, 0) == LOG_GATE_DONE, "the recorder can be set up");
+    expect(ask(LOG_GATE_SET_UP_RECORDER, setup, sizeof setup, 0) == LOG_GATE_DONE, "the recorder can be set up");
     int tries = 0;
-    while (ask(0xC3, setup, 0, 0) == LOG_GATE_RECORDER_RUNS && tries++ < TRIES)
+    while (ask(LOG_GATE_RECORDER_STATUS, setup, 0, 0) == LOG_GATE_RECORDER_RUNS && tries++ < TRIES)
         pause_a_little();
-    expect(ask(0xC4, setup, 0, 4) == LOG_GATE_DONE && word(data) == BUFFER, "the recorder has stopped at metal");
+    uint8_t queried = ask(LOG_GATE_QUERY_BUFFER, setup, 0, 4);
+    expect(queried == LOG_GATE_DONE && word(data) == BUFFER, "the recorder has stopped at metal");
     unsigned start = word(data + 2);
-    expect(ask(0x01, whole_buffer, sizeof whole_buffer, SAMPLES * 2) == LOG_GATE_DONE, "the buffer can be read");
+    expect(ask(LOG_GATE_READ_BYTES, whole_buffer, sizeof whole_buffer, SAMPLES * 2) == LOG_GATE_DONE, "the buffer can be read");
     unsigned readings[SAMPLES];
     for (unsigned i = 0; i < SAMPLES; i++)
         readings[i] = word(data + 2 * ((start + i) % SAMPLES));

@@ -28,8 +28,20 @@ fail() {
     exit 1
 }
 
-. tests/usage.sh
-. tests/calls.sh
-. tests/scripts.sh
-. tests/port.sh
-echo "tests/run.sh: all passed"
+# part NAME: the tests of tests/NAME.sh, which use what is above and what the parts before them left.
+part() {
+    began=$(date +%s)
+    . "tests/$1.sh"
+    times="$times, $1 $(($(date +%s) - began)) s"
+}
+
+times=
+part usage
+part header
+part calls
+part scripts
+part wrong
+part port
+echo "tests/run.sh: compared $compared bytes of $played scripts and their answers: second/, the proved player, the archive and the plain C give the same"
+echo "tests/run.sh: compared the fuzzing loop's answers, states and memory: the archive and the plain C give the same"
+echo "tests/run.sh: all passed (${times#, })"

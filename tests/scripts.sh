@@ -1,16 +1,27 @@
-# Scripts, played by the proved player, through the archive, and by the independent implementation: the outputs must be the same.
+# Scripts, played by the independent implementation, by the proved player, and over the C calls through the proved archive and through
+# the plain C of the benchmark: the outputs must be the same.
 need cargo cargo
 build play tests/play.c "$archive"
+build play-plain tests/play.c benchmark/plain/log_gate.c
 cargo build --quiet --release --offline --manifest-path second/Cargo.toml
 second=second/target/release/second
 
-# same SCRIPT NAME: all three play it, and say the same.
+# Every script is kept under the name by which it is spoken of; $scripts is the list of them.
+rm -rf $built/scripts
+mkdir $built/scripts
+scripts=
+played=0
+compared=0
+
+# same SCRIPT: all play it, and say the same.
 same() {
     $second play "$1" >$built/expected
-    for player in "$proved" $built/play; do
-        $RUN_X86 "$player" <"$1" >$built/played || fail "$2 is not played to its end by $player"
-        $second compare $built/expected $built/played >$built/compared || { cat $built/compared; fail "$2, played by $player"; }
+    for player in "$proved" $built/play $built/play-plain; do
+        $RUN_X86 "$player" <"$1" >$built/played || fail "$1 is not played to its end by $player"
+        cmp -s $built/expected $built/played || { $second compare $built/expected $built/played; fail "$1, played by $player"; }
     done
+    scripts="$scripts $1"
+    played=$((played + 1))
     compared=$((compared + $(wc -c <"$1") + $(wc -c <$built/expected)))
 }
 
@@ -23,12 +34,23 @@ unread() {
     grep -q '^line 4: .' $built/complained || fail "what is wrong with the line '$1' is not said"
 }
 
-compared=0
-same tests/case_14.script "case 14"
+cp tests/case_14.script $built/scripts/case_14
+same $built/scripts/case_14
 
-# What the gate's own run of the player is held to is still what the independent implementation answers.
+# $seeds scripts of 1,000 operations from the seed $first on
+seed=$first
+last=$((first + seeds))
+while [ $seed -lt $last ]; do
+    $second make $seed 1000 >$built/scripts/seed_$seed
+    same $built/scripts/seed_$seed
+    seed=$((seed + 1))
+done
+
+# The kept script, the longest, comes last in the list. What the gate's own run of the player is held to is still what the independent
+# implementation answers.
 $second play crates/play/stdin | cmp - crates/play/stdout || fail "crates/play/stdout is not the independent implementation's answer"
-same crates/play/stdin "the script of crates/play"
+cp crates/play/stdin $built/scripts/kept_script
+same $built/scripts/kept_script
 
 lines=0
 while IFS= read -r line; do
@@ -36,13 +58,7 @@ while IFS= read -r line; do
     lines=$((lines + 1))
 done <tests/bad_lines
 echo "scripts: $lines lines that cannot be read, each refused by its number"
+echo "scripts: case 14, $seeds random ones of 1,000 operations (seeds $first to $((last - 1))) and the kept one: no difference"
 
-# $seeds scripts of 1,000 operations from the seed $first on
-seed=$first
-last=$((first + seeds))
-while [ $seed -lt $last ]; do
-    $second make $seed 1000 >$built/script
-    same $built/script "the script of seed $seed (second make $seed 1000)"
-    seed=$((seed + 1))
-done
-echo "scripts: case 14, the kept script and $seeds of 1,000 operations (seeds $first to $((last - 1))) give the same in three implementations: $compared bytes of scripts and answers"
+# Every pair that can be reached is, and no other. Some 50 random scripts are enough for that.
+$second cover $scripts || fail "the scripts reach too little or too much"

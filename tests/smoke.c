@@ -3,6 +3,7 @@
  * refusal of every call, blocks of every wrong length, and both ends of the line against each other.
  */
 #include "../include/log_gate.h"
+#include "served.h"
 
 #include <stdbool.h>
 #include <stdio.h>
@@ -196,16 +197,17 @@ static const char block_of_60[] =
 static void test_both_ends(void)
 {
     reset();
-    EXPECT(status_of(0x02, block_of_60) == LOG_GATE_DONE);
-    struct reply reply = ask(0x01, "40 29 00", 64);
+    EXPECT(status_of(LOG_GATE_WRITE_BYTES, block_of_60) == LOG_GATE_DONE);
+    struct reply reply = ask(LOG_GATE_READ_BYTES, "40 29 00", 64);
     EXPECT(reply.status == LOG_GATE_DONE && reply.length == 64);
     EXPECT(reply.data[1] == 0x00 && reply.data[2] == 0x2B && reply.data[61] == 0x2B && reply.data[62] == 0x00);
-    EXPECT(status_of(0x03, "01 10 00 F0 3C") == LOG_GATE_DONE && gate.memory[16] == 0x30);
-    EXPECT(status_of(0xF1, "12 00 34 12 FF 0F") == LOG_GATE_DONE && gate.memory[18] == 0x34 && gate.memory[19] == 0x02);
-    EXPECT(status_of(0xF0, "14 00 04 03 02 01") == LOG_GATE_DONE && gate.memory[23] == 0x01);
-    reply = ask(0xE2, "14 00 00 00", 4);
+    EXPECT(status_of(LOG_GATE_WRITE_BYTES_MASKED, "01 10 00 F0 3C") == LOG_GATE_DONE && gate.memory[16] == 0x30);
+    EXPECT(status_of(LOG_GATE_WRITE_2_MASKED, "12 00 34 12 FF 0F") == LOG_GATE_DONE);
+    EXPECT(gate.memory[18] == 0x34 && gate.memory[19] == 0x02);
+    EXPECT(status_of(LOG_GATE_WRITE_4, "14 00 04 03 02 01") == LOG_GATE_DONE && gate.memory[23] == 0x01);
+    reply = ask(LOG_GATE_READ_4_EX, "14 00 00 00", 4);
     EXPECT(reply.length == 4 && memcmp(reply.data, gate.memory + 20, 4) == 0);
-    reply = ask(0xC0, "", 35);
+    reply = ask(LOG_GATE_DESCRIBE, "", 35);
     EXPECT(reply.length == 35 && memcmp(reply.data + 10, "LOG GATE", 9) == 0);
 }
 
@@ -214,20 +216,24 @@ static void test_instruments(void)
     reset();
     for (unsigned i = 0; i < 64; i++)
         gate.memory[i] = (uint8_t)i;
-    EXPECT(status_of(0x08, "02 02 10 00 01 2B 00") == LOG_GATE_DONE);
-    struct reply reply = ask(0xC5, "", 3);
+    EXPECT(status_of(LOG_GATE_SET_UP_SCOPE, "02 02 10 00 01 2B 00") == LOG_GATE_DONE);
+    struct reply reply = ask(LOG_GATE_READ_SCOPE, "", 3);
     EXPECT(reply.length == 3 && reply.data[0] == 16 && reply.data[1] == 17 && reply.data[2] == 43);
-    EXPECT(status_of(0x0B, "00 02 00 00 00 01 00 00 00 00 00 00 00 00 00 00 00 01 01 10 00 00 00") == LOG_GATE_DONE);
-    EXPECT(status_of(0xC1, "") == LOG_GATE_RECORDER_RUNS && status_of(0xC3, "") == LOG_GATE_RECORDER_RUNS);
+    EXPECT(status_of(LOG_GATE_SET_UP_RECORDER_EX, "00 02 00 00 00 01 00 00 00 00 00 00 00 00 00 00 00 01 01 10 00 00 00") ==
+           LOG_GATE_DONE);
+    EXPECT(status_of(LOG_GATE_START_RECORDER, "") == LOG_GATE_RECORDER_RUNS);
+    EXPECT(status_of(LOG_GATE_RECORDER_STATUS, "") == LOG_GATE_RECORDER_RUNS);
     for (uint8_t i = 0; i < 6; i++) { /* sets at ticks 1, 3 and 5 */
         gate.memory[16] = (uint8_t)(0x50 + i);
         tick();
     }
     EXPECT(gate.memory[12288] == 0x54 && gate.memory[12289] == 0x52 && gate.memory[12290] == 0);
-    EXPECT(status_of(0xC2, "") == LOG_GATE_DONE && status_of(0xC2, "") == LOG_GATE_RECORDER_STOPPED);
-    reply = ask(0xC9, "", 6);
+    EXPECT(status_of(LOG_GATE_STOP_RECORDER, "") == LOG_GATE_DONE);
+    EXPECT(status_of(LOG_GATE_STOP_RECORDER, "") == LOG_GATE_RECORDER_STOPPED);
+    reply = ask(LOG_GATE_QUERY_BUFFER_EX, "", 6);
     EXPECT(reply.length == 6 && memcmp(reply.data, "\0\x30\0\0\x01", 6) == 0);
-    EXPECT(status_of(0xC1, "") == LOG_GATE_DONE && status_of(0xC3, "") == LOG_GATE_RECORDER_RUNS);
+    EXPECT(status_of(LOG_GATE_START_RECORDER, "") == LOG_GATE_DONE);
+    EXPECT(status_of(LOG_GATE_RECORDER_STATUS, "") == LOG_GATE_RECORDER_RUNS);
 }
 
 /* The edges of a trigger of one byte, threshold 0x80: mode, sign, the values at two sets, and whether it stops then. */
@@ -242,12 +248,12 @@ static void test_edges(void)
         char data[64];
         reset();
         sprintf(data, "%02X 02 00 00 00 00 00 10 00 01 %02X 80 00 00 00 01 01 10 00", edges[i].mode, edges[i].sign);
-        EXPECT(status_of(0x09, data) == LOG_GATE_DONE);
+        EXPECT(status_of(LOG_GATE_SET_UP_RECORDER, data) == LOG_GATE_DONE);
         gate.memory[16] = edges[i].from;
         tick();
         gate.memory[16] = edges[i].to;
         tick();
-        EXPECT(status_of(0xC3, "") == (edges[i].stops ? LOG_GATE_RECORDER_STOPPED : LOG_GATE_RECORDER_RUNS));
+        EXPECT(status_of(LOG_GATE_RECORDER_STATUS, "") == (edges[i].stops ? LOG_GATE_RECORDER_STOPPED : LOG_GATE_RECORDER_RUNS));
     }
 }
 
@@ -255,16 +261,16 @@ static void test_edges(void)
 static void test_post_trigger(void)
 {
     reset();
-    EXPECT(status_of(0x09, "01 03 00 02 00 01 00 10 00 01 00 80 00 00 00 01 01 10 00") == LOG_GATE_DONE);
+    EXPECT(status_of(LOG_GATE_SET_UP_RECORDER, "01 03 00 02 00 01 00 10 00 01 00 80 00 00 00 01 01 10 00") == LOG_GATE_DONE);
     for (uint8_t i = 0; i < 7; i++) { /* sets at ticks 1, 3 (the trigger), 5 and 7 */
-        EXPECT(status_of(0xC3, "") == LOG_GATE_RECORDER_RUNS);
+        EXPECT(status_of(LOG_GATE_RECORDER_STATUS, "") == LOG_GATE_RECORDER_RUNS);
         gate.memory[16] = (uint8_t)(0x7E + i);
         tick();
     }
-    EXPECT(status_of(0xC3, "") == LOG_GATE_RECORDER_STOPPED);
+    EXPECT(status_of(LOG_GATE_RECORDER_STATUS, "") == LOG_GATE_RECORDER_STOPPED);
     tick();
     EXPECT(gate.memory[12288] == 0x84 && gate.memory[12289] == 0x80 && gate.memory[12290] == 0x82 && gate.memory[12291] == 0);
-    struct reply reply = ask(0xC4, "", 4);
+    struct reply reply = ask(LOG_GATE_QUERY_BUFFER, "", 4);
     EXPECT(reply.length == 4 && memcmp(reply.data, "\0\x30\x01\0", 4) == 0);
 }
 
@@ -277,27 +283,27 @@ static const struct {
 } wrong[] = {
     {0x10, "", LOG_GATE_NOT_SERVED},
     {0xC6, "", LOG_GATE_NOT_SERVED},
-    {0xC5, "", LOG_GATE_NOT_SET_UP},
-    {0xC4, "", LOG_GATE_NOT_SET_UP},
-    {0x01, "41 00", LOG_GATE_LAYOUT_WRONG},
-    {0x02, "02 00 40 01", LOG_GATE_LAYOUT_WRONG},
-    {0x08, "", LOG_GATE_LAYOUT_WRONG},
-    {0x08, "01 00 00", LOG_GATE_LAYOUT_WRONG},
-    {0x09, "03 00 00 00 00 00 00 00 40 00 00 00 00 00 00 01 00 00 40", LOG_GATE_LAYOUT_WRONG},
-    {0x09, "01 00 00 00 00 00 00 00 40 00 02 00 00 00 00 01 00 00 40", LOG_GATE_LAYOUT_WRONG},
-    {0x01, "00 00 40", LOG_GATE_SIZE_WRONG},
-    {0x08, "00", LOG_GATE_SIZE_WRONG},
-    {0x08, "01 00 00 40", LOG_GATE_SIZE_WRONG},
-    {0x09, "00 00 00 00 00 00 00 00 40 00 00 00 00 00 00 01 01 00 40", LOG_GATE_SIZE_WRONG},
-    {0x09, "00 01 10 00 00 00 00 00 00 00 00 00 00 00 00 01 02 00 00", LOG_GATE_SIZE_WRONG},
-    {0x09, "02 01 00 00 00 00 00 00 40 03 00 00 00 00 00 01 01 00 40", LOG_GATE_SIZE_WRONG},
-    {0x01, "41 00 40", LOG_GATE_ANSWER_TOO_LONG},
-    {0x01, "40 C1 3F", LOG_GATE_RANGE_WRONG},
-    {0x02, "02 FF 1F 01 02", LOG_GATE_RANGE_WRONG},
-    {0xE2, "FD FF FF FF", LOG_GATE_RANGE_WRONG},
-    {0x08, "01 02 FF 3F", LOG_GATE_RANGE_WRONG},
-    {0x09, "00 01 00 00 00 00 00 00 00 00 00 00 00 00 00 01 02 FF 2F", LOG_GATE_RANGE_WRONG},
-    {0x09, "01 01 00 00 00 00 00 FD 2F 04 00 00 00 00 00 01 01 00 00", LOG_GATE_RANGE_WRONG},
+    {LOG_GATE_READ_SCOPE, "", LOG_GATE_NOT_SET_UP},
+    {LOG_GATE_QUERY_BUFFER, "", LOG_GATE_NOT_SET_UP},
+    {LOG_GATE_READ_BYTES, "41 00", LOG_GATE_LAYOUT_WRONG},
+    {LOG_GATE_WRITE_BYTES, "02 00 40 01", LOG_GATE_LAYOUT_WRONG},
+    {LOG_GATE_SET_UP_SCOPE, "", LOG_GATE_LAYOUT_WRONG},
+    {LOG_GATE_SET_UP_SCOPE, "01 00 00", LOG_GATE_LAYOUT_WRONG},
+    {LOG_GATE_SET_UP_RECORDER, "03 00 00 00 00 00 00 00 40 00 00 00 00 00 00 01 00 00 40", LOG_GATE_LAYOUT_WRONG},
+    {LOG_GATE_SET_UP_RECORDER, "01 00 00 00 00 00 00 00 40 00 02 00 00 00 00 01 00 00 40", LOG_GATE_LAYOUT_WRONG},
+    {LOG_GATE_READ_BYTES, "00 00 40", LOG_GATE_SIZE_WRONG},
+    {LOG_GATE_SET_UP_SCOPE, "00", LOG_GATE_SIZE_WRONG},
+    {LOG_GATE_SET_UP_SCOPE, "01 00 00 40", LOG_GATE_SIZE_WRONG},
+    {LOG_GATE_SET_UP_RECORDER, "00 00 00 00 00 00 00 00 40 00 00 00 00 00 00 01 01 00 40", LOG_GATE_SIZE_WRONG},
+    {LOG_GATE_SET_UP_RECORDER, "00 01 10 00 00 00 00 00 00 00 00 00 00 00 00 01 02 00 00", LOG_GATE_SIZE_WRONG},
+    {LOG_GATE_SET_UP_RECORDER, "02 01 00 00 00 00 00 00 40 03 00 00 00 00 00 01 01 00 40", LOG_GATE_SIZE_WRONG},
+    {LOG_GATE_READ_BYTES, "41 00 40", LOG_GATE_ANSWER_TOO_LONG},
+    {LOG_GATE_READ_BYTES, "40 C1 3F", LOG_GATE_RANGE_WRONG},
+    {LOG_GATE_WRITE_BYTES, "02 FF 1F 01 02", LOG_GATE_RANGE_WRONG},
+    {LOG_GATE_READ_4_EX, "FD FF FF FF", LOG_GATE_RANGE_WRONG},
+    {LOG_GATE_SET_UP_SCOPE, "01 02 FF 3F", LOG_GATE_RANGE_WRONG},
+    {LOG_GATE_SET_UP_RECORDER, "00 01 00 00 00 00 00 00 00 00 00 00 00 00 00 01 02 FF 2F", LOG_GATE_RANGE_WRONG},
+    {LOG_GATE_SET_UP_RECORDER, "01 01 00 00 00 00 00 FD 2F 04 00 00 00 00 00 01 01 00 00", LOG_GATE_RANGE_WRONG},
 };
 
 static void test_wrong_messages(void)
@@ -319,6 +325,22 @@ static void test_wrong_messages(void)
     }
 }
 
+/* A command is served exactly when the header names it. */
+static void test_served(void)
+{
+    static const uint8_t data[6];
+    for (unsigned command = 0; command < 256; command++) {
+        uint8_t wire[LOG_GATE_COMMAND_ROOM];
+        size_t length = command < 0xC0 ? 0 : (command >> 4 & 3) * 2;
+        log_gate_taken written = log_gate_write_command((uint8_t)command, data, length, wire, sizeof wire);
+        reset();
+        for (size_t i = 0; i < written.length; i++)
+            give(wire[i]);
+        if (command != 0x2B)
+            EXPECT((gate.answer[1] != LOG_GATE_NOT_SERVED) == (memchr(served, (int)command, sizeof served) != NULL));
+    }
+}
+
 /* A recorder that runs is busy, whatever the setup's data; a message above 64 is too long, whatever its command. */
 static void test_order(void)
 {
@@ -327,11 +349,12 @@ static void test_order(void)
         strcat(long_data, "00 ");
     long_data[3 * 65 - 1] = '\0';
     reset();
-    EXPECT(status_of(0x09, "00 01 00 00 00 00 00 00 00 00 00 00 00 00 00 01 01 00 00") == LOG_GATE_DONE);
-    EXPECT(status_of(0x09, "07") == LOG_GATE_BUSY && status_of(0x0B, "") == LOG_GATE_BUSY);
-    EXPECT(status_of(0xC4, "") == LOG_GATE_BUSY && status_of(0xC9, "") == LOG_GATE_BUSY);
+    EXPECT(status_of(LOG_GATE_SET_UP_RECORDER, "00 01 00 00 00 00 00 00 00 00 00 00 00 00 00 01 01 00 00") == LOG_GATE_DONE);
+    EXPECT(status_of(LOG_GATE_SET_UP_RECORDER, "07") == LOG_GATE_BUSY);
+    EXPECT(status_of(LOG_GATE_SET_UP_RECORDER_EX, "") == LOG_GATE_BUSY);
+    EXPECT(status_of(LOG_GATE_QUERY_BUFFER, "") == LOG_GATE_BUSY && status_of(LOG_GATE_QUERY_BUFFER_EX, "") == LOG_GATE_BUSY);
     EXPECT(status_of(0x7F, long_data) == LOG_GATE_MESSAGE_TOO_LONG);
-    EXPECT(status_of(0x02, long_data) == LOG_GATE_MESSAGE_TOO_LONG);
+    EXPECT(status_of(LOG_GATE_WRITE_BYTES, long_data) == LOG_GATE_MESSAGE_TOO_LONG);
     expect_answer("2B 7F 00 80", "2B 82 7E");
 }
 
@@ -342,10 +365,10 @@ static void test_longest(void)
     reset();
     for (unsigned i = 0; i < 61; i++)
         strcat(data, " 11");
-    EXPECT(status_of(0x02, data) == LOG_GATE_DONE && gate.memory[76] == 0x11 && gate.memory[77] == 0);
+    EXPECT(status_of(LOG_GATE_WRITE_BYTES, data) == LOG_GATE_DONE && gate.memory[76] == 0x11 && gate.memory[77] == 0);
     data[1] = 'E';
     strcat(data, " 11");
-    EXPECT(status_of(0x02, data) == LOG_GATE_MESSAGE_TOO_LONG && gate.memory[77] == 0);
+    EXPECT(status_of(LOG_GATE_WRITE_BYTES, data) == LOG_GATE_MESSAGE_TOO_LONG && gate.memory[77] == 0);
 }
 
 /* ---- refusals of the calls: each number with all higher ones also due, and nothing lent is touched */
@@ -357,7 +380,7 @@ static bool untouched(void)
     return memcmp(&gate, &before, sizeof gate) == 0;
 }
 
-static uint8_t byte_refused(size_t state, size_t memory, size_t room)
+static log_gate_result byte_refused(size_t state, size_t memory, size_t room)
 {
     log_gate_taken taken = log_gate_byte(gate.state, state, 0x2B, gate.memory, memory, gate.answer, room);
     EXPECT(taken.length == 0);
@@ -381,7 +404,7 @@ static void test_target_refusals(void)
     EXPECT(byte_refused(sound, whole, room) == LOG_GATE_TAKEN && !untouched());
 }
 
-static uint8_t answer_refused(uint8_t status, size_t length, size_t room)
+static log_gate_result answer_refused(uint8_t status, size_t length, size_t room)
 {
     uint8_t data[65] = {0}, out[LOG_GATE_ANSWER_ROOM], kept[LOG_GATE_ANSWER_ROOM];
     memset(out, 0xA5, sizeof out);
@@ -408,7 +431,7 @@ static void test_answer_writer(void)
     EXPECT(answer_refused(LOG_GATE_RECORDER_RUNS, 64, 0) == LOG_GATE_ROOM_REFUSED);
 }
 
-static uint8_t command_refused(uint8_t command, size_t length, size_t room)
+static log_gate_result command_refused(uint8_t command, size_t length, size_t room)
 {
     uint8_t data[256], out[LOG_GATE_COMMAND_ROOM + 1], kept[sizeof out];
     memset(data, 0x2B, sizeof data);
@@ -423,16 +446,16 @@ static uint8_t command_refused(uint8_t command, size_t length, size_t room)
 static void test_command_writer(void)
 {
     EXPECT(command_refused(0x2B, 0, 0) == LOG_GATE_FORM_REFUSED);
-    EXPECT(command_refused(0xD0, 1, 0) == LOG_GATE_FORM_REFUSED);
-    EXPECT(command_refused(0xD0, 3, 516) == LOG_GATE_FORM_REFUSED);
-    EXPECT(command_refused(0x01, 256, 0) == LOG_GATE_FORM_REFUSED);
-    EXPECT(command_refused(0xC8, 0, 0) == LOG_GATE_ROOM_REFUSED);
-    EXPECT(command_refused(0xC8, 0, 2) == LOG_GATE_ROOM_REFUSED);
-    EXPECT(command_refused(0xC8, 0, 3) == LOG_GATE_TAKEN);
-    EXPECT(command_refused(0xD0, 2, 6) == LOG_GATE_ROOM_REFUSED);
-    EXPECT(command_refused(0xD0, 2, 7) == LOG_GATE_TAKEN);
-    EXPECT(command_refused(0x01, 255, 514) == LOG_GATE_ROOM_REFUSED);
-    EXPECT(command_refused(0x01, 255, 515) == LOG_GATE_TAKEN); /* its sum byte is 0x2B too */
+    EXPECT(command_refused(LOG_GATE_READ_1, 1, 0) == LOG_GATE_FORM_REFUSED);
+    EXPECT(command_refused(LOG_GATE_READ_1, 3, 516) == LOG_GATE_FORM_REFUSED);
+    EXPECT(command_refused(LOG_GATE_READ_BYTES, 256, 0) == LOG_GATE_FORM_REFUSED);
+    EXPECT(command_refused(LOG_GATE_DESCRIBE_BRIEFLY, 0, 0) == LOG_GATE_ROOM_REFUSED);
+    EXPECT(command_refused(LOG_GATE_DESCRIBE_BRIEFLY, 0, 2) == LOG_GATE_ROOM_REFUSED);
+    EXPECT(command_refused(LOG_GATE_DESCRIBE_BRIEFLY, 0, 3) == LOG_GATE_TAKEN);
+    EXPECT(command_refused(LOG_GATE_READ_1, 2, 6) == LOG_GATE_ROOM_REFUSED);
+    EXPECT(command_refused(LOG_GATE_READ_1, 2, 7) == LOG_GATE_TAKEN);
+    EXPECT(command_refused(LOG_GATE_READ_BYTES, 255, 514) == LOG_GATE_ROOM_REFUSED);
+    EXPECT(command_refused(LOG_GATE_READ_BYTES, 255, 515) == LOG_GATE_TAKEN); /* its sum byte is 0x2B too */
 }
 
 static log_gate_read reader_byte(uint8_t *reader, size_t length, uint8_t byte, uint8_t *data, size_t room)
@@ -533,6 +556,7 @@ int main(void)
     test_edges();
     test_post_trigger();
     test_wrong_messages();
+    test_served();
     test_order();
     test_target_refusals();
     test_answer_writer();

@@ -4,6 +4,7 @@
 
 #include "../include/log_gate.h"
 #include "random.h"
+#include "served.h"
 
 #include <string.h>
 
@@ -75,15 +76,17 @@ static void add_plan(struct message *m, unsigned width)
 
 static void fill_standard(struct message *m)
 {
-    unsigned width = m->command == 0x01 || m->command == 0x02 || m->command == 0x03 || m->command == 0x08 || m->command == 0x09
-                         ? 2
-                         : 4;
     switch (m->command) {
-    case 0x01: case 0x04: add_block(m, width, 0); break;
-    case 0x02: case 0x05: add_block(m, width, 1); break;
-    case 0x03: case 0x06: add_block(m, width, 2); break;
-    case 0x08: case 0x0A: add_variables(m, width); break;
-    case 0x09: case 0x0B: add_plan(m, width); break;
+    case LOG_GATE_READ_BYTES: add_block(m, 2, 0); break;
+    case LOG_GATE_READ_BYTES_EX: add_block(m, 4, 0); break;
+    case LOG_GATE_WRITE_BYTES: add_block(m, 2, 1); break;
+    case LOG_GATE_WRITE_BYTES_EX: add_block(m, 4, 1); break;
+    case LOG_GATE_WRITE_BYTES_MASKED: add_block(m, 2, 2); break;
+    case LOG_GATE_WRITE_BYTES_MASKED_EX: add_block(m, 4, 2); break;
+    case LOG_GATE_SET_UP_SCOPE: add_variables(m, 2); break;
+    case LOG_GATE_SET_UP_SCOPE_EX: add_variables(m, 4); break;
+    case LOG_GATE_SET_UP_RECORDER: add_plan(m, 2); break;
+    case LOG_GATE_SET_UP_RECORDER_EX: add_plan(m, 4); break;
     default:
         m->length = below(80);
         random_fill(m->data, m->length);
@@ -95,18 +98,16 @@ static void fill_fast(struct message *m)
     unsigned length = (m->command >> 4 & 3) * 2;
     if (length == 0)
         return;
-    add(m, random_address(), length == 4 && m->command <= 0xE2 ? 4 : 2);
+    add(m, random_address(), length == 4 && m->command <= LOG_GATE_READ_4_EX ? 4 : 2);
     add_values(m, length - (unsigned)m->length);
 }
 
 static struct message random_message(void)
 {
-    static const uint8_t served[] = {0x01, 0x02, 0x03, 0x04, 0x05, 0x06, 0x08, 0x09, 0x0A, 0x0B, 0xC0, 0xC1, 0xC2, 0xC3, 0xC4,
-                                     0xC5, 0xC8, 0xC9, 0xD0, 0xD1, 0xD2, 0xE0, 0xE1, 0xE2, 0xE3, 0xE4, 0xE5, 0xF0, 0xF1};
     struct message m = {.length = 0};
     m.command = one_in(16) ? random_byte() : served[below(sizeof served)];
     if (m.command == 0x2B)
-        m.command = 0xC8;
+        m.command = LOG_GATE_DESCRIBE_BRIEFLY;
     if (m.command < 0xC0)
         fill_standard(&m);
     else

@@ -1,5 +1,6 @@
 # Sourced by the scripts, from the repository's root. The proved archive and programs are x86-64: on another machine a cross compiler
-# links them and qemu runs them. It sets CC_X86 and CFLAGS_X86 (compiler), SIZE_X86 (code sizes) and RUN_X86 (what runs a program).
+# links them and qemu runs them. It sets CC_X86 and CFLAGS_X86 (compiler), SIZE_X86 (code sizes), NM_X86 (symbols) and RUN_X86 (what runs
+# a program).
 
 # need COMMAND PACKAGE..: installs what is missing, or says plainly what is lacking.
 need() {
@@ -15,11 +16,11 @@ need() {
 
 case $(uname -m) in
 x86_64)
-    CC_X86=gcc SIZE_X86=size RUN_X86=
+    CC_X86=gcc SIZE_X86=size NM_X86=nm RUN_X86=
     need gcc gcc libc6-dev
     ;;
 *)
-    CC_X86=x86_64-linux-gnu-gcc SIZE_X86=x86_64-linux-gnu-size RUN_X86="qemu-x86_64 -L /usr/x86_64-linux-gnu"
+    CC_X86=x86_64-linux-gnu-gcc SIZE_X86=x86_64-linux-gnu-size NM_X86=x86_64-linux-gnu-nm RUN_X86="qemu-x86_64 -L /usr/x86_64-linux-gnu"
     need x86_64-linux-gnu-gcc gcc-x86-64-linux-gnu libc6-dev-amd64-cross
     need qemu-x86_64 qemu-user
     ;;

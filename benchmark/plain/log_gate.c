@@ -26,7 +26,7 @@ static bool reader_taken(const uint8_t *reader, size_t length)
 #endif
 }
 
-uint8_t log_gate_reset(uint8_t *state, size_t state_length)
+log_gate_result log_gate_reset(uint8_t *state, size_t state_length)
 {
     if (state_length < LOG_GATE_STATE)
         return LOG_GATE_STATE_REFUSED;
@@ -34,7 +34,7 @@ uint8_t log_gate_reset(uint8_t *state, size_t state_length)
     return LOG_GATE_TAKEN;
 }
 
-uint8_t log_gate_check(const uint8_t *state, size_t state_length)
+log_gate_result log_gate_check(const uint8_t *state, size_t state_length)
 {
     if (state_length < LOG_GATE_STATE || !target_right((const struct target *)state))
         return LOG_GATE_STATE_REFUSED;
@@ -56,7 +56,7 @@ log_gate_taken log_gate_byte(uint8_t *state, size_t state_length, uint8_t byte, 
     return (log_gate_taken){LOG_GATE_TAKEN, answer_message(t, memory, answer)};
 }
 
-uint8_t log_gate_tick(uint8_t *state, size_t state_length, uint8_t *memory, size_t memory_length)
+log_gate_result log_gate_tick(uint8_t *state, size_t state_length, uint8_t *memory, size_t memory_length)
 {
     if (!state_taken(state, state_length))
         return LOG_GATE_STATE_REFUSED;
@@ -121,7 +121,7 @@ log_gate_taken log_gate_write_command(uint8_t command, const uint8_t *data, size
     return (log_gate_taken){LOG_GATE_TAKEN, finish_writing(&w)};
 }
 
-uint8_t log_gate_reader_begin(uint8_t *reader, size_t reader_length, size_t expected)
+log_gate_result log_gate_reader_begin(uint8_t *reader, size_t reader_length, size_t expected)
 {
     if (reader_length < LOG_GATE_READER)
         return LOG_GATE_STATE_REFUSED;

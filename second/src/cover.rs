@@ -1,83 +1,183 @@
-//! Counts what outputs reached: statuses answered and calls refused.
+//! Counts what scripts reached: which statuses answered which commands, and
+//! which refusals the calls gave; and holds it against what can be reached.
 
-use std::collections::BTreeMap;
-use std::io::{self, BufRead};
+use crate::message::fast_length;
+use crate::play::Watch;
+use crate::reachable::{CALLS, OTHER_FAST, OTHER_STANDARD, SERVED};
 
-/// The statuses a target can answer with.
-const STATUSES: [u8; 12] = [
-    0x00, 0x01, 0x02, 0x81, 0x82, 0x83, 0x84, 0x85, 0x86, 0x87, 0x88, 0x89,
-];
+/// A command or a call, and how often each of its results occurred.
+struct Row {
+    name: String,
+    reachable: &'static [u8],
+    /// At each result, a status or a refusal.
+    counts: Vec<u64>,
+}
 
-/// The refusals that each kind of line can print, 0 for none.
-const REFUSALS: [(&str, &[u8]); 4] = [
-    ("W", &[0, 3, 4]),
-    ("V", &[0, 3, 4]),
-    ("E", &[0, 5]),
-    ("R", &[0, 3, 6]),
-];
-
-/// How often each thing occurred; what never did stands there with 0.
-pub struct Counts(BTreeMap<String, u64>);
-
-impl Counts {
-    pub fn none() -> Counts {
-        let statuses = STATUSES.iter().map(|s| format!("status {s:02X}"));
-        let refusals = REFUSALS.iter().flat_map(|(letter, numbers)| {
-            numbers.iter().map(move |n| format!("{letter} refusal {n}"))
-        });
-        Counts(statuses.chain(refusals).map(|name| (name, 0)).collect())
-    }
-
-    pub fn add(&mut self, output: impl BufRead) -> io::Result<()> {
-        for line in output.lines() {
-            if let Some(name) = name(&line?) {
-                *self.0.entry(name).or_default() += 1;
-            }
+impl Row {
+    fn new(name: String, reachable: &'static [u8]) -> Row {
+        Row {
+            name,
+            reachable,
+            counts: vec![0; 256],
         }
-        Ok(())
     }
 
-    /// One line each, then what was never reached.
-    pub fn tell(&self) -> String {
-        let counts = self
-            .0
-            .iter()
-            .map(|(name, count)| format!("{name}: {count}\n"));
-        let missing = self.0.values().filter(|count| **count == 0).count();
-        counts.collect::<String>() + &format!("never reached: {missing}\n")
+    fn is_reachable(&self, result: usize) -> bool {
+        self.reachable.iter().any(|r| usize::from(*r) == result)
+    }
+
+    /// A number where something was or should have been, else a dot.
+    fn cell(&self, result: u8) -> String {
+        match self.counts[usize::from(result)] {
+            0 if !self.reachable.contains(&result) => ".".to_string(),
+            count => count.to_string(),
+        }
+    }
+
+    fn line(&self, results: &[u8]) -> String {
+        let cells = results.iter().map(|r| format!(" {:>7}", self.cell(*r)));
+        format!("{:<15}{}\n", self.name, cells.collect::<String>())
+    }
+
+    /// The results that were never reached, and those that cannot be and were.
+    fn faults(&self, what: &str) -> Vec<String> {
+        let told = |result: usize| {
+            let name = &self.name;
+            match (self.is_reachable(result), self.counts[result]) {
+                (true, 0) => Some(format!("never reached: {name} with {what} {result:02X}\n")),
+                (false, 1..) => Some(format!(
+                    "not to be reached: {name} with {what} {result:02X}\n"
+                )),
+                _ => None,
+            }
+        };
+        (0..256).filter_map(told).collect()
     }
 }
 
-/// What a line of output counts as: an answer's status, a call's refusal.
-fn name(line: &str) -> Option<String> {
-    let words: Vec<&str> = line.split(' ').take(4).collect();
-    match words.as_slice() {
-        ["A", _, _, status] => Some(format!("status {status}")),
-        [letter @ ("W" | "V"), refusal, ..] => Some(format!("{letter} refusal {refusal}")),
-        ["E", refusal] => Some(format!("E refusal {refusal}")),
-        ["R", _, refusal, ..] => Some(format!("R refusal {refusal}")),
-        _ => None,
+/// How often each pair occurred.
+pub struct Counts {
+    /// The commands served in their order, then the others.
+    commands: Vec<Row>,
+    calls: Vec<Row>,
+}
+
+impl Counts {
+    pub fn none() -> Counts {
+        let mut served: Vec<_> = SERVED
+            .iter()
+            .flat_map(|(commands, statuses)| commands.iter().map(|c| (*c, *statuses)))
+            .collect();
+        served.sort();
+        let named = served
+            .into_iter()
+            .map(|(command, statuses)| Row::new(format!("{command:02X}"), statuses));
+        let others = [
+            Row::new("other standard".to_string(), OTHER_STANDARD),
+            Row::new("other fast".to_string(), OTHER_FAST),
+        ];
+        let calls = CALLS
+            .iter()
+            .map(|(letter, r)| Row::new(letter.to_string(), r));
+        Counts {
+            commands: named.chain(others).collect(),
+            calls: calls.collect(),
+        }
     }
+
+    /// The two tables.
+    pub fn tell(&self) -> String {
+        table("command", &self.commands) + &table("call", &self.calls)
+    }
+
+    /// A line for each pair that was not reached or could not be.
+    pub fn faults(&self) -> String {
+        let commands = self.commands.iter().flat_map(|row| row.faults("status"));
+        let calls = self.calls.iter().flat_map(|row| row.faults("refusal"));
+        commands.chain(calls).collect()
+    }
+
+    /// How many pairs can be reached, of commands and of calls.
+    pub fn reachable(&self) -> (usize, usize) {
+        let pairs = |rows: &[Row]| rows.iter().map(|row| row.reachable.len()).sum();
+        (pairs(&self.commands), pairs(&self.calls))
+    }
+}
+
+impl Watch for Counts {
+    fn answered(&mut self, command: u8, status: u8) {
+        let name = format!("{command:02X}");
+        let other = match fast_length(command) {
+            None => "other standard",
+            Some(_) => "other fast",
+        };
+        let mut rows = self.commands.iter_mut();
+        let row = rows.find(|row| row.name == name || row.name == other);
+        row.expect("each command has a row").counts[usize::from(status)] += 1;
+    }
+
+    fn called(&mut self, letter: char, refusal: u8) {
+        let name = letter.to_string();
+        let row = self.calls.iter_mut().find(|row| row.name == name);
+        row.expect("each call has a row").counts[usize::from(refusal)] += 1;
+    }
+}
+
+/// A column for each result that some row reached or can reach.
+fn table(title: &str, rows: &[Row]) -> String {
+    let shown = |result: &u8| {
+        let mut cells = rows.iter().map(|row| row.cell(*result));
+        cells.any(|cell| cell != ".")
+    };
+    let results: Vec<u8> = (0..=255).filter(shown).collect();
+    let heads = results
+        .iter()
+        .map(|r| format!(" {:>7}", format!("{r:02X}")));
+    let head = format!("{title:<15}{}\n", heads.collect::<String>());
+    rows.iter()
+        .fold(head, |told, row| told + &row.line(&results))
 }
 
 #[cfg(test)]
 mod tests {
     use super::*;
+    use crate::request::order;
 
     #[test]
-    fn counts_by_kind() {
-        let mut counts = Counts::none();
-        let output = "A 4 2B 00 7F 81\nW 3 0\nE 5\nR 3 0 00 1 07\nR 4 6\nM 0 00\nD adler32 0\n";
-        counts.add(output.as_bytes()).unwrap();
-        let told = counts.tell();
-        for line in [
-            "status 00: 1",
-            "W refusal 3: 1",
-            "E refusal 5: 1",
-            "R refusal 6: 1",
-        ] {
-            assert!(told.contains(line), "{line}");
+    fn the_commands_listed_are_those_served() {
+        let counts = Counts::none();
+        for command in 0..=255 {
+            let name = format!("{command:02X}");
+            let listed = counts.commands.iter().any(|row| row.name == name);
+            assert_eq!(listed, order(command).is_some(), "{name}");
         }
-        assert!(told.contains("status 89: 0"));
+    }
+
+    #[test]
+    fn tells_what_is_missing_and_what_is_too_much() {
+        let mut counts = Counts::none();
+        counts.answered(0xC8, 0x00);
+        counts.answered(0xC8, 0x89);
+        counts.answered(0x10, 0x81);
+        counts.called('E', 5);
+        let faults = counts.faults();
+        let has = |line: &str| faults.lines().any(|l| l == line);
+        assert!(has("never reached: C8 with status 82"));
+        assert!(has("not to be reached: C8 with status 89"));
+        assert!(has("never reached: E with refusal 00"));
+        assert!(!has("never reached: C8 with status 00"));
+        assert!(!has("never reached: other standard with status 81"));
+        assert!(!has("never reached: E with refusal 05"));
+    }
+
+    #[test]
+    fn a_table_has_a_line_for_each_row() {
+        let mut counts = Counts::none();
+        counts.answered(0xFF, 0x81);
+        let told = counts.tell();
+        assert_eq!(told.lines().count(), 1 + 31 + 1 + 4);
+        let last = told.lines().find(|l| l.starts_with("other fast")).unwrap();
+        let cells: Vec<&str> = last.split_whitespace().collect();
+        assert_eq!(cells[2..6], [".", ".", ".", "1"]);
     }
 }

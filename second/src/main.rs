@@ -11,6 +11,7 @@ mod line;
 mod make;
 mod message;
 mod play;
+mod reachable;
 mod recorder;
 mod refusals;
 mod request;
@@ -18,6 +19,7 @@ mod rng;
 mod script;
 mod target;
 mod trigger;
+mod wrong;
 
 #[cfg(test)]
 mod order_test;
@@ -34,7 +36,9 @@ const USAGE: &str = "\
 second play [FILE]               plays a script (standard input without FILE)
 second make SEED [OPERATIONS]    writes a random script (1,000 operations)
 second compare A B               compares two outputs byte for byte
-second cover FILE..              counts statuses and refusals in outputs";
+second cover FILE..              counts what scripts reach, of what they can
+second wrong LIST SOURCES BUILT FILE..
+                                 tries wrong variants of itself with scripts";
 
 fn main() -> ExitCode {
     let arguments: Vec<String> = std::env::args().skip(1).collect();
@@ -45,7 +49,10 @@ fn main() -> ExitCode {
         ["make", seed] => make_script(seed, "1000"),
         ["make", seed, operations] => make_script(seed, operations),
         ["compare", first, second] => compare_files(first, second),
-        ["cover", files @ ..] if !files.is_empty() => cover_files(files),
+        ["cover", files @ ..] if !files.is_empty() => cover_scripts(files),
+        ["wrong", list, sources, built, scripts @ ..] => {
+            wrong::run(list, sources, built, scripts).map(passed)
+        }
         _ => Err(USAGE.to_string()),
     };
     match done {
@@ -93,12 +100,23 @@ fn compare_files(first: &str, second: &str) -> Result<ExitCode, String> {
     }
 }
 
-fn cover_files(files: &[&str]) -> Result<ExitCode, String> {
+fn cover_scripts(files: &[&str]) -> Result<ExitCode, String> {
     let mut counts = cover::Counts::none();
     for file in files {
-        let added = counts.add(open(file)?);
-        added.map_err(|e| format!("{file}: {e}"))?;
+        let played = play::play_watched(&mut open(file)?, &mut io::sink(), &mut counts);
+        played.map_err(|wrong| format!("{file}: {wrong}"))?;
     }
+    let (commands, calls) = counts.reachable();
     print!("{}", counts.tell());
-    Ok(ExitCode::SUCCESS)
+    println!("reachable: {commands} pairs of command and status, {calls} of call and refusal");
+    let faults = counts.faults();
+    print!("{faults}");
+    Ok(passed(faults.is_empty()))
+}
+
+fn passed(passed: bool) -> ExitCode {
+    match passed {
+        true => ExitCode::SUCCESS,
+        false => ExitCode::FAILURE,
+    }
 }

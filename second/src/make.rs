@@ -10,6 +10,7 @@ mod noise;
 mod plan;
 mod recording;
 mod scope;
+mod served;
 mod wire;
 
 use crate::areas::{BUFFER, BUFFER_LENGTH};
@@ -35,10 +36,10 @@ const STEPS: [(u64, Step); 23] = [
     (8, Maker::fast_read),
     (8, Maker::fast_write),
     (10, Maker::block),
-    (5, Maker::wrong_block),
+    (7, Maker::wrong_block),
     (2, Maker::information),
     (5, Maker::scope_used),
-    (3, Maker::scope_wrong),
+    (5, Maker::scope_wrong),
     (14, Maker::recording),
     (8, Maker::setup_wrong),
     (8, Maker::recorder_command),
@@ -50,8 +51,8 @@ const STEPS: [(u64, Step); 23] = [
     (4, Maker::any_command),
     (2, Maker::sweep),
     (3, Maker::start_sums),
-    (3, Maker::long_message),
-    (4, Maker::wrong_sum),
+    (5, Maker::long_message),
+    (6, Maker::wrong_sum),
     (4, Maker::some_poke),
     (4, Maker::some_ticks),
     (7, Maker::other_end),
@@ -152,8 +153,10 @@ fn hex(bytes: &[u8]) -> String {
 #[cfg(test)]
 mod tests {
     use super::*;
+    use std::io::sink;
+
     use crate::cover::Counts;
-    use crate::play::play;
+    use crate::play::play_watched;
 
     #[test]
     fn the_same_seed_gives_the_same_script() {
@@ -171,11 +174,10 @@ mod tests {
     fn scripts_reach_everything() {
         let mut counts = Counts::none();
         for seed in 0..40 {
-            let mut out = Vec::new();
-            play(&mut script(seed, 500).as_bytes(), &mut out).unwrap();
-            counts.add(out.as_slice()).unwrap();
+            let script = script(seed, 500);
+            let played = play_watched(&mut script.as_bytes(), &mut sink(), &mut counts);
+            assert_eq!(played, Ok(()));
         }
-        let told = counts.tell();
-        assert!(told.ends_with("never reached: 0\n"), "{told}");
+        assert_eq!(counts.faults(), "");
     }
 }

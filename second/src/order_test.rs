@@ -21,7 +21,7 @@ fn status(target: &mut Target, literals: &[u8]) -> u8 {
     let wire = stuffed(literals);
     let all: Vec<_> = wire.iter().filter_map(|byte| target.byte(*byte)).collect();
     assert_eq!(all.len(), 1);
-    all[0][1]
+    all[0].status
 }
 
 fn told(target: &mut Target, command: u8, data: &[u8]) -> u8 {

@@ -16,7 +16,21 @@ pub type Failure = String;
 /// A writer of the other end of the cable.
 type Writer = fn(u8, &[u8], &mut [u8]) -> Result<usize, Refusal>;
 
-struct Player<'a, O: Write> {
+/// Whoever is told of every answer and of every call at the other end.
+pub trait Watch {
+    /// A message of a command was answered with a status.
+    fn answered(&mut self, command: u8, status: u8);
+    /// A call of a line with this letter gave a refusal, or 0.
+    fn called(&mut self, letter: char, refusal: u8);
+}
+
+/// Nobody.
+impl Watch for () {
+    fn answered(&mut self, _command: u8, _status: u8) {}
+    fn called(&mut self, _letter: char, _refusal: u8) {}
+}
+
+struct Player<'a, O: Write, W: Watch> {
     target: Target,
     reader: Reader,
     /// Wire bytes given so far, on B lines and on R lines.
@@ -24,17 +38,28 @@ struct Player<'a, O: Write> {
     read: u64,
     /// A B, T, P or M line came.
     memory_used: bool,
+    watch: &'a mut W,
     out: &'a mut O,
 }
 
 /// Plays the script in one pass, "from reset with memory all zero".
 pub fn play(script: &mut impl BufRead, out: &mut impl Write) -> Result<(), Failure> {
+    play_watched(script, out, &mut ())
+}
+
+/// The same, and somebody watches.
+pub fn play_watched(
+    script: &mut impl BufRead,
+    out: &mut impl Write,
+    watch: &mut impl Watch,
+) -> Result<(), Failure> {
     let mut player = Player {
         target: Target::reset(),
         reader: Reader::begin(0).expect("0 is not above 64"),
         given: 0,
         read: 0,
         memory_used: false,
+        watch,
         out,
     };
     let played = player.lines(script);
@@ -43,7 +68,7 @@ pub fn play(script: &mut impl BufRead, out: &mut impl Write) -> Result<(), Failu
     played
 }
 
-impl<O: Write> Player<'_, O> {
+impl<O: Write, W: Watch> Player<'_, O, W> {
     fn lines(&mut self, script: &mut impl BufRead) -> Result<(), Failure> {
         let mut line = Vec::new();
         for number in 1.. {
@@ -99,7 +124,10 @@ impl<O: Write> Player<'_, O> {
         let index = self.given;
         self.given += 1;
         match self.target.byte(byte) {
-            Some(answer) => self.print(&format!("A {index}"), &answer),
+            Some(answer) => {
+                self.watch.answered(answer.command, answer.status);
+                self.print(&format!("A {index}"), &answer.wire)
+            }
             None => Ok(()),
         }
     }
@@ -110,6 +138,7 @@ impl<O: Write> Player<'_, O> {
             Ok(written) => (0, written),
             Err(refusal) => (refusal, 0),
         };
+        self.watch.called(letter, refusal);
         self.print(&format!("{letter} {refusal} {written}"), &lent)
     }
 
@@ -122,6 +151,7 @@ impl<O: Write> Player<'_, O> {
             }
             Err(refusal) => refusal,
         };
+        self.watch.called('E', refusal);
         self.print(&format!("E {refusal}"), &[])
     }
 
@@ -132,10 +162,14 @@ impl<O: Write> Player<'_, O> {
         match self.reader.byte(byte, &mut lent) {
             Ok(None) => Ok(()),
             Ok(Some(answer)) => {
+                self.watch.called('R', 0);
                 let (status, count) = (answer.status, answer.count);
                 self.print(&format!("R {index} 0 {status:02X} {count}"), &lent)
             }
-            Err(refusal) => self.print(&format!("R {index} {refusal}"), &[]),
+            Err(refusal) => {
+                self.watch.called('R', refusal);
+                self.print(&format!("R {index} {refusal}"), &[])
+            }
         }
     }
 

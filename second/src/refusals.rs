@@ -21,7 +21,7 @@ struct Case<'a> {
 type Row = (u8, fn(&Case) -> bool);
 
 /// "the first that applies in this order"
-const TABLE: [Row; 9] = [
+const TABLE: &[Row] = &[
     (0x82, wrong_sum),
     (0x83, too_long),
     (0x81, not_served),

@@ -13,7 +13,7 @@ pub fn answers(target: &mut Target, wire: &str) -> Vec<(usize, Vec<u8>)> {
     let bytes = hex(wire);
     let given = bytes.iter().enumerate();
     given
-        .filter_map(|(index, byte)| Some((index, target.byte(*byte)?)))
+        .filter_map(|(index, byte)| Some((index, target.byte(*byte)?.wire)))
         .collect()
 }
 

@@ -14,6 +14,13 @@ pub struct Target {
     heard: Heard,
 }
 
+/// An answer, and the command of the message that it answers.
+pub struct Answer {
+    pub command: u8,
+    pub status: u8,
+    pub wire: Vec<u8>,
+}
+
 impl Target {
     /// The target after reset: an idle link, nothing set up.
     pub fn reset() -> Target {
@@ -25,8 +32,8 @@ impl Target {
         }
     }
 
-    /// One wire byte; the wire bytes of the answer that comes with it.
-    pub fn byte(&mut self, byte: u8) -> Option<Vec<u8>> {
+    /// One wire byte; the answer that comes with it.
+    pub fn byte(&mut self, byte: u8) -> Option<Answer> {
         let literals = self.heard.hear(byte, &CommandLength)?;
         let message = Message::of(&literals);
         let (status, data) = match judge(&message, self) {
@@ -34,7 +41,11 @@ impl Target {
             // "A status with its top bit set carries no data."
             Err(status) => (status, Vec::new()),
         };
-        Some(wire(status, &data))
+        Some(Answer {
+            command: message.command,
+            status,
+            wire: wire(status, &data),
+        })
     }
 
     /// "The gate calls a tick", so many times in a row.

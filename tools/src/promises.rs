@@ -1,9 +1,10 @@
 //! Checks docs/PROMISES.md: every row of its tables cites at least one name, or says after a dash why it cites none, and
-//! every name that it cites exists in the crates.
+//! every name that it cites exists in the crates. Of README.md and all of docs/ it checks that what is cited exists, wherever it
+//! stands: names of the crates, files of the repository, and the targets of links.
 //!
 //! A name is one of
-//! - `document.Pairing.paired`: a declaration of specs/ or proofs/ of a crate;
-//! - `link::Receiver::take`: a function of a crate's src/;
+//! - `document.Pairing.paired`: a declaration of specs/ or proofs/ of a crate; `document.Pairing` is a file of them;
+//! - `link::Receiver::take`: a function, a type or a constant of a crate's src/;
 //! - `document/must-fail/signs_swapped`: a must-fail edit.
 
 use std::fs;
@@ -33,10 +34,75 @@ fn main() {
     if rows.is_empty() {
         faults.push("docs/PROMISES.md has no row".to_string());
     }
+    let mut cited = 0;
+    let documents = documents(root);
+    for document in &documents {
+        let text = fs::read_to_string(document).unwrap_or_default();
+        let shown = document.strip_prefix(root).unwrap_or(document).display();
+        for (line, citation) in citations(&text) {
+            match citation_stands(root, document, &citation) {
+                Some(true) => cited += 1,
+                Some(false) => faults.push(format!("{shown}, line {line}: there is no `{citation}`")),
+                None => (),
+            }
+        }
+    }
     if !faults.is_empty() {
         fail(&faults);
     }
     println!("promises: {} rows, {names} names cited, each one there", rows.len());
+    println!("promises: {} documents cite {cited} names, files and links, each one there", documents.len());
+}
+
+/// README.md and all of docs/.
+fn documents(root: &Path) -> Vec<PathBuf> {
+    let mut found = vec![root.join("README.md")];
+    found.extend(files(&root.join("docs"), "md"));
+    found.sort();
+    found
+}
+
+/// What a document has between backquotes, and behind the round brackets of its links, with the line.
+fn citations(text: &str) -> Vec<(usize, String)> {
+    let mut found = Vec::new();
+    for (index, line) in text.lines().enumerate() {
+        found.extend(line.split('`').skip(1).step_by(2).map(|span| (index + 1, span.to_string())));
+        let links = line.split("](").skip(1).filter_map(|rest| rest.split_once(')'));
+        found.extend(links.map(|(target, _)| (index + 1, format!("]({target})"))));
+    }
+    found
+}
+
+/// Whether what is cited is there; nothing where it is no name, file or link of the repository.
+fn citation_stands(root: &Path, document: &Path, citation: &str) -> Option<bool> {
+    if let Some(link) = citation.strip_prefix("](").and_then(|rest| rest.strip_suffix(')')) {
+        let target = link.split('#').next().unwrap_or("");
+        let folder = document.parent().unwrap_or(root);
+        return (!target.is_empty() && !target.contains("://")).then(|| folder.join(target).exists());
+    }
+    if citation.contains(['*', ' ', '[', '(']) {
+        return None;
+    }
+    let crates = root.join("crates");
+    let owner = citation.split(['.', ':', '/']).next().unwrap_or("");
+    let of_a_crate = !owner.is_empty() && crates.join(owner).is_dir();
+    if of_a_crate && (citation.contains("::") || citation.contains("/must-fail/")) {
+        return Some(exists(&crates, citation));
+    }
+    if of_a_crate && citation.contains('.') {
+        return Some(exists(&crates, citation) || module_exists(&crates, citation));
+    }
+    let folders = ["crates/", "tests/", "docs/", "include/", "gate/", "tools/", "second/", "benchmark/"];
+    folders.iter().any(|folder| citation.starts_with(folder)).then(|| root.join(citation).exists())
+}
+
+/// `document.Pairing`
+fn module_exists(crates: &Path, name: &str) -> bool {
+    let Some((owner, module)) = name.split_once('.') else {
+        return false;
+    };
+    let file = format!("{module}.antt");
+    ["specs", "proofs"].iter().any(|folder| crates.join(owner).join(folder).join(&file).is_file())
 }
 
 fn fail(faults: &[String]) -> ! {
@@ -80,8 +146,8 @@ fn exists(crates: &Path, name: &str) -> bool {
         return crates.join(owner).join("must-fail").join(format!("{edit}.edit")).is_file();
     }
     if let Some((owner, path)) = name.split_once("::") {
-        let function = path.rsplit("::").next().unwrap_or(path);
-        let declared = |text: &str| text.lines().any(|line| is_function(line, function));
+        let item = path.rsplit("::").next().unwrap_or(path);
+        let declared = |text: &str| text.lines().any(|line| is_function(line, item) || is_type(line, item));
         return files(&crates.join(owner).join("src"), "rt").iter().any(|file| holds(file, &declared));
     }
     let parts: Vec<&str> = name.split('.').collect();
@@ -123,6 +189,12 @@ fn is_function(line: &str, name: &str) -> bool {
     rest.strip_prefix(name).is_some_and(|after| after.starts_with('(') || after.starts_with('<'))
 }
 
+/// `struct NAME`, `enum NAME` or `const NAME`.
+fn is_type(line: &str, name: &str) -> bool {
+    let mut words = line.split([' ', ':', '<', '{', '(', ';']).filter(|word| !word.is_empty());
+    words.any(|word| ["struct", "enum", "const"].contains(&word)) && words.next() == Some(name)
+}
+
 /// A signature, a data type, a record, a constructor or a field of that name.
 fn is_declaration(line: &str, name: &str) -> bool {
     let mut words = line.split_whitespace().peekable();
@@ -153,6 +225,31 @@ mod tests {
     fn a_function_is_found_by_its_whole_name() {
         assert!(is_function("    pub fn take(self, byte: u8) -> Taken", "take"));
         assert!(!is_function("    pub fn take_all(self) -> Taken", "take"));
+    }
+
+    #[test]
+    fn a_type_and_a_constant_are_found_by_their_whole_name() {
+        assert!(is_type("pub struct Receiver {", "Receiver"));
+        assert!(is_type("pub const STATE_LENGTH: usize = 181;", "STATE_LENGTH"));
+        assert!(!is_type("pub struct Receivers {", "Receiver"));
+        assert!(!is_type("    receiver: Receiver,", "Receiver"));
+    }
+
+    #[test]
+    fn backquotes_and_links_are_cited() {
+        let found = citations("one\n`a.B.c` and [there](docs/X.md#part), `d`\n");
+        let expected = [(2, "a.B.c"), (2, "d"), (2, "](docs/X.md#part)")];
+        assert_eq!(found, expected.map(|(line, text)| (line, text.to_string())));
+    }
+
+    #[test]
+    fn only_what_could_be_there_is_looked_for() {
+        let (root, document) = (Path::new("no-such-folder"), Path::new("no-such-folder/README.md"));
+        assert_eq!(citation_stands(root, document, "](#part)"), None);
+        assert_eq!(citation_stands(root, document, "](docs/X.md)"), Some(false));
+        assert_eq!(citation_stands(root, document, "crates/*/must-fail/"), None);
+        assert_eq!(citation_stands(root, document, "tests/no_such.c"), Some(false));
+        assert_eq!(citation_stands(root, document, "memcpy"), None);
     }
 
     #[test]

@@ -1,5 +1,5 @@
 -- Reading definitions: a turn takes the next one, which begins where the one before it ended.
-use mathlib.Core.Path.{_≡_, refl, ap, _∙_}
+use mathlib.Core.Path.{_≡_, refl, sym, ap, _∙_}
 use mathlib.Core.Bool.{Bool, true, false, cond, not, _&&_}
 use mathlib.Core.List.{List, []}
 use Prim.Native.Nat.{ℕ, zero, suc, _+_, _-_, _*_, _<_, _≤_}
@@ -9,44 +9,49 @@ use native.Mathlib.Omega.{arith}
 use lib.Dec.{ltb}
 use lib.ListN.{length, getD, set, drop, List·getD-eq-default}
 use lib.Seq.{sets, drop-drop, getD-drop, sets-eq, take-append-seam}
-use borrow.Author.Tests.{le-leb, eq-eqb, ne-eqb, lt-ltb, le-ltb, ltb-false}
+use borrow.Author.Tests.{le-leb, lt-leb, eq-eqb, ne-eqb, lt-ltb, le-ltb, ltb-true, ltb-false}
 use Rattle.document.specs.declared.Variable.{Variable}
 use Rattle.document.specs.Areas.{bytesAt}
 use Rattle.document.specs.Values.{number}
-use Rattle.document.specs.Variables.{addressWidth, definitionWidth, definitionIn, definitionsIn, countIn, variablesIn, lengthGiven}
+use Rattle.document.specs.Variables.{addressWidth, definitionWidth, definitionsIn, countIn, variablesIn, lengthGiven}
 use Rattle.variables.specs.declared.Variables.{Variables}
 use Rattle.definitions.specs.declared.parts.Part.{Part}
-use Rattle.definitions.specs.declared.reader.Definition.the-variants.{Found, Short}
+use Rattle.definitions.specs.declared.reader.Definition.the-variants.{Found}
 use Rattle.variables.specs.State.{variablesOf, noVariables, kept}
-use Rattle.definitions.specs.Parts.{definitionAt, isWhole, partRead}
+use Rattle.definitions.specs.Parts.{isThere, definitionAt, placeBehind, variableOf, isWhole, partRead}
 
 module _ (part : List ℕ) (ex : Bool) (at k count : ℕ) (h : k < count) (place : at ≡ 1 + k * definitionWidth ex) (whole : 1 + count * definitionWidth ex ≤ length part) where
   next-place : at + definitionWidth ex ≡ 1 + (k + 1) * definitionWidth ex
   next-place = rw (add-one k, suc-mul k (definitionWidth ex)) (omega arith)
 
-  here : definitionAt ex part at ≡ Found (definitionIn ex (drop at part)) (at + definitionWidth ex)
-  here = rw (le-leb (at + definitionWidth ex) (length part) (omega (arith, next-place, mul-le-mul-right (definitionWidth ex) h)))
+  there : isThere ex part at ≡ true
+  there = le-leb (at + definitionWidth ex) (length part) (omega (arith, next-place, mul-le-mul-right (definitionWidth ex) h))
 
-  pub never-short : Short ≡ definitionAt ex part at → ⊥
-  never-short e = let z : _≡_ {A = ℕ} 0 1 = cc here in omega arith
+  -- a definition is found, and behind it is the place of the next one
+  pub place-next : placeBehind ex part at ≡ 1 + (k + 1) * definitionWidth ex
+  place-next = rw there next-place
 
-  pub definition-next : (list : List Variable) (v : Variable) (next : ℕ) → Found v next ≡ definitionAt ex part at
-      → (next ≡ 1 + (k + 1) * definitionWidth ex)
-      × (sets (set list k v) (k + 1) (definitionsIn ex (count - (k + 1)) (drop next part)) ≡ sets list k (definitionsIn ex (count - k) (drop at part)))
-  definition-next list v next e =
-      let f : Found v next ≡ Found (definitionIn ex (drop at part)) (at + definitionWidth ex) = e ∙ here in
-      let ev : v ≡ definitionIn ex (drop at part) = cc in
-      let en : next ≡ at + definitionWidth ex = cc in
+  -- what is found there is kept: what is left to read then gives the same whole
+  pub list-next : (list : List Variable) (v : Variable) → v ≡ variableOf (definitionAt ex part at)
+      → sets (set list k v) (k + 1) (definitionsIn ex (count - (k + 1)) (drop (placeBehind ex part at) part)) ≡ sets list k (definitionsIn ex (count - k) (drop at part))
+  list-next list v e =
       let m : count - k ≡ suc (count - (k + 1)) = omega arith in
-      (en ∙ next-place, rw (ev, en, m, add-one k, drop-drop (definitionWidth ex) at part))
+      rw (e, there, m, add-one k, drop-drop (definitionWidth ex) at part)
+
+-- the code's test, behind the one that the place lies in the part, is that of the document
+pub there-by-test : (part : List ℕ) (ex : Bool) (at width : ℕ) → width ≡ addressWidth ex → at < length part → ltb width (length part - at) ≡ isThere ex part at
+there-by-test part ex at width e h = by-test (ltb width (length part - at)) refl
+  where
+    by-test : (t : Bool) → ltb width (length part - at) ≡ t → t ≡ isThere ex part at
+    by-test true f = sym (le-leb (at + definitionWidth ex) (length part) (omega (arith, ltb-true width (length part - at) f)))
+    by-test false f = sym (lt-leb (at + definitionWidth ex) (length part) (omega (arith, ltb-false width (length part - at) f)))
 
 -- what the code makes of the bytes at a place is the definition there
-pub found-at : (part : List ℕ) (ex : Bool) (at width address : ℕ) → width ≡ addressWidth ex → at + (1 + width) ≤ length part
+pub found-at : (part : List ℕ) (ex : Bool) (at width address : ℕ) → width ≡ addressWidth ex → isThere ex part at ≡ true
     → address ≡ number (bytesAt part (at + 1) width)
-    → Found (record { address = address; size = getD part at 0 }) (at + 1 + width) ≡ definitionAt ex part at
-found-at part ex at width address ew fits ea =
-    let e : at + 1 + addressWidth ex ≡ at + definitionWidth ex = omega arith in
-    rw (ea, ew, e, le-leb (at + definitionWidth ex) (length part) (omega arith), getD-drop at part 0 0, add-zero at, drop-drop 1 at part)
+    → Found (record { address = address; size = getD part at 0 }) ≡ definitionAt ex part at
+found-at part ex at width address ew is-there ea =
+    rw (ea, ew, is-there, getD-drop at part 0 0, add-zero at, drop-drop 1 at part)
 
 -- ---- a whole part
 

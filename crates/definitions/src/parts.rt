@@ -1,39 +1,13 @@
 // A part of a setup's data: a count, then size and address each.
 ghost use mathlib.Core.Path.{_≡_};
-ghost use Prim.Native.Nat.{_+_, _*_, _≤_};
-ghost use lib.ListN.{length, drop};
-ghost use lib.Seq.{sets};
-ghost use Rattle.document.specs.Variables.{definitionWidth, definitionsIn};
 ghost use Rattle.variables.specs.State.{noVariables};
 ghost use Rattle.definitions.specs.Parts.{partRead};
-use crate::reader::Definition;
 use crate::reader::address_width;
-use crate::reader::read_next;
+use crate::reader::no_variables;
+use crate::reader::read_all;
 use variables::MOST_VARIABLES;
 use variables::Variables;
 use widths::usize_of_u8;
-
-// Each definition begins where the one before it ended; who asks has seen that the part holds them all.
-fn definitions(part: &[u8], count: usize, ex: bool) -> [document::Variable; MOST_VARIABLES]
-    requires { ⌜ (count ≤ 8) × (1 + count * definitionWidth ex ≤ length (now part)) ⌝ }
-    ensures { λ r. ⌜ r ≡ sets noVariables 0 (definitionsIn ex count (drop 1 (now (part .entry)))) ⌝ }
-{
-    let mut list = [document::Variable {
-        address: 0,
-        size: 0,
-    }; MOST_VARIABLES];
-    let mut at = 1;
-    let mut k = 0;
-    while k < count {
-        let Definition::Found(variable, next) = read_next(part, at, ex) else {
-            return list;
-        };
-        list[k] = variable;
-        at = next;
-        k += 1;
-    }
-    list
-}
 
 // What reading a part gives: whether its length is the one that its count gives, the count, and up to eight variables.
 pub struct Part {
@@ -50,10 +24,7 @@ fn without_variables(whole: bool, count: u8) -> Part
         count,
         variables: Variables {
             count: 0,
-            list: [document::Variable {
-                address: 0,
-                size: 0,
-            }; MOST_VARIABLES],
+            list: no_variables(),
         },
     }
 }
@@ -72,7 +43,7 @@ pub fn read_variables(part: &[u8], ex: bool) -> Part
     if n > MOST_VARIABLES {
         return without_variables(true, count);
     }
-    let list = definitions(part, n, ex);
+    let list = read_all(part, n, ex);
     Part {
         whole: true,
         count,

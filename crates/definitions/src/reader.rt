@@ -1,12 +1,16 @@
 // The small reader: a data part, and the place where the next definition begins.
 ghost use mathlib.Core.Path.{_≡_};
-ghost use Prim.Native.Nat.{_≤_};
-ghost use Rattle.document.specs.Variables.{addressWidth};
-ghost use Rattle.definitions.specs.Parts.{definitionAt};
+ghost use Prim.Native.Nat.{_+_, _*_, _≤_};
+ghost use lib.ListN.{length, drop};
+ghost use lib.Seq.{sets};
+ghost use Rattle.document.specs.Variables.{addressWidth, definitionWidth, definitionsIn};
+ghost use Rattle.definitions.specs.Parts.{isThere, definitionAt, placeBehind, movedBehind, variableOf};
+ghost use Rattle.variables.specs.State.{noVariables};
+use variables::MOST_VARIABLES;
 
-// What stands at a place of a part: a definition and where the next one begins, or too few bytes.
+// What stands at a place of a part: a definition, or too few bytes.
 pub enum Definition {
-    Found(document::Variable, usize),
+    Found(document::Variable),
     Short,
 }
 
@@ -17,24 +21,36 @@ pub fn address_width(ex: bool) -> usize
     if ex { 4 } else { 2 }
 }
 
+fn is_there(part: &[u8], at: usize, ex: bool) -> bool
+    ensures { λ r. ⌜ r ≡ isThere ex (now (part .entry)) at ⌝ }
+{
+    if part.len() <= at {
+        return false;
+    }
+    part.len() - at > address_width(ex)
+}
+
 fn definition_at(part: &[u8], at: usize, ex: bool) -> Definition
     ensures { λ r. ⌜ r ≡ definitionAt ex (now (part .entry)) at ⌝ }
 {
-    if part.len() <= at {
+    if !is_there(part, at, ex) {
         return Definition::Short;
     }
-    let width = address_width(ex);
-    if part.len() - at < 1 + width {
-        return Definition::Short;
+    let address = memory::number_at(part, at + 1, address_width(ex));
+    Definition::Found(document::Variable {
+        address,
+        size: part[at],
+    })
+}
+
+// Behind the definition at a place, or that place where there is none.
+fn place_behind(part: &[u8], at: usize, ex: bool) -> usize
+    ensures { λ r. ⌜ r ≡ placeBehind ex (now (part .entry)) at ⌝ }
+{
+    if !is_there(part, at, ex) {
+        return at;
     }
-    let address = memory::number_at(part, at + 1, width);
-    Definition::Found(
-        document::Variable {
-            address,
-            size: part[at],
-        },
-        at + 1 + width,
-    )
+    at + 1 + address_width(ex)
 }
 
 pub struct Reader<'a> {
@@ -43,16 +59,48 @@ pub struct Reader<'a> {
 }
 
 impl<'a> Reader<'a> {
-    fn next(self, ex: bool) -> Definition
-        ensures { λ r. ⌜ r ≡ definitionAt ex (now (self .entry .part)) (self .entry .at) ⌝ }
+    // Each definition begins where the one before it ended: the reader moves behind the one that it gives.
+    fn next(&mut self, ex: bool) -> Definition
+        ensures { λ r. ⌜ (r ≡ definitionAt ex (now (now (self .entry) .part)) (now (self .entry) .at)) × (now (self .exit) ≡ movedBehind ex (now (self .entry))) ⌝ }
     {
-        definition_at(self.part, self.at, ex)
+        let found = definition_at(self.part, self.at, ex);
+        self.at = place_behind(self.part, self.at, ex);
+        found
     }
 }
 
-// From a slice to a reader and back, so that a loop over definitions holds no reader.
-pub(crate) fn read_next(part: &[u8], at: usize, ex: bool) -> Definition
-    ensures { λ r. ⌜ r ≡ definitionAt ex (now (part .entry)) at ⌝ }
+pub(crate) fn no_variables() -> [document::Variable; MOST_VARIABLES]
+    ensures { λ r. ⌜ r ≡ noVariables ⌝ }
 {
-    Reader { part, at }.next(ex)
+    [document::Variable {
+        address: 0,
+        size: 0,
+    }; MOST_VARIABLES]
+}
+
+fn variable_of(found: Definition) -> document::Variable
+    ensures { λ r. ⌜ r ≡ variableOf found ⌝ }
+{
+    match found {
+        Definition::Found(variable) => variable,
+        Definition::Short => document::Variable {
+            address: 0,
+            size: 0,
+        },
+    }
+}
+
+// One reader reads all definitions of a part that holds them.
+pub(crate) fn read_all(part: &[u8], count: usize, ex: bool) -> [document::Variable; MOST_VARIABLES]
+    requires { ⌜ (count ≤ 8) × (1 + count * definitionWidth ex ≤ length (now part)) ⌝ }
+    ensures { λ r. ⌜ r ≡ sets noVariables 0 (definitionsIn ex count (drop 1 (now (part .entry)))) ⌝ }
+{
+    let mut list = no_variables();
+    let mut reader = Reader { part, at: 1 };
+    let mut k = 0;
+    while k < count {
+        list[k] = variable_of(reader.next(ex));
+        k += 1;
+    }
+    list
 }

@@ -4,34 +4,38 @@
 -- `log_gate_tick` is called, or the gate's own program writes its memory; and refused calls anywhere among them. Of a call only its
 -- promise is known (`byte_call.Promises.ByteTaken`, `tick_call.Promises.TickTaken`), and that promise is the contract that the prover
 -- holds the compiled function to. What the calls are compared with is document 01 as definitions (`document`), never a program.
-use mathlib.Core.Path.{_≡_, sym, ap, subst, _∙_}
+use mathlib.Core.Path.{_≡_, refl, sym, ap, subst, _∙_}
 use mathlib.Core.Bool.{true, false}
 use mathlib.Core.List.{List, [], _∷_, _++_}
-use Prim.Native.Nat.{ℕ, _<_, _≤_}
+use Prim.Native.Nat.{ℕ, suc, _*_, _<_, _≤_}
+use lib.Dec.{ltb}
 use lib.ListN.{length, drop}
 use Rattle.document.specs.Numbers.{mostData, answerRoom, taken, sumWrong}
-use Rattle.document.specs.Message.{Message, sumRight, wellFormed, onWire}
+use Rattle.document.specs.Message.{Message, sumRight, wellFormed, onWire, finishedBy}
 use Rattle.document.specs.Answer.{Answer}
 use Rattle.document.specs.AnswerWriter.{answerRefusal}
 use Rattle.document.specs.CommandWriter.{commandRefusal}
 use Rattle.document.specs.Plan.{Plan}
-use Rattle.document.specs.Run.{started}
+use Rattle.document.specs.Run.{Run as DocumentRun, started}
 use Rattle.document.specs.Recorder.Recorder.{planned}
 use Rattle.document.specs.Sets.{setsTaken}
 use Rattle.document.specs.Gate.{Gate, says, fresh as gate}
 use Rattle.document.specs.Commands.{answered}
-use Rattle.document.specs.Happenings.{Happening, Since, afterAll, fromReset as since}
-use Rattle.document.specs.Happenings.Happening.{byte}
-use Rattle.history.specs.History.{memoriesLeft}
+use Rattle.document.specs.Asides.Aside.{tick}
+use Rattle.document.specs.Happenings.{Happening, Since, after as happened, afterAll, fromReset as since}
+use Rattle.document.specs.Happenings.Happening.{byte, aside}
+use Rattle.history.specs.History.{memoriesLeft, TriggersNext, Unstopped}
 use Rattle.line.specs.declared.Written.{Written}
 use Rattle.line.specs.AnswerWritten.{AnswerWritten}
+use Rattle.link.specs.Report.{Beside, sinceReset}
 use Rattle.link.specs.Runs.{oddRun}
+use Rattle.link.proofs.Idle.{Idle, finished-idle}
 use Rattle.commands.specs.CommandWritten.{CommandWritten}
 use Rattle.outcomes.specs.Starts.{starts, Begins}
 use Rattle.outcomes.proofs.Recording.{start-begins}
 use Rattle.happenings.specs.Bytes.{bytesOf, besideBytes, AreBytes}
-use Rattle.happenings.specs.Recording.{events, AllUndisturbed}
-use Rattle.happenings.proofs.Resync.{bytes-after, resync-even, resync-next}
+use Rattle.happenings.specs.Recording.{events, ticksOf, AllUnstarted, AllUndisturbed}
+use Rattle.happenings.proofs.Resync.{told-bytes, bytes-after, resync-even, resync-next}
 use Rattle.state.specs.Within.{MemoryWithin}
 use Rattle.blocks.specs.Places.{stateLength}
 use Rattle.blocks.specs.Layout.{decoded}
@@ -47,9 +51,10 @@ use Rattle.demands.specs.Lent.{lends}
 use Rattle.demands.specs.Run.{ByByte, Step, Refused, Run, Ready}
 use Rattle.demands.specs.Refused.{ResetRefused, CheckRefused, ByteRefused, TickRefused, WriteRefused, BeginRefused, ReadRefused, WireRefused}
 use Rattle.demands.specs.Sent.{Sent}
-use Rattle.demands.specs.Stands.{Stands}
+use Rattle.demands.specs.Stands.{blank, Stands}
 use Rattle.demands.specs.Fresh.{AnsweredFresh, NothingByHalf}
 use Rattle.demands.specs.Recorded.{Recorded}
+use Rattle.demands.specs.Recorder.{Begun, Goes, OnlyItsPlace}
 use Rattle.demands.specs.Readings.{ByRead, Readings, Reads}
 use Rattle.demands.proofs.Refused as calls
 use Rattle.demands.proofs.EndsRefused as both-ends
@@ -58,6 +63,7 @@ use Rattle.demands.proofs.Turns.{turn-stands}
 use Rattle.demands.proofs.Runs.{Reached, reached-reset, reached-step, reached-run, bytes-on, plan-fits}
 use Rattle.demands.proofs.Fresh.{answered-fresh, by-half}
 use Rattle.demands.proofs.Recorded.{recorded}
+use Rattle.demands.proofs.Recorder.{start-begun, tick-touches, run-stops}
 use Rattle.demands.proofs.Readings as readings
 
 -- ---- Demand 1: "The line may bring anything at any moment without a fault. No entry relies on its caller. Each refusal has one
@@ -189,6 +195,39 @@ module _ (block memory : List ℕ) (r : ℕ) (after : List ℕ) (long : stateLen
         let end = reached-run h last hs on reached more there in
         recorded h last reached hs (there .stands) (end .stands) (there .within .memory-part .size) p
         (plan-fits h reached there p started just) just quiet
+
+  -- "A tick changes only that place."
+  module _ (p : Plan) (run-now : DocumentRun) (has : gateIn h .recorder ≡ planned p run-now) where
+    pub recorder-ticks : (last : House) → Step h (aside tick) last → OnlyItsPlace p run-now h last
+    recorder-ticks last step =
+        tick-touches h last reached (there .stands) p run-now has (plan-fits h reached there p run-now has) (there .within .memory-part .size)
+        (reached-step h reached there (aside tick) last tt step .stands)
+
+    -- "Unless a stop comes sooner, it thus stops post-trigger × (time divider + 1) ticks after the trigger.": the trigger comes at
+    -- the next tick, and `hs` is what happens behind it
+    pub recorder-stops : TriggersNext p (record { run = run-now; memory = h .memory }) → (hs : List Happening) (last : House) → AreBytes hs
+        → AllUnstarted (happened reached (aside tick)) hs → Unstopped (events (happened reached (aside tick)) hs) → Run h (aside tick ∷ hs) last
+        → Goes p last (ltb (ticksOf hs) (p .postTrigger * suc (p .divider)))
+    recorder-stops triggers hs last more quiet unstopped on =
+        run-stops h last reached (there .stands) p run-now has (there .within .memory-part .size) hs (tt, quiet)
+        (reached-run h last (aside tick ∷ hs) on reached (tt, more) there .stands)
+        triggers unstopped
+
+  -- the byte that finishes an accepted start leaves the premise of the history
+  pub recorder-begun : (b : ℕ) (last : House) → b < 256 → Step h (byte b) last → (m : Message) (more : List Message) → finishedBy (bytesOf first) b ≡ m ∷ more
+      → starts (gateIn h) m ≡ true → Begun last
+  recorder-begun b last small step m more finished start =
+      start-begun h last reached (there .stands) b (reached-step h reached there (byte b) last small step .stands) m more
+      (ap (λ (l : List ℕ). finishedBy l b) reached-bytes ∙ finished) start
+
+  -- ---- the link behind an answer, whatever it says: outside a message, and no 0x2B waits
+  pub link-idle : (b : ℕ) (last : House) → b < 256 → Step h (byte b) last → (m : Message) (more : List Message) → finishedBy (bytesOf first) b ≡ m ∷ more
+      → Idle (decoded (last .block) .receiver)
+  link-idle b last small step m more finished =
+      let end = reached-step h reached there (byte b) last small step in
+      let link = end .stands .link-part ∙ ap (λ (bs : List ℕ). sinceReset blank bs) (told-bytes (finishedBy (reached .bytes) b) _) in
+      subst (λ (q : Beside). Idle (q .receiver)) (sym link)
+      (finished-idle blank refl (reached .bytes) b m more (ap (λ (l : List ℕ). finishedBy l b) reached-bytes ∙ finished))
 
 -- ".. with a right sum ..": of a message whose sum is wrong the definition carries nothing out, it says 0x82 and leaves the gate
 pub demand-3-sum : (g : Gate) (m : Message) → sumRight m ≡ false → answered g m ≡ says g sumWrong []

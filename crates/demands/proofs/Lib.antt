@@ -9,5 +9,6 @@ pub mod Turns
 pub mod Runs
 pub mod Fresh
 pub mod Recorded
+pub mod Recorder
 pub mod Readings
 pub mod Demands

@@ -14,7 +14,7 @@ use Rattle.document.specs.Happenings.{Happening, Since, afterAll}
 use Rattle.history.specs.History.{PlanFits, begun, after, memoriesLeft}
 use Rattle.history.proofs.History.{history, next-place}
 use Rattle.happenings.specs.Recording.{events, AllUndisturbed}
-use Rattle.happenings.proofs.Follows.{Followed, followed-all}
+use Rattle.happenings.proofs.Follows.{Followed, followed-all, unstarted}
 use Rattle.demands.specs.House.{House, gateIn}
 use Rattle.demands.specs.Stands.{Stands}
 use Rattle.demands.specs.Recorded.{Recorded}
@@ -24,7 +24,7 @@ module _ (h last : House) (s : Since) (hs : List Happening) (now : Stands h s) (
   same-memory : s .gate .memory ≡ h .memory
   same-memory = ap (λ (g : Gate). g .memory) (sym (now .gate))
 
-  followed : Followed p (afterAll s hs .gate) (begun (h .memory)) (events s hs)
+  followed : Followed p (AllUndisturbed s hs) (afterAll s hs .gate) (begun (h .memory)) (events s hs)
   followed =
       followed-all p hs s (begun (h .memory))
       (record {
@@ -32,7 +32,7 @@ module _ (h last : House) (s : Since) (hs : List Happening) (now : Stands h s) (
         memory = same-memory;
         size = ap length same-memory ∙ size;
       })
-      quiet
+      (unstarted hs s quiet)
 
   pub recorded : Recorded p last (setsTaken p (memoriesLeft (h .memory) (events s hs)))
   recorded =
@@ -45,6 +45,6 @@ module _ (h last : House) (s : Since) (hs : List Happening) (now : Stands h s) (
         recorder = ap (λ (g : Gate). g .recorder) (end .gate) ∙ followed .follows .recorder;
         reading =
             ap (λ (m : List ℕ). readRound p m (startIndex run) (min (length sets) (p .samples))) memory
-            ∙ history p (h .memory) (events s hs) fits size (followed .leaves);
-        place = next-place p (h .memory) (events s hs) fits size (followed .leaves);
+            ∙ history p (h .memory) (events s hs) fits size (followed .leaves quiet);
+        place = next-place p (h .memory) (events s hs) fits size (followed .leaves quiet);
       }

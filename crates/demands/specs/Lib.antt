@@ -7,4 +7,5 @@ pub mod Sent
 pub mod Stands
 pub mod Fresh
 pub mod Recorded
+pub mod Recorder
 pub mod Readings

@@ -1,6 +1,12 @@
 pub mod Areas
+pub mod Bytes
+pub mod Calls
 pub mod Cases
 pub mod Order
+pub mod Pairs
 pub mod Places
+pub mod Refused
+pub mod Rows
 pub mod Staples
 pub mod Values
+pub mod Table

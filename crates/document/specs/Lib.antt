@@ -1,4 +1,4 @@
--- Document 01 as definitions, in its order. A reader must believe these files and nothing else.
+-- Document 01 as definitions, in its order, and rows that are proved of them. docs/PROMISES.md lists what else a reader must believe.
 
 -- "What the build holds"
 pub mod Bytes
@@ -38,3 +38,19 @@ pub mod Asides
 pub mod Happenings
 pub mod Staples
 pub mod Further
+-- the rows behind the staples: how they are written, then by subject
+pub mod Hex
+pub mod Rows
+pub mod LineRows
+pub mod RefusalPairs
+pub mod CallRows
+pub mod ReaderRows
+pub mod KindRows
+pub mod ReadRows
+pub mod WriteRows
+pub mod ScopeRows
+pub mod SetupRows
+pub mod RecorderRows
+pub mod EdgeRows
+pub mod TriggerRows
+pub mod SetRows

@@ -23,7 +23,7 @@ use Rattle.history.specs.History.{Event, Recording, AllLeaveBuffer}
 use Rattle.history.specs.History as history
 use Rattle.outcomes.specs.Starts.{starts, stops}
 use Rattle.outcomes.proofs.Recording.{stop-stops, others-pass}
-use Rattle.happenings.specs.Recording.{eventsOf, eventsBeside, eventsAt, events, NoStart, LeavesBuffer, Undisturbed, AllUndisturbed}
+use Rattle.happenings.specs.Recording.{eventsOf, eventsBeside, eventsAt, events, NoStart, Unstarted, AllUnstarted, LeavesBuffer, Undisturbed, AllUndisturbed}
 use Rattle.happenings.proofs.Recording.{message-leaves, ticked-length}
 
 -- the gate's recorder has this plan, and goes through this history
@@ -33,13 +33,13 @@ pub record Follows (p : Plan) (gate : Gate) (g : Recording) : Type 0 where
   pub size : length (gate .memory) ≡ memoryEnd
 
 module _ (p : Plan) where
-  -- what is left, and that the buffer is
-  pub record Followed (gate : Gate) (g : Recording) (es : List Event) : Type 0 where
+  -- what is left; and that the buffer is, where nobody disturbs it
+  pub record Followed (quiet : Type 0) (gate : Gate) (g : Recording) (es : List Event) : Type 0 where
     pub follows : Follows p gate (history.after p g es)
-    pub leaves : AllLeaveBuffer p g es
+    pub leaves : quiet → AllLeaveBuffer p g es
 
-  followed-message : (gate : Gate) (g : Recording) (m : Message) (ms : List Message) → Follows p gate g → starts gate m ≡ false
-      → Followed (answered gate m .gate) g (eventsOf gate (m ∷ ms))
+  followed-message : {quiet : Type 0} (gate : Gate) (g : Recording) (m : Message) (ms : List Message) → Follows p gate g → starts gate m ≡ false
+      → Followed quiet (answered gate m .gate) g (eventsOf gate (m ∷ ms))
   followed-message gate g m ms f no-start =
       split (stops gate m)
       (λ t.
@@ -47,32 +47,32 @@ module _ (p : Plan) where
       rw t
       (record {
         follows = record { recorder = s .0; memory = s .1 ∙ f .memory; size = ap length (s .1) ∙ f .size };
-        leaves = (tt, tt);
+        leaves = λ quiet. (tt, tt);
       }))
       (λ n.
       let left = message-leaves gate m (f .size) in
       rw n
       (record {
         follows = record { recorder = others-pass gate m p (g .run) (f .recorder) no-start n; memory = refl; size = left .0 };
-        leaves = ((left .0, left .1 ∙ ap (drop bufferBegin) (f .memory)), tt);
+        leaves = λ quiet. ((left .0, left .1 ∙ ap (drop bufferBegin) (f .memory)), tt);
       }))
 
   module _ (s : Since) (g : Recording) (f : Follows p (s .gate) g) where
-    followed-byte : (b : ℕ) → Undisturbed s (byte b) → Followed (after s (byte b) .gate) g (eventsAt s (byte b))
+    followed-byte : (b : ℕ) → Unstarted s (byte b) → Followed (Undisturbed s (byte b)) (after s (byte b) .gate) g (eventsAt s (byte b))
     followed-byte b quiet = by (finishedBy (s .bytes) b) refl
       where
-        by : (ms : List Message) → finishedBy (s .bytes) b ≡ ms → Followed (after s (byte b) .gate) g (eventsAt s (byte b))
+        by : (ms : List Message) → finishedBy (s .bytes) b ≡ ms → Followed (Undisturbed s (byte b)) (after s (byte b) .gate) g (eventsAt s (byte b))
         by [] e =
-            subst (λ (ms : List Message). Followed (told (record { bytes = s .bytes ++ (b ∷ []); gate = s .gate; answers = s .answers }) ms .gate) g (eventsOf (s .gate) ms)) (sym e)
-            (record { follows = f; leaves = tt })
+            subst (λ (ms : List Message). Followed (Undisturbed s (byte b)) (told (record { bytes = s .bytes ++ (b ∷ []); gate = s .gate; answers = s .answers }) ms .gate) g (eventsOf (s .gate) ms)) (sym e)
+            (record { follows = f; leaves = λ undisturbed. tt })
         by (m ∷ ms) e =
-            subst (λ (ms : List Message). Followed (told (record { bytes = s .bytes ++ (b ∷ []); gate = s .gate; answers = s .answers }) ms .gate) g (eventsOf (s .gate) ms)) (sym e)
+            subst (λ (ms : List Message). Followed (Undisturbed s (byte b)) (told (record { bytes = s .bytes ++ (b ∷ []); gate = s .gate; answers = s .answers }) ms .gate) g (eventsOf (s .gate) ms)) (sym e)
             (followed-message (s .gate) g m ms f
             (subst (λ (l : List Message). NoStart (s .gate) l) e quiet))
 
-    followed-beside : (a : Aside) → LeavesBuffer (s .gate) a → Followed (beside (s .gate) a) g (eventsBeside (s .gate) a)
+    followed-beside : (a : Aside) → Followed (LeavesBuffer (s .gate) a) (beside (s .gate) a) g (eventsBeside (s .gate) a)
     unfolding beside
-    followed-beside tick quiet =
+    followed-beside tick =
         record {
           follows =
               record {
@@ -84,14 +84,14 @@ module _ (p : Plan) where
                     ∙ ap (λ (m : List ℕ). memoryAfterTick p (g .run) m) (f .memory);
                 size = ticked-length (s .gate .recorder) (s .gate .memory) ∙ f .size;
               };
-          leaves = (tt, tt);
+          leaves = λ quiet. (tt, tt);
         }
-    followed-beside (writes address bytes) quiet =
+    followed-beside (writes address bytes) =
         let size : length (stored (s .gate .memory) address bytes) ≡ memoryEnd =
         stored-length (s .gate .memory) (stored (s .gate .memory) address bytes) bytes address refl ∙ f .size in
         record {
           follows = record { recorder = f .recorder; memory = refl; size = size };
-          leaves = ((size, quiet ∙ ap (drop bufferBegin) (f .memory)), tt);
+          leaves = λ quiet. ((size, quiet ∙ ap (drop bufferBegin) (f .memory)), tt);
         }
 
   -- ---- one after the other
@@ -103,21 +103,28 @@ module _ (p : Plan) where
   leaves-append [] fs g left right = right
   leaves-append (e ∷ es) fs g left right = (left .0, leaves-append es fs (history.stepped p g e) (left .1) right)
 
-  followed-append : (between last : Gate) (g : Recording) (es fs : List Event) → Followed between g es → Followed last (history.after p g es) fs → Followed last g (es ++ fs)
+  followed-append : {first-quiet second-quiet : Type 0} (between last : Gate) (g : Recording) (es fs : List Event) → Followed first-quiet between g es
+      → Followed second-quiet last (history.after p g es) fs → Followed (first-quiet × second-quiet) last g (es ++ fs)
   followed-append between last g es fs first second =
       record {
         follows = subst (λ (q : Recording). Follows p last q) (sym (after-append es fs g)) (second .follows);
-        leaves = leaves-append es fs g (first .leaves) (second .leaves);
+        leaves = λ quiet. leaves-append es fs g (first .leaves (quiet .0)) (second .leaves (quiet .1));
       }
 
-  pub followed-all : (hs : List Happening) (s : Since) (g : Recording) → Follows p (s .gate) g → AllUndisturbed s hs
-      → Followed (afterAll s hs .gate) g (events s hs)
-  followed-all [] s g f quiet = record { follows = f; leaves = tt }
+  pub followed-all : (hs : List Happening) (s : Since) (g : Recording) → Follows p (s .gate) g → AllUnstarted s hs
+      → Followed (AllUndisturbed s hs) (afterAll s hs .gate) g (events s hs)
+  followed-all [] s g f quiet = record { follows = f; leaves = λ undisturbed. tt }
   followed-all (byte b ∷ hs) s g f quiet =
       let one = followed-byte s g f b (quiet .0) in
       followed-append (after s (byte b) .gate) (afterAll (after s (byte b)) hs .gate) g (eventsAt s (byte b)) (events (after s (byte b)) hs) one
       (followed-all hs (after s (byte b)) (history.after p g (eventsAt s (byte b))) (one .follows) (quiet .1))
   followed-all (aside a ∷ hs) s g f quiet =
-      let one = followed-beside s g f a (quiet .0) in
+      let one = followed-beside s g f a in
       followed-append (beside (s .gate) a) (afterAll (after s (aside a)) hs .gate) g (eventsBeside (s .gate) a) (events (after s (aside a)) hs) one
       (followed-all hs (after s (aside a)) (history.after p g (eventsBeside (s .gate) a)) (one .follows) (quiet .1))
+
+-- what nobody disturbs, nobody starts anew
+pub unstarted : (hs : List Happening) (s : Since) → AllUndisturbed s hs → AllUnstarted s hs
+unstarted [] s quiet = tt
+unstarted (byte b ∷ hs) s quiet = (quiet .0, unstarted hs (after s (byte b)) (quiet .1))
+unstarted (aside a ∷ hs) s quiet = (tt, unstarted hs (after s (aside a)) (quiet .1))

@@ -1,5 +1,7 @@
 -- The laws, lowest first.
 pub mod Happened
 pub mod Resync
+pub mod FreshLink
 pub mod Recording
+pub mod Ticks
 pub mod Follows

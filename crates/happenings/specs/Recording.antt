@@ -2,7 +2,7 @@
 use mathlib.Core.Path.{_≡_}
 use mathlib.Core.Bool.{false, cond}
 use mathlib.Core.List.{List, [], _∷_, _++_}
-use Prim.Native.Nat.{ℕ}
+use Prim.Native.Nat.{ℕ, _+_}
 use lib.ListN.{drop}
 use Rattle.document.specs.Areas.{bufferBegin}
 use Rattle.document.specs.Message.{Message, finishedBy}
@@ -33,10 +33,28 @@ abbrev pub events : Since → List Happening → List Event
 events s [] = []
 events s (h ∷ hs) = eventsAt s h ++ events (after s h) hs
 
+-- how many ticks there are among what happens
+abbrev pub ticksBeside : Aside → ℕ
+ticksBeside tick = 1
+ticksBeside (writes address bytes) = 0
+
+abbrev pub ticksOf : List Happening → ℕ
+ticksOf [] = 0
+ticksOf (byte b ∷ hs) = ticksOf hs
+ticksOf (aside a ∷ hs) = ticksBeside a + ticksOf hs
+
 -- no message starts the recorder anew
 abbrev pub NoStart : Gate → List Message → Type 0
 NoStart g [] = Unit {0}
 NoStart g (m ∷ ms) = starts g m ≡ false
+
+abbrev pub Unstarted : Since → Happening → Type 0
+Unstarted s (byte b) = NoStart (s .gate) (finishedBy (s .bytes) b)
+Unstarted s (aside a) = Unit {0}
+
+abbrev pub AllUnstarted : Since → List Happening → Type 0
+AllUnstarted s [] = Unit {0}
+AllUnstarted s (h ∷ hs) = Unstarted s h × AllUnstarted (after s h) hs
 
 -- "So long as nobody else writes the buffer": commands cannot, and the gate's own program does not
 abbrev pub LeavesBuffer : Gate → Aside → Type 0

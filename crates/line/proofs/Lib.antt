@@ -3,6 +3,7 @@
 pub mod Pairing
 pub mod Machine
 pub mod Frames
+pub mod Grows
 pub mod Resync
 pub mod RightSum
 pub mod RoundTrip

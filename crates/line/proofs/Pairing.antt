@@ -1,6 +1,6 @@
 -- Laws on the pairing, a byte at a time: the bytes before a place matter only by whether a 0x2B waits there.
 use Prim.Native.Nat.{ℕ}
-use mathlib.Core.Path.{_≡_, refl, sym, ap}
+use mathlib.Core.Path.{_≡_, refl, sym, ap, _∙_}
 use mathlib.Core.List.{List, [], _∷_, _++_, append-assoc, append-nil, map, foldl}
 use mathlib.Core.Bool.{Bool, true, false, cond, not}
 use borrow.Author.Tests.{eqb-true}
@@ -60,6 +60,14 @@ pub paired-settled : (bs cs : List ℕ) → waitsAfter bs ≡ false → paired (
 unfolding waitsAfter
 paired-settled bs cs settled = rw settled at (paired-append bs cs false)
 
+-- what the last byte brings stands behind all the rest
+pub paired-last : (bs : List ℕ) (b : ℕ) → paired (bs ++ (b ∷ [])) ≡ paired bs ++ tokensAt (waitsAfter bs) b
+unfolding waitsAfter
+paired-last bs b =
+    let waiting = foldl waitsBehind false bs in
+    paired-append bs (b ∷ []) false
+    ∙ ap (λ (ts : List Token). paired bs ++ ts) (paired-byte waiting b [] ∙ rw (paired-none (waitsBehind waiting b)) (append-nil (tokensAt waiting b)))
+
 -- ---- a start and stuffed literals
 abbrev pub framed : ℕ → List ℕ → List ℕ
 framed c ls = 0x2B ∷ c ∷ stuffed ls
@@ -86,7 +94,7 @@ module _ {A : Type 0} (whole : List ℕ → List A) where
   untilStart-start (literal l ∷ ts) us = ap (λ (r : List ℕ). l ∷ r) (untilStart-start ts us)
 
   -- a start ends what stands before it
-  opened-start : (ts us : List Token) → opened whole (ts ++ start ∷ us) ≡ opened whole ts ++ opened whole (start ∷ us)
+  pub opened-start : (ts us : List Token) → opened whole (ts ++ start ∷ us) ≡ opened whole ts ++ opened whole (start ∷ us)
   opened-start [] us = refl
   opened-start (start ∷ ts) us =
       rw (

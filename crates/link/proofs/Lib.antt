@@ -4,6 +4,7 @@ pub mod Events
 pub mod Body
 pub mod Owed
 pub mod Reports
+pub mod Idle
 pub mod Runs
 pub mod Demands
 pub mod Places

@@ -3,6 +3,7 @@ ghost use Prim.Native.Nat.{_≤_};
 ghost use lib.ListN.{length};
 ghost use Rattle.play.specs.Bounds.{Bounded};
 use crate::order::Order;
+use adler::adler32;
 use log_gate::LOG_GATE_ANSWER_ROOM;
 use log_gate::LOG_GATE_MEMORY;
 use log_gate::LOG_GATE_STATE;
@@ -13,7 +14,6 @@ use script::output::put_bytes;
 use script::output::put_decimal;
 use script::output::put_text;
 use script::output::put_word;
-use words::adler::adler32;
 
 fn put_answer(index: u64, answer: &[u8], length: usize, out: &mut [u8; 65536], at: usize) -> usize {
     if length == 0 || length > answer.len() {

@@ -3,3 +3,4 @@ pub mod Parts
 pub mod ByteLaws
 pub mod Fits
 pub mod Keeps
+pub mod Apart

@@ -1,5 +1,3 @@
--- Laws of what a word says and of the checksum, each for one more character or byte.
-pub mod Sums
+-- Laws of words, and of what is read off them.
 pub mod Spreads
-pub mod Digits
 pub mod Reading

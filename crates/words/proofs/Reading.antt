@@ -4,10 +4,10 @@ use mathlib.Core.List.{List}
 use Prim.Native.Nat.{ℕ, _-_}
 use lib.ListN.{take, drop}
 use Rattle.words.specs.Words.{wordStart, wordEnd}
-use Rattle.words.specs.Numbers.{hexOf, decimalOf}
+use Rattle.numbers.specs.Numbers.{hexOf, decimalOf}
 use Rattle.words.specs.Operands.{byteThen, byteAt, numberThen, numberAt}
-use Rattle.words.specs.declared.numbers.Byte.{Byte}
-use Rattle.words.specs.declared.numbers.Number.{Number}
+use Rattle.numbers.specs.declared.Byte.{Byte}
+use Rattle.numbers.specs.declared.Number.{Number}
 
 module _ (line : List ℕ) (from start end : ℕ) (s : start ≡ wordStart line from) (e : end ≡ wordEnd line from) where
   pub byte-read : (b : Byte) → b ≡ hexOf (take (end - start) (drop start line)) → byteThen b end ≡ byteAt line from

@@ -1,5 +1,3 @@
--- What the words of a script say, and the checksum that ends it.
-pub mod Adler
+-- What the words of a line say.
 pub mod Words
-pub mod Numbers
 pub mod Operands

@@ -2,11 +2,11 @@
 use mathlib.Core.List.{List}
 use Prim.Native.Nat.{ℕ}
 use Rattle.words.specs.Words.{wordOf, wordEnd}
-use Rattle.words.specs.Numbers.{hexOf, decimalOf}
-use Rattle.words.specs.declared.numbers.Byte.{Byte}
-use Rattle.words.specs.declared.numbers.Byte.the-variants as Byte
-use Rattle.words.specs.declared.numbers.Number.{Number}
-use Rattle.words.specs.declared.numbers.Number.the-variants as Number
+use Rattle.numbers.specs.Numbers.{hexOf, decimalOf}
+use Rattle.numbers.specs.declared.Byte.{Byte}
+use Rattle.numbers.specs.declared.Byte.the-variants as Byte
+use Rattle.numbers.specs.declared.Number.{Number}
+use Rattle.numbers.specs.declared.Number.the-variants as Number
 use Rattle.words.specs.declared.operands.ByteRead.{ByteRead}
 use Rattle.words.specs.declared.operands.ByteRead.the-variants as ByteRead
 use Rattle.words.specs.declared.operands.NumberRead.{NumberRead}

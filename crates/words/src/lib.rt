@@ -1,5 +1,3 @@
-// The words of a script's line: bytes in hex, numbers, and what they stand for; and the checksum that ends a script.
-pub mod adler;
-pub mod numbers;
+// The words of a script's line, and what they stand for.
 pub mod operands;
 pub mod words;

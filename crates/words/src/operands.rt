@@ -4,11 +4,11 @@ ghost use mathlib.Core.Bool.{true};
 ghost use Prim.Native.Nat.{_≤_, _<_};
 ghost use lib.ListN.{length};
 ghost use Rattle.words.specs.Operands.{byteAt, numberAt};
-use crate::numbers::Byte;
-use crate::numbers::Number;
-use crate::numbers::decimal;
-use crate::numbers::hex;
 use crate::words::word_at;
+use numbers::Byte;
+use numbers::Number;
+use numbers::decimal;
+use numbers::hex;
 
 // What a word says, and where the next word may begin.
 pub enum ByteRead {

@@ -1,5 +1,6 @@
 //! Reads and writes of the memory, around the ends of its areas.
 
+use super::served::{parts, width};
 use super::Maker;
 
 /// Sizes at the edges of what a command or an answer holds, and ones that make
@@ -81,10 +82,9 @@ impl Maker {
 
     /// A block read or written, its length the one its fields give.
     pub fn block(&mut self) {
-        let commands = [0x01, 0x01, 0x04, 0x02, 0x05, 0x03, 0x06];
+        let commands = [0x01, 0x04, 0x02, 0x05, 0x03, 0x06];
         let command = *self.rng.pick(&commands);
-        let width = if command >= 0x04 { 4 } else { 2 };
-        let parts = usize::from((command - 1) % 3);
+        let (width, parts) = (width(command), parts(command));
         // The largest block whose data and mask still fit 64 bytes.
         let largest = match parts {
             0 => 64,
@@ -101,12 +101,15 @@ impl Maker {
         self.send(command, &data);
     }
 
-    /// A block whose length is not the one its fields give.
+    /// A block whose length is not the one its fields give, or an empty one.
     pub fn wrong_block(&mut self) {
+        if self.rng.once_in(4) {
+            return self.empty_block();
+        }
         let command = *self.rng.pick(&[0x01, 0x04, 0x02, 0x05, 0x03, 0x06]);
-        let width = if command >= 0x04 { 4 } else { 2 };
+        let width = width(command);
         let size = self.size();
-        let wanted = usize::from((command - 1) % 3) * usize::from(size);
+        let wanted = parts(command) * usize::from(size);
         let more = match self.rng.below(4) {
             0 => wanted + 1,
             1 => wanted.saturating_sub(1),
@@ -117,6 +120,13 @@ impl Maker {
         if self.rng.once_in(3) {
             data.truncate(self.rng.below(6) as usize);
         }
+        self.send(command, &data);
+    }
+
+    /// A size of 0, at an address that may be wrong as well.
+    fn empty_block(&mut self) {
+        let command = 0x01 + self.rng.below(6) as u8;
+        let data = self.block_data(0, width(command), 0);
         self.send(command, &data);
     }
 

@@ -125,49 +125,4 @@ impl Maker {
         self.poke(usize::from(address), &[sum_byte(&[START])]);
         self.send(0xD0, &[address, 0x00]);
     }
-
-    /// Length bytes around and far above 64.
-    pub fn long_message(&mut self) {
-        let command = match self.rng.below(3) {
-            0 => *self.rng.pick(&[0x10, 0x7F, 0xBF, 0x00]),
-            _ => *self.rng.pick(&[0x01, 0x02, 0x03, 0x05, 0x08, 0x09, 0x0B]),
-        };
-        let count = *self.rng.pick(&[0, 63, 64, 65, 65, 66, 128, 255]);
-        let mut data = self.rng.bytes(count);
-        if count > 3 && command == 0x02 {
-            // Fields that fit their length: at 64 and below it is carried out.
-            data[0] = (count - 3) as u8;
-            data[1..3].copy_from_slice(&[0x10, 0x00]);
-        }
-        let mut all = literals(command, &data);
-        if self.rng.once_in(4) {
-            let last = all.len() - 1;
-            all[last] = self.rng.byte();
-        }
-        self.on_wire(&stuffed(&all));
-    }
-
-    /// A message that would be carried out, but for its sum.
-    pub fn wrong_sum(&mut self) {
-        let address = self.rng.below(64) as u8;
-        let value = self.rng.byte();
-        let candidates: [(u8, &[u8]); 7] = [
-            (0xC8, &[]),
-            (0xC1, &[]),
-            (0xC2, &[]),
-            (0xD0, &[address, 0x00]),
-            (0xE3, &[address, 0x00, value, 0x00]),
-            (0x02, &[0x02, address, 0x00, value, value]),
-            (0x7F, &[value]),
-        ];
-        let (command, data) = *self.rng.pick(&candidates);
-        let mut all = literals(command, data);
-        let last = all.len() - 1;
-        all[last] = match self.rng.below(3) {
-            0 => all[last].wrapping_add(1),
-            1 => START,
-            _ => self.rng.byte(),
-        };
-        self.on_wire(&stuffed(&all));
-    }
 }

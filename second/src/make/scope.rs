@@ -20,6 +20,12 @@ impl Maker {
         data
     }
 
+    /// One or two small variables, whole within the memory.
+    pub fn right_definitions(&mut self, width: usize) -> Vec<u8> {
+        let sizes: &[u8] = if self.rng.once_in(2) { &[1] } else { &[2, 4] };
+        self.definitions(sizes, width, true)
+    }
+
     fn scope_command(&mut self) -> (u8, usize) {
         *self.rng.pick(&[(0x08, 2), (0x0A, 4)])
     }
@@ -52,6 +58,9 @@ impl Maker {
 
     /// Counts, sizes, lengths and ranges at and behind their edges.
     pub fn scope_wrong(&mut self) {
+        if self.rng.once_in(3) {
+            return self.scope_outside();
+        }
         let (command, width) = self.scope_command();
         let count = *self.rng.pick(&[0, 1, 2, 8, 9, 9, 10, 12]);
         let mut sizes: Vec<u8> = (0..count).map(|_| 1 + self.rng.below(4) as u8).collect();
@@ -71,5 +80,20 @@ impl Maker {
             // What was set up before still stands.
             self.send(0xC5, &[]);
         }
+    }
+    /// Definitions with nothing wrong but, mostly, a range; the first, the last
+    /// or any.
+    fn scope_outside(&mut self) {
+        let (command, width) = self.scope_command();
+        let sizes = self.small_sizes();
+        let mut data = self.definitions(&sizes, width, true);
+        let which = self.rng.below(sizes.len() as u64) as usize;
+        let which = *self.rng.pick(&[0, which, sizes.len() - 1]);
+        let at = 1 + which * (1 + width);
+        let past = *self.rng.pick(&[0, 1, 2]);
+        let address = 16_384 - u32::from(sizes[which]) + past;
+        data[at + 1..at + 1 + width].copy_from_slice(&address.to_le_bytes()[..width]);
+        self.send(command, &data);
+        self.send(0xC5, &[]);
     }
 }

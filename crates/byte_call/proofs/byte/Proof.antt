@@ -1,10 +1,11 @@
 -- Refused, nothing changes; else the byte is taken.
-use mathlib.Core.Path.{sym, _∙_}
+use mathlib.Core.Path.{_≡_, sym, _∙_}
 use borrow.Author.Needs.{needs}
+use Rattle.document.specs.Numbers.{taken}
 use Rattle.checks.proofs.Numbers.{byte-known}
 use Rattle.checks.proofs.Settled.{block-known}
 use Rattle.byte_call.proofs.Turns.{byte-refused, byte-taken}
-use Rattle.checks.specs.Promises.{blockSound}
+use Rattle.checks.specs.Promises.{blockSound, byteNumber}
 use Rattle.byte_call.proofs.byte.Statement.{statement}
 use Rattle.byte_call.proofs.byte.Tie as tie
 
@@ -20,17 +21,27 @@ same-length-2 c = search needs
 same-length-3 : tie.Need-same-length-3
 same-length-3 c = search needs
 
+-- what was lent, and the number that was looked for
+abbrev begun : tie.After-byte-refusal → tie.Start
+begun r = r .before .before .before .before .before .before .before
+
 returns : tie.Need-returns
 returns c =
-    let args = c .before .before .before .before .before .before .before .before .args in
-    byte-refused (args .state .now) (args .byte) (args .memory .now) (args .answer .now) (c .before .byte-refusal .result) (c .before .byte-refusal .ensures) (c .if1 .taken)
+    let r = c .before in
+    let a = begun r .args in
+    byte-refused (a .state .now) (a .byte) (a .memory .now) (a .answer .now) (r .byte-refusal .result) (r .byte-refusal .ensures) (c .if1 .taken)
+
+-- nothing refuses it
+fine : (e : tie.Else1) → byteNumber (begun (e .before) .args .state .now) (begun (e .before) .args .memory .now) (begun (e .before) .args .answer .now) ≡ taken
+fine e = sym (e .before .byte-refusal .ensures) ∙ e .if1 .left
 
 take-requires : tie.Need-take-requires
 take-requires c κs =
-    let args = c .before .before .before .before .before .before .before .before .before .before .before .args in
-    let byte-refusal = c .before .before .before .before .byte-refusal in
-    let if1 = c .before .before .before .if1 in
-    let known = byte-known (blockSound (args .state .now)) (args .memory .now) (args .answer .now) (sym (byte-refusal .ensures) ∙ if1 .left) in (block-known (args .state .now) (known .0) .0, block-known (args .state .now) (known .0) .1, known .1, known .2)
+    let e = c .before .before .before in
+    let a = begun (e .before) .args in
+    let known = byte-known (blockSound (a .state .now)) (a .memory .now) (a .answer .now) (fine e) in
+    let state = block-known (a .state .now) (known .0) in
+    (state .0, state .1, known .1, known .2)
 
 same-length-4 : tie.Need-same-length-4
 same-length-4 c = search needs
@@ -43,11 +54,10 @@ same-length-6 c = search needs
 
 returns-2 : tie.Need-returns-2
 returns-2 c =
-    let args = c .before .before .before .before .before .before .before .before .before .before .before .before .before .before .before .before .before .before .args in
-    let byte-refusal = c .before .before .before .before .before .before .before .before .before .before .before .byte-refusal in
-    let if1 = c .before .before .before .before .before .before .before .before .before .before .if1 in
-    let take = c .before .before .before .before .before .before .take in
-    byte-taken (args .state .now) (args .byte) (args .memory .now) (args .answer .now) _ _ _ _ (sym (byte-refusal .ensures) ∙ if1 .left) (take .ensures)
+    let done = c .before .before .before .before .before .before in
+    let e = done .before .before .before .before in
+    let a = begun (e .before) .args in
+    byte-taken (a .state .now) (a .byte) (a .memory .now) (a .answer .now) _ _ _ _ (fine e) (done .take .ensures)
 
 pub byte-spec : {M : Type 1} → statement M
 byte-spec =

@@ -1,12 +1,13 @@
 -- By the event that the receiver makes of the byte.
-use mathlib.Core.Path.{sym, ap, _∙_}
-use Prim.Native.Nat.{_+_}
+use mathlib.Core.Path.{_≡_, sym, ap, _∙_}
+use mathlib.Core.List.{List}
+use Prim.Native.Nat.{ℕ, _+_, _<_}
 use native.Mathlib.Omega.{arith}
-use lib.ListN.{set}
+use lib.ListN.{getD, set}
 use borrow.Author.Needs.{needs}
 use Rattle.blocks.specs.Places.{bodyPlace}
 use Rattle.blocks.specs.Layout.{decodedReceiver, decoded}
-use Rattle.state.proofs.Parts.{parts-of}
+use Rattle.state.proofs.Parts.{Parts, parts-of}
 use Rattle.target.proofs.TurnLaws.{fits}
 use Rattle.link.proofs.Lengths.{whole-fits}
 use Rattle.link.specs.Step.{stepped}
@@ -21,6 +22,42 @@ receiver-in-requires c κs = search needs
 
 step-requires : tie.Need-step-requires
 step-requires c κs = search needs
+
+-- ---- the receiver has taken the byte: what was lent, and what it makes of it
+module _ (s : tie.After-step) where
+  abbrev begun : tie.Start
+  begun = s .before .before .before .before .before .before
+
+  abbrev block : List ℕ
+  block = begun .args .state .now
+
+  abbrev came : ℕ
+  came = begun .args .byte
+
+  abbrev memory : List ℕ
+  memory = begun .args .memory .now
+
+  abbrev buffer : List ℕ
+  buffer = begun .args .answer .now
+
+  is-step : s .step .result ≡ stepped (decodedReceiver block) came
+  is-step = s .step .ensures ∙ ap (λ (r : Receiver). stepped r came) (s .before .receiver-in .ensures)
+
+  small : (i : ℕ) → getD block i 0 < 256
+  small i = s .before .before .before .before .before .slice-known .given i .fits
+
+  parts : Parts (decoded block)
+  parts = parts-of (decoded block) (begun .pre .1)
+
+-- the event lies as far behind in every arm
+abbrev before-quiet : tie.After-enum-told → tie.After-step
+before-quiet e = e .before .before .before
+
+abbrev before-keep : tie.After-event → tie.After-step
+before-keep e = e .before .before .before
+
+abbrev before-whole : tie.After-event2 → tie.After-step
+before-whole e = e .before .before .before
 
 enum-told : tie.Need-enum-told
 enum-told c = search needs
@@ -42,53 +79,49 @@ add-put-byte c = search needs
 
 put-byte-requires : tie.Need-put-byte-requires
 put-byte-requires c κs =
-    let args = c .before .before .before .before .before .before .before .before .before .before .before .before .before .before .before .before .args in
-    let pre = c .before .before .before .before .before .before .before .before .before .before .before .before .before .before .before .before .pre in
-    let receiver-in = c .before .before .before .before .before .before .before .before .before .before .before .receiver-in in
-    let step = c .before .before .before .before .before .before .before .before .before .before .step in
-    let event = c .before .before .before .before .before .before .before .event in
-    let put-receiver2 = c .before .before .before .before .put-receiver2 in
-    omega (arith, place-in-body (args .state .now) (args .byte) (args .memory .now) (args .answer .now) (step .result) (step .ensures ∙ ap (λ (r : Receiver). stepped r (args .byte)) (receiver-in .ensures)) (event .given .0 .0) (event .given .0 .1 .0) (event .given .1), put-receiver2 .kept .0, c .usize-of-u8 .ensures .0, pre .0)
+    let put = c .before .before .before .before in
+    let e = put .before .before .before in
+    let s = before-keep e in
+    let inside = place-in-body (block s) (came s) (memory s) (buffer s) (s .step .result) (is-step s) (e .event .given .0 .0) (e .event .given .0 .1 .0) (e .event .given .1) in
+    omega (arith, inside, put .put-receiver2 .kept .0, c .usize-of-u8 .ensures .0, begun s .pre .0)
 
 enum-known-event-2 : tie.Need-enum-known-event-2
 enum-known-event-2 c = search needs
 
 answer-whole-requires : tie.Need-answer-whole-requires
 answer-whole-requires c κs =
-    let args = c .before .before .before .before .before .before .before .before .before .before .before .before .before .args in
-    let pre = c .before .before .before .before .before .before .before .before .before .before .before .before .before .pre in
-    let receiver-in = c .before .before .before .before .before .before .before .before .receiver-in in
-    let step = c .before .before .before .before .before .before .before .step in
-    let event2 = c .before .before .before .before .event2 in
-    (fits (event2 .given .0 .0) (event2 .given .0 .1 .0) (omega arith) (whole-fits (args .byte) (event2 .given .0 .0) (event2 .given .0 .1 .0) (event2 .given .0 .1 .1 .0) (decodedReceiver (args .state .now)) (parts-of (decoded (args .state .now)) (pre .1) .receiver) (ap (λ (k : StepTaken). k .event) (sym (step .ensures ∙ ap (λ (r : Receiver). stepped r (args .byte)) (receiver-in .ensures))) ∙ event2 .given .1)), pre .0, pre .2, parts-of (decoded (args .state .now)) (pre .1) .scope-part, pre .3)
+    let e = c .before .before .before .before in
+    let s = before-whole e in
+    let command = e .event2 .given .0 .0 in
+    let n = e .event2 .given .0 .1 .0 in
+    let finished = ap (λ (k : StepTaken). k .event) (sym (is-step s)) ∙ e .event2 .given .1 in
+    let formed = whole-fits (came s) command n (e .event2 .given .0 .1 .1 .0) (decodedReceiver (block s)) (parts s .receiver) finished in
+    (fits command n (omega arith) formed, begun s .pre .0, begun s .pre .2, parts s .scope-part, begun s .pre .3)
 
 same-length : tie.Need-same-length
 same-length c = search needs
 
 returns : tie.Need-returns
 returns c =
-    let args = c .before .before .before .before .before .before .before .before .before .before .before .before .before .args in
-    let pre = c .before .before .before .before .before .before .before .before .before .before .before .before .before .pre in
-    let slice-known = c .before .before .before .before .before .before .before .before .before .before .before .before .slice-known in
-    let receiver-in = c .before .before .before .before .before .before .before .before .receiver-in in
-    let step = c .before .before .before .before .before .before .before .step in
-    let enum-told = c .before .before .before .before .enum-told in
-    nothing-turned (args .state .now) (args .byte) (args .memory .now) (args .answer .now) (step .result) (step .ensures ∙ ap (λ (r : Receiver). stepped r (args .byte)) (receiver-in .ensures)) (pre .0) (λ i. slice-known .given i .fits) _ (enum-told .given .1) (c .before .before .put-receiver .ensures)
+    let e = c .before .before .before .before in
+    let s = before-quiet e in
+    nothing-turned (block s) (came s) (memory s) (buffer s) (s .step .result) (is-step s) (begun s .pre .0) (small s) _ (e .enum-told .given .1)
+    (c .before .before .put-receiver .ensures)
 
 same-length-2 : tie.Need-same-length-2
 same-length-2 c = search needs
 
 returns-2 : tie.Need-returns-2
 returns-2 c =
-    let args = c .before .before .before .before .before .before .before .before .before .before .before .before .before .before .before .before .before .before .before .args in
-    let pre = c .before .before .before .before .before .before .before .before .before .before .before .before .before .before .before .before .before .before .before .pre in
-    let slice-known = c .before .before .before .before .before .before .before .before .before .before .before .before .before .before .before .before .before .before .slice-known in
-    let receiver-in = c .before .before .before .before .before .before .before .before .before .before .before .before .before .before .receiver-in in
-    let step = c .before .before .before .before .before .before .before .before .before .before .before .before .before .step in
-    let event = c .before .before .before .before .before .before .before .before .before .before .event in
-    let put-receiver2 = c .before .before .before .before .before .before .before .put-receiver2 in
-    let wide = c .before .before .before .usize-of-u8 in
-    keep-turned (args .state .now) (args .byte) (args .memory .now) (args .answer .now) (step .result) (step .ensures ∙ ap (λ (r : Receiver). stepped r (args .byte)) (receiver-in .ensures)) (pre .0) (λ i. slice-known .given i .fits) _ (event .given .0 .0) (event .given .0 .1 .0) (event .given .1) (c .before .before .put-byte .ensures ∙ (λ i. set (put-receiver2 .ensures i) (bodyPlace + wide .ensures .0 i) (event .given .0 .1 .0)))
+    let kept = c .before .before in
+    let wide = kept .before in
+    let put = wide .before .before .before .before in
+    let e = put .before .before .before in
+    let s = before-keep e in
+    let at = e .event .given .0 .0 in
+    let byte = e .event .given .0 .1 .0 in
+    keep-turned (block s) (came s) (memory s) (buffer s) (s .step .result) (is-step s) (begun s .pre .0) (small s) _ at byte (e .event .given .1)
+    (kept .put-byte .ensures ∙ (λ i. set (put .put-receiver2 .ensures i) (bodyPlace + wide .usize-of-u8 .ensures .0 i) byte))
 
 same-length-3 : tie.Need-same-length-3
 same-length-3 c = search needs
@@ -101,12 +134,11 @@ same-length-5 c = search needs
 
 returns-3 : tie.Need-returns-3
 returns-3 c =
-    let args = c .before .before .before .before .before .before .before .before .before .before .before .before .before .before .before .before .before .before .before .before .args in
-    let receiver-in = c .before .before .before .before .before .before .before .before .before .before .before .before .before .before .before .receiver-in in
-    let step = c .before .before .before .before .before .before .before .before .before .before .before .before .before .before .step in
-    let event2 = c .before .before .before .before .before .before .before .before .before .before .before .event2 in
-    let answer-whole = c .before .before .before .before .before .before .answer-whole in
-    whole-turned (args .state .now) (args .byte) (args .memory .now) (args .answer .now) (step .result) (step .ensures ∙ ap (λ (r : Receiver). stepped r (args .byte)) (receiver-in .ensures)) (event2 .given .0 .0) (event2 .given .0 .1 .0) (event2 .given .0 .1 .1 .0) _ _ _ _ (event2 .given .1) (answer-whole .ensures)
+    let answered = c .before .before .before .before .before .before in
+    let e = answered .before .before .before .before .before in
+    let s = before-whole e in
+    whole-turned (block s) (came s) (memory s) (buffer s) (s .step .result) (is-step s) (e .event2 .given .0 .0) (e .event2 .given .0 .1 .0) (e .event2 .given .0 .1 .1 .0)
+    _ _ _ _ (e .event2 .given .1) (answered .answer-whole .ensures)
 
 pub take-spec : {M : Type 1} → statement M
 take-spec =

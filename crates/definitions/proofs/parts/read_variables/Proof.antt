@@ -65,8 +65,8 @@ returns-3 c =
     let s = w .before .before .before .before .before in
     c .without-variables3 .ensures ∙ sym (read-too-many (s .args .ex) (s .args .part .now) (c .before .before .if2 .left ∙ given w) (omega arith))
 
-definitions-requires : tie.Need-definitions-requires
-definitions-requires c κs =
+read-all-requires : tie.Need-read-all-requires
+read-all-requires c κs =
     let w = c .before .before in
     let s = w .before .before .before .before .before in
     (omega arith, omega (arith, c .before .if2 .left ∙ given w, ap (λ (n : ℕ). n * definitionWidth (s .args .ex)) (w .before .usize-of-u8 .ensures .0)))
@@ -77,8 +77,8 @@ returns-4 c =
     let s = w .before .before .before .before .before in
     let part = s .args .part .now in
     let n = w .before .usize-of-u8 in
-    let list : c .definitions .result ≡ sets noVariables 0 (definitionsIn (s .args .ex) (countIn part) (drop 1 part)) =
-    c .definitions .ensures ∙ ap (λ (k : ℕ). sets noVariables 0 (definitionsIn (s .args .ex) k (drop 1 part))) (n .ensures .0) in
+    let list : c .read-all .result ≡ sets noVariables 0 (definitionsIn (s .args .ex) (countIn part) (drop 1 part)) =
+    c .read-all .ensures ∙ ap (λ (k : ℕ). sets noVariables 0 (definitionsIn (s .args .ex) k (drop 1 part))) (n .ensures .0) in
     ap (λ (l : List Variable). record { whole = true; count = countIn part; variables = record { count = countIn part; list = l } }) list
     ∙ sym (read-whole (s .args .ex) part (c .before .before .if2 .left ∙ given w) (omega arith))
 
@@ -98,5 +98,5 @@ read-variables-spec =
     returns-2
     without-variables-requires-3
     returns-3
-    definitions-requires
+    read-all-requires
     returns-4)

@@ -1,7 +1,7 @@
 -- By what the byte asks for.
-use mathlib.Core.List.{[]}
+use mathlib.Core.List.{List, []}
 use mathlib.Core.Path.{_≡_, refl, sym, ap, subst, _∙_}
-use Prim.Native.Nat.{_+_, _-_, _≤_}
+use Prim.Native.Nat.{ℕ, _+_, _-_, _≤_}
 use native.Mathlib.Omega.{arith}
 use lib.ListN.{length-take, set, take, drop}
 use lib.Seq.{sets}
@@ -9,7 +9,7 @@ use borrow.Author.Needs.{needs}
 use Rattle.document.specs.Areas.{bytesAt}
 use Rattle.reader.specs.Layout.{decodedReader}
 use Rattle.host.proofs.Heads.{sound-head}
-use Rattle.host.specs.Head.{reach}
+use Rattle.host.specs.Head.{reach, headStep}
 use Rattle.host.specs.declared.head.Asked.{Asked}
 use Rattle.host.specs.Reader.{AnswerReader}
 use Rattle.host.specs.Reader as host
@@ -29,6 +29,30 @@ step-requires c κs =
 put-reader-head-requires : tie.Need-put-reader-head-requires
 put-reader-head-requires c κs = search needs
 
+-- ---- the head is stored: what was lent, and what the byte asks for
+module _ (put : tie.After-put-reader-head) where
+  abbrev stepped : tie.After-step
+  stepped = put .before .before .before
+
+  abbrev begun : tie.Start
+  begun = stepped .before .before .before .before .before
+
+  abbrev block : List ℕ
+  block = begun .args .reader .now
+
+  abbrev out : List ℕ
+  out = begun .args .out .now
+
+  -- what the whole reader makes of the byte, in the head's words
+  in-head : host.stepped (decodedReader block) (begun .args .byte) ≡ headStep (stepped .step .result) (bytesAt block 6 64)
+  in-head =
+      ap (λ (r : AnswerReader). host.stepped r (begun .args .byte)) (sym (stepped .before .head-in .ensures))
+      ∙ stepped .step .ensures .0 (bytesAt block 6 64)
+
+  -- what is asked for lies within the 64 data
+  within : (a : Asked) → stepped .step .result .asks ≡ a → reach a ≤ 64
+  within a is = subst (λ (k : Asked). reach k ≤ 64) is (stepped .step .ensures .1)
+
 enum-told : tie.Need-enum-told
 enum-told c = search needs
 
@@ -46,11 +70,9 @@ add-put-byte c = search needs
 
 put-byte-requires : tie.Need-put-byte-requires
 put-byte-requires c κs =
-    let pre = c .before .before .before .before .before .before .before .before .before .before .before .before .before .before .before .pre in
-    let step = c .before .before .before .before .before .before .before .before .before .before .step in
-    let put-reader-head = c .before .before .before .before .before .before .before .put-reader-head in
-    let asks = c .before .before .before .asks in
-    omega (arith, subst (λ (a : Asked). reach a ≤ 64) (asks .given .1) (step .ensures .1), put-reader-head .kept .0, c .usize-of-u8 .ensures .0, pre .0)
+    let e = c .before .before .before in
+    let put = e .before .before .before .before in
+    omega (arith, within put _ (e .asks .given .1), put .put-reader-head .kept .0, c .usize-of-u8 .ensures .0, begun put .pre .0)
 
 without-answer-requires-2 : tie.Need-without-answer-requires-2
 without-answer-requires-2 c κs = search needs
@@ -72,19 +94,15 @@ part-copy-in-start c = search needs
 
 part-copy-in-end : tie.Need-part-copy-in-end
 part-copy-in-end c =
-    let pre = c .before .before .before .before .before .before .before .before .before .before .before .before .before .before .before .before .pre in
-    let step = c .before .before .before .before .before .before .before .before .before .before .before .step in
-    let put-reader-head = c .before .before .before .before .before .before .before .before .put-reader-head in
-    let asks2 = c .before .before .before .before .asks2 in
-    omega (arith, subst (λ (a : Asked). reach a ≤ 64) (asks2 .given .1) (step .ensures .1), put-reader-head .kept .0, c .before .before .usize-of-u82 .ensures .0, pre .0)
+    let e = c .before .before .before .before in
+    let put = e .before .before .before .before in
+    omega (arith, within put _ (e .asks2 .given .1), put .put-reader-head .kept .0, c .before .before .usize-of-u82 .ensures .0, begun put .pre .0)
 
 copy-in-requires : tie.Need-copy-in-requires
 copy-in-requires c κs =
-    let pre = c .before .before .before .before .before .before .before .before .before .before .before .before .before .before .before .before .before .pre in
-    let step = c .before .before .before .before .before .before .before .before .before .before .before .before .step in
-    let asks2 = c .before .before .before .before .before .asks2 in
-    let usize-of-u82 = c .before .before .before .usize-of-u82 in
-    simp length-take (omega (arith, subst (λ (a : Asked). reach a ≤ 64) (asks2 .given .1) (step .ensures .1), usize-of-u82 .ensures .0, pre .2))
+    let e = c .before .before .before .before .before in
+    let put = e .before .before .before .before in
+    simp length-take (omega (arith, within put _ (e .asks2 .given .1), c .before .before .before .usize-of-u82 .ensures .0, begun put .pre .2))
 
 enum-told-2 : tie.Need-enum-told-2
 enum-told-2 c = search needs
@@ -97,27 +115,25 @@ same-length c = search needs
 
 returns : tie.Need-returns
 returns c =
-    let args = c .before .before .before .before .before .before .before .before .before .before .before .before .before .args in
-    let pre = c .before .before .before .before .before .before .before .before .before .before .before .before .before .pre in
-    let head-in = c .before .before .before .before .before .before .before .before .before .head-in in
-    let step = c .before .before .before .before .before .before .before .before .step in
-    let put-reader-head = c .before .before .before .before .before .put-reader-head in
-    read-nothing (args .reader .now) (pre .0) (host.stepped (decodedReader (args .reader .now)) (args .byte)) (step .result) (ap (λ (r : AnswerReader). host.stepped r (args .byte)) (sym (head-in .ensures)) ∙ step .ensures .0 (bytesAt (args .reader .now) 6 64)) (args .out .now) _ _ (c .before .enum-told .given .1) (c .without-answer .ensures) (put-reader-head .ensures)
+    let e = c .before in
+    let put = e .before .before .before .before in
+    read-nothing (block put) (begun put .pre .0) _ (stepped put .step .result) (in-head put) (out put) _ _ (e .enum-told .given .1) (c .without-answer .ensures)
+    (put .put-reader-head .ensures)
 
 same-length-2 : tie.Need-same-length-2
 same-length-2 c = search needs
 
 returns-2 : tie.Need-returns-2
 returns-2 c =
-    let args = c .before .before .before .before .before .before .before .before .before .before .before .before .before .before .before .before .before .before .before .args in
-    let pre = c .before .before .before .before .before .before .before .before .before .before .before .before .before .before .before .before .before .before .before .pre in
-    let head-in = c .before .before .before .before .before .before .before .before .before .before .before .before .before .before .before .head-in in
-    let step = c .before .before .before .before .before .before .before .before .before .before .before .before .before .before .step in
-    let put-reader-head = c .before .before .before .before .before .before .before .before .before .before .before .put-reader-head in
-    let asks = c .before .before .before .before .before .before .before .asks in
-    let usize-of-u8 = c .before .before .before .before .usize-of-u8 in
-    let put-byte = c .before .before .before .put-byte in
-    let k : asks .given .0 .0 + 1 ≤ 64 = subst (λ (a : Asked). reach a ≤ 64) (asks .given .1) (step .ensures .1) in read-keep (args .reader .now) (pre .0) (host.stepped (decodedReader (args .reader .now)) (args .byte)) (step .result) (ap (λ (r : AnswerReader). host.stepped r (args .byte)) (sym (head-in .ensures)) ∙ step .ensures .0 (bytesAt (args .reader .now) 6 64)) (args .out .now) _ (asks .given .0 .0) (asks .given .0 .1 .0) _ (asks .given .1) (omega arith) (c .without-answer2 .ensures) (put-byte .ensures ∙ (λ i. set (put-reader-head .ensures i) (6 + usize-of-u8 .ensures .0 i) (asks .given .0 .1 .0)))
+    let kept = c .before .before .before in
+    let wide = kept .before in
+    let e = wide .before .before .before in
+    let put = e .before .before .before .before in
+    let at = e .asks .given .0 .0 in
+    let byte = e .asks .given .0 .1 .0 in
+    let inside : at + 1 ≤ 64 = within put _ (e .asks .given .1) in
+    read-keep (block put) (begun put .pre .0) _ (stepped put .step .result) (in-head put) (out put) _ at byte _ (e .asks .given .1) (omega (arith, inside)) (c .without-answer2 .ensures)
+    (kept .put-byte .ensures ∙ (λ i. set (put .put-reader-head .ensures i) (6 + wide .usize-of-u8 .ensures .0 i) byte))
 
 same-length-3 : tie.Need-same-length-3
 same-length-3 c = search needs
@@ -127,27 +143,25 @@ same-length-4 c = search needs
 
 returns-3 : tie.Need-returns-3
 returns-3 c =
-    let args = c .before .before .before .before .before .before .before .before .before .before .before .before .before .before .before .before .before .before .before .before .args in
-    let pre = c .before .before .before .before .before .before .before .before .before .before .before .before .before .before .before .before .before .before .before .before .pre in
-    let head-in = c .before .before .before .before .before .before .before .before .before .before .before .before .before .before .before .before .head-in in
-    let step = c .before .before .before .before .before .before .before .before .before .before .before .before .before .before .before .step in
-    let put-reader-head = c .before .before .before .before .before .before .before .before .before .before .before .before .put-reader-head in
-    let asks2 = c .before .before .before .before .before .before .before .before .asks2 in
-    let usize-of-u82 = c .before .before .before .before .before .before .usize-of-u82 in
-    let copy-in = c .before .before .copy-in in
-    let z : 6 + usize-of-u82 .result - 6 ≡ (asks2 .given .0 .1 .0) = omega (arith, usize-of-u82 .ensures .0) in read-right (args .reader .now) (pre .0) (host.stepped (decodedReader (args .reader .now)) (args .byte)) (step .result) (ap (λ (r : AnswerReader). host.stepped r (args .byte)) (sym (head-in .ensures)) ∙ step .ensures .0 (bytesAt (args .reader .now) 6 64)) (args .out .now) _ (asks2 .given .0 .0) (asks2 .given .0 .1 .0) _ (copy-in .last .0) (asks2 .given .1) (subst (λ (a : Asked). reach a ≤ 64) (asks2 .given .1) (step .ensures .1)) refl (put-reader-head .ensures) (copy-in .ensures ∙ (λ i. sets (args .out .now) 0 (take (z i) (drop 6 (put-reader-head .ensures i)))))
+    let copied = c .before .before in
+    let wide = copied .before .before .before .before in
+    let e = wide .before .before in
+    let put = e .before .before .before .before in
+    let n = e .asks2 .given .0 .1 .0 in
+    let width : 6 + wide .usize-of-u82 .result - 6 ≡ n = omega (arith, wide .usize-of-u82 .ensures .0) in
+    read-right (block put) (begun put .pre .0) _ (stepped put .step .result) (in-head put) (out put) _ (e .asks2 .given .0 .0) n _ (copied .copy-in .last .0) (e .asks2 .given .1)
+    (within put _ (e .asks2 .given .1)) refl (put .put-reader-head .ensures)
+    (copied .copy-in .ensures ∙ (λ i. sets (out put) 0 (take (width i) (drop 6 (put .put-reader-head .ensures i)))))
 
 same-length-5 : tie.Need-same-length-5
 same-length-5 c = search needs
 
 returns-4 : tie.Need-returns-4
 returns-4 c =
-    let args = c .before .before .before .before .before .before .before .before .before .before .before .before .before .args in
-    let pre = c .before .before .before .before .before .before .before .before .before .before .before .before .before .pre in
-    let head-in = c .before .before .before .before .before .before .before .before .before .head-in in
-    let step = c .before .before .before .before .before .before .before .before .step in
-    let put-reader-head = c .before .before .before .before .before .put-reader-head in
-    read-wrong (args .reader .now) (pre .0) (host.stepped (decodedReader (args .reader .now)) (args .byte)) (step .result) (ap (λ (r : AnswerReader). host.stepped r (args .byte)) (sym (head-in .ensures)) ∙ step .ensures .0 (bytesAt (args .reader .now) 6 64)) (args .out .now) _ _ (c .before .enum-told2 .given .1) (c .without-answer3 .ensures) (put-reader-head .ensures)
+    let e = c .before in
+    let put = e .before .before .before .before in
+    read-wrong (block put) (begun put .pre .0) _ (stepped put .step .result) (in-head put) (out put) _ _ (e .enum-told2 .given .1) (c .without-answer3 .ensures)
+    (put .put-reader-head .ensures)
 
 pub read-on-spec : {M : Type 1} → statement M
 read-on-spec =

@@ -1,0 +1,2 @@
+-- The checksum, for one more byte.
+pub mod Sums

@@ -1,0 +1,2 @@
+-- The checksum of RFC 1950.
+pub mod Adler

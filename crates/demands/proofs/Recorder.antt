@@ -1,0 +1,81 @@
+-- The recorder of a house along a run: an accepted start, a tick, and the ticks behind a trigger.
+use mathlib.Core.Path.{_≡_, sym, ap, _∙_}
+use mathlib.Core.Bool.{true}
+use mathlib.Core.List.{List, [], _∷_, _++_}
+use Prim.Native.Nat.{ℕ, suc, _+_, _*_}
+use lib.Dec.{ltb}
+use lib.ListN.{length, take, drop}
+use Rattle.document.specs.Areas.{memoryEnd}
+use Rattle.document.specs.Message.{Message, finishedBy}
+use Rattle.document.specs.Variables.{setSize}
+use Rattle.document.specs.Plan.{Plan}
+use Rattle.document.specs.Run.{Run as DocumentRun, placeBegins, memoryAfterTick}
+use Rattle.document.specs.Recorder.{Recorder, tickedMemory}
+use Rattle.document.specs.Recorder.Recorder.{planned}
+use Rattle.document.specs.Gate.{Gate}
+use Rattle.document.specs.Commands.{answered}
+use Rattle.document.specs.Asides.{beside}
+use Rattle.document.specs.Asides.Aside.{tick}
+use Rattle.document.specs.Happenings.{Happening, Since, told, after, afterAll}
+use Rattle.document.specs.Happenings.Happening.{byte, aside}
+use Rattle.history.specs.History.{PlanFits, Recording, TriggersNext, Unstopped}
+use Rattle.history.proofs.Ticks.{tick-before, tick-behind}
+use Rattle.history.proofs.Stop.{stops}
+use Rattle.outcomes.specs.Starts.{starts}
+use Rattle.outcomes.proofs.Recording.{start-begins}
+use Rattle.happenings.specs.Recording.{events, ticksOf, AllUnstarted}
+use Rattle.happenings.proofs.Ticks.{ticks-counted}
+use Rattle.happenings.proofs.Follows.{followed-all}
+use Rattle.demands.specs.House.{House, gateIn}
+use Rattle.demands.specs.Stands.{Stands}
+use Rattle.demands.specs.Recorder.{Begun, Goes, OnlyItsPlace}
+
+module _ (h last : House) (s : Since) (now : Stands h s) where
+  -- the byte that finishes an accepted start
+  pub start-begun : (b : ℕ) → Stands last (after s (byte b)) → (m : Message) (more : List Message) → finishedBy (s .bytes) b ≡ m ∷ more
+      → starts (gateIn h) m ≡ true → Begun last
+  start-begun b end m more finished start =
+      let begins = start-begins (gateIn h) m start in
+      let gate : gateIn last ≡ answered (gateIn h) m .gate =
+      end .gate
+      ∙ ap (λ (ms : List Message). told (record { bytes = s .bytes ++ (b ∷ []); gate = s .gate; answers = s .answers }) ms .gate) finished
+      ∙ ap (λ (g : Gate). answered g m .gate) (sym (now .gate)) in
+      record { plan = begins .plan; recorder = ap (λ (g : Gate). g .recorder) gate ∙ begins .recorder }
+
+  module _ (p : Plan) (r : DocumentRun) (has : gateIn h .recorder ≡ planned p r) where
+    pub tick-touches : PlanFits p → length (h .memory) ≡ memoryEnd → Stands last (after s (aside tick)) → OnlyItsPlace p r h last
+    unfolding beside
+    tick-touches fits size end =
+        let same : gateIn last ≡ beside (gateIn h) tick = end .gate ∙ ap (λ (g : Gate). beside g tick) (sym (now .gate)) in
+        let memory : last .memory ≡ memoryAfterTick p r (h .memory) =
+        ap (λ (g : Gate). g .memory) same ∙ ap (λ (q : Recorder). tickedMemory q (h .memory)) has in
+        let place = placeBegins p (r .place) in
+        record {
+          before = ap (take place) memory ∙ tick-before p r (h .memory);
+          behind = ap (drop (place + setSize (p .variables))) memory ∙ tick-behind p r (h .memory) fits size;
+          scope = ap (λ (g : Gate). g .scope) same;
+          answers = end .answers ∙ sym (now .answers);
+        }
+
+    -- the trigger comes at the next tick, and behind that tick these happen
+    module _ (size : length (h .memory) ≡ memoryEnd) (hs : List Happening) (quiet : AllUnstarted s (aside tick ∷ hs)) (end : Stands last (afterAll s (aside tick ∷ hs))) where
+      pub run-stops : TriggersNext p (record { run = r; memory = h .memory }) → Unstopped (events (after s (aside tick)) hs)
+          → Goes p last (ltb (ticksOf hs) (p .postTrigger * suc (p .divider)))
+      run-stops triggers unstopped =
+          let g : Recording = record { run = r; memory = h .memory } in
+          let same-memory : s .gate .memory ≡ h .memory = ap (λ (q : Gate). q .memory) (sym (now .gate)) in
+          let followed =
+          followed-all p (aside tick ∷ hs) s g
+          (record {
+            recorder = ap (λ (q : Gate). q .recorder) (sym (now .gate)) ∙ has;
+            memory = same-memory;
+            size = ap length same-memory ∙ size;
+          })
+          quiet in
+          record {
+            run = _;
+            recorder = ap (λ (q : Gate). q .recorder) (end .gate) ∙ followed .follows .recorder;
+            is =
+                stops p g (events (after s (aside tick)) hs) triggers unstopped
+                ∙ ap (λ (n : ℕ). ltb n (p .postTrigger * suc (p .divider))) (ticks-counted hs (after s (aside tick)));
+          }

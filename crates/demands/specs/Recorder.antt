@@ -1,0 +1,30 @@
+-- What a run says of the recorder beside its history: where it begins, what a tick touches, and when it stops.
+use mathlib.Core.Path.{_≡_}
+use mathlib.Core.Bool.{Bool}
+use Prim.Native.Nat.{_+_}
+use lib.ListN.{take, drop}
+use Rattle.document.specs.Variables.{setSize}
+use Rattle.document.specs.Plan.{Plan}
+use Rattle.document.specs.Run.{Run, started, placeBegins}
+use Rattle.document.specs.Recorder.Recorder.{planned}
+use Rattle.demands.specs.House.{House, gateIn}
+
+-- an accepted start leaves a recorder with its plan, at its start
+pub record Begun (h : House) : Type 0 where
+  pub plan : Plan
+  pub recorder : gateIn h .recorder ≡ planned plan started
+
+-- a recorder with this plan, which goes on or not
+pub record Goes (p : Plan) (h : House) (on : Bool) : Type 0 where
+  pub run : Run
+  pub recorder : gateIn h .recorder ≡ planned p run
+  pub is : run .running ≡ on
+
+-- "A tick changes only that place.": the memory before and behind it stays, and so do scope and answers
+pub record OnlyItsPlace (p : Plan) (r : Run) (h next : House) : Type 0 where
+  pub before : take (placeBegins p (r .place)) (next .memory) ≡ take (placeBegins p (r .place)) (h .memory)
+  pub behind :
+      drop (placeBegins p (r .place) + setSize (p .variables)) (next .memory)
+      ≡ drop (placeBegins p (r .place) + setSize (p .variables)) (h .memory)
+  pub scope : gateIn next .scope ≡ gateIn h .scope
+  pub answers : next .answers ≡ h .answers

@@ -1,0 +1,41 @@
+-- The rows for the calls, the other end of the cable, setups and sets hold of the definitions.
+use mathlib.Core.Path.{_≡_, refl}
+use mathlib.Core.List.{List, [], _∷_, _++_, map}
+use Rattle.document.specs.Hex.{hex}
+use Rattle.document.specs.Message.{wellFormed, onWire}
+use Rattle.document.specs.Answer.{answerOnWire, answersHeard, answerFinishedBy}
+use Rattle.document.specs.AnswerWriter.{answerRefusal, answerWritten, answerBuffer}
+use Rattle.document.specs.CommandWriter.{commandRefusal, commandWritten, commandBuffer}
+use Rattle.document.specs.AnswerReader.{readRoomRefusal, brought}
+use Rattle.document.specs.Plan.{planIn}
+use Rattle.document.specs.Trigger.{fires}
+use Rattle.document.specs.Sets.{setsTaken}
+use Rattle.document.specs.CallRows.{Line, callRows, answerRows, commandRows, statusRows}
+use Rattle.document.specs.ReaderRows.{readerRows}
+use Rattle.document.specs.SetRows.{plainPlan, exPlan, plainPlanNoTrigger, plansIn, bufferAnswers, histories, taken, written, lasts, rounds}
+use Rattle.document.proofs.Rows.{holds-eq, lists-eq}
+
+abbrev pub lines : List Line
+unfolding callRows answerRows commandRows statusRows readerRows
+lines = callRows ++ answerRows ++ commandRows ++ statusRows ++ readerRows
+
+pub lines-hold : map (λ (l : Line). l .gives) lines ≡ map (λ (l : Line). l .says) lines
+unfolding callRows answerRows commandRows statusRows readerRows wellFormed onWire answerOnWire answersHeard answerFinishedBy answerRefusal answerWritten answerBuffer commandRefusal commandWritten commandBuffer readRoomRefusal brought
+lines-hold = lists-eq (map (λ (l : Line). l .gives) lines) (map (λ (l : Line). l .says) lines) refl
+
+pub plans-hold : plansIn ≡ (plainPlan ∷ exPlan ∷ plainPlanNoTrigger ∷ [])
+unfolding planIn
+plans-hold = refl
+
+pub buffer-answers-hold : bufferAnswers ≡ (hex "0030 0201" ∷ hex "00300000 0201" ∷ [])
+buffer-answers-hold = lists-eq bufferAnswers (hex "0030 0201" ∷ hex "00300000 0201" ∷ []) refl
+
+pub histories-hold : map taken histories ≡ map written histories
+unfolding histories setsTaken fires
+histories-hold = holds-eq (map taken histories) (map written histories) refl
+
+pub lasts-hold : lasts ≡ (hex "20" ∷ hex "30" ∷ [])
+lasts-hold = lists-eq lasts (hex "20" ∷ hex "30" ∷ []) refl
+
+pub rounds-hold : rounds ≡ (hex "20" ∷ hex "10" ∷ hex "20" ∷ [])
+rounds-hold = lists-eq rounds (hex "20" ∷ hex "10" ∷ hex "20" ∷ []) refl

@@ -1,0 +1,2 @@
+-- A number, for one more digit.
+pub mod Digits

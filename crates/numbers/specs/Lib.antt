@@ -1,0 +1,2 @@
+-- What a word says.
+pub mod Numbers

@@ -1,0 +1,30 @@
+//! The player alone, from standard input: what a wrong variant is built of,
+//! since the rest of the program would only make its building longer.
+
+mod adler;
+mod areas;
+mod commands;
+mod host;
+mod line;
+mod message;
+mod play;
+mod recorder;
+mod refusals;
+mod request;
+mod script;
+mod target;
+mod trigger;
+
+use std::io::{self, BufWriter};
+use std::process::ExitCode;
+
+fn main() -> ExitCode {
+    let mut out = BufWriter::new(io::stdout().lock());
+    match play::play(&mut io::stdin().lock(), &mut out) {
+        Ok(()) => ExitCode::SUCCESS,
+        Err(wrong) => {
+            eprintln!("{wrong}");
+            ExitCode::FAILURE
+        }
+    }
+}
