@@ -56,6 +56,20 @@ static void tick(void)
     log_gate_tick(state, sizeof state, memory, sizeof memory);
 }
 
+static void collect(void)
+{
+    log_gate_collect(state, sizeof state, data, sizeof data);
+}
+
+/* From the laptop to the result: 0x10, the two calls of the gate's program, and 0xC6. */
+static void run_command(void)
+{
+    send(&message, message.length);
+    collect();
+    log_gate_report(state, sizeof state, 0);
+    send(&second, second.length);
+}
+
 static void write_command(void)
 {
     log_gate_write_command(LOG_GATE_WRITE_BYTES, memory, 64, message.wire, sizeof message.wire);
@@ -203,6 +217,18 @@ static void prepare_setup(void)
     expect_done(&second);
 }
 
+static void prepare_command(void)
+{
+    uint8_t bytes[64] = {1};
+    form(&message, LOG_GATE_SEND_COMMAND, bytes, 64);
+    form(&second, LOG_GATE_COMMAND_RESULT, bytes, 0);
+    expect_done(&message);
+    collect();
+    if (log_gate_report(state, sizeof state, 0) != LOG_GATE_TAKEN)
+        exit(1);
+    expect_done(&second);
+}
+
 static void prepare_waiting(void)
 {
     start_recorder(8, 0xFFFF);
@@ -256,6 +282,9 @@ static const struct bench_case {
     {"scope", 1, "0xC5, scope of 8, all set up (3 bytes)", prepare_scope, send_whole},
     {"status", 1, "0xC3, status, all set up (3 bytes)", prepare_status, send_whole},
     {"setup", 1, "0x09 of 8, then 0xC2 (46 bytes)", prepare_setup, send_both},
+    {"command", 1, "0x10 of 64 to its result (71 bytes)", prepare_command, run_command},
+    {"collect", 1, "collecting, nothing new or set up", nothing, collect},
+    {"collect-8", 1, "the same, all set up", set_up_all, collect},
     {"tick", 1, "a tick, nothing set up", nothing, tick},
     {"tick-8", 1, "a tick, all set up and stopped", set_up_all, tick},
     {"tick-wait", 1, "a tick that waits, recorder of 8", prepare_waiting, tick},

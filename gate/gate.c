@@ -19,9 +19,35 @@ void gate_begin(struct gate *g, uint64_t seed)
     gate_tick(g);
 }
 
+static void report(struct gate *g, uint8_t result)
+{
+    expect_taken(log_gate_report(g->state, sizeof g->state, result));
+}
+
+static void begin_command(struct gate *g, uint8_t code)
+{
+    if (code == SELF_TEST_CODE)
+        self_test_begin(&g->self_test, g->memory);
+    else
+        report(g, UNKNOWN_CODE);
+}
+
+/* Until a result is reported no new command comes, so nothing can come between a self-test and its end. */
+static void run_commands(struct gate *g)
+{
+    uint8_t command[LOG_GATE_DATA_ROOM];
+    log_gate_taken taken = log_gate_collect(g->state, sizeof g->state, command, sizeof command);
+    expect_taken(taken.refusal);
+    if (taken.length > 0)
+        begin_command(g, command[0]);
+    else if (self_test_tick(&g->self_test, g->memory))
+        report(g, self_test_result(&g->self_test));
+}
+
 void gate_tick(struct gate *g)
 {
     scene_tick(&g->scene, g->memory);
+    run_commands(g);
     expect_taken(log_gate_tick(g->state, sizeof g->state, g->memory, sizeof g->memory));
     g->ticks++;
 }

@@ -22,6 +22,11 @@ static void print_shell_line(const uint8_t *bytes, size_t length, size_t answer_
     printf("' >%s) & head -c %zu %s | od -A n -t x1\n", path, answer_length, path);
 }
 
+static size_t form(uint8_t command, const uint8_t *data, size_t length, uint8_t *wire)
+{
+    return log_gate_write_command(command, data, length, wire, LOG_GATE_COMMAND_ROOM).length;
+}
+
 static void print_map(void)
 {
 #define GATE_LINE(name, address, bytes, what) printf("%7d  %5d  %s\n", address, bytes, what);
@@ -35,16 +40,32 @@ static void print_example(struct gate *g, const char *path)
 {
     const uint8_t address[] = {COIL_1, 0};
     uint8_t wire[LOG_GATE_COMMAND_ROOM];
-    log_gate_taken written = log_gate_write_command(LOG_GATE_READ_2, address, sizeof address, wire, sizeof wire);
-    size_t length = 0;
-    for (size_t i = 0; i < written.length; i++)
+    size_t sent = form(LOG_GATE_READ_2, address, sizeof address, wire), length = 0;
+    for (size_t i = 0; i < sent; i++)
         length = gate_byte(g, wire[i]);
     printf("For example, two bytes at address %d, which are coil 1:\n", COIL_1);
-    print_bytes("  send    ", wire, written.length);
+    print_bytes("  send    ", wire, sent);
     print_bytes("  answer  ", g->answer, length);
     printf("  so coil 1 reads %u\n", (unsigned)number_at(g->answer + 2, 2));
     printf("From a shell, the same:\n");
-    print_shell_line(wire, written.length, length, path);
+    print_shell_line(wire, sent, length, path);
+}
+
+/* Its answers cannot be shown yet: the technician is to start it. */
+static void print_self_test(const char *path)
+{
+    const uint8_t code[] = {SELF_TEST_CODE};
+    uint8_t wire[LOG_GATE_COMMAND_ROOM];
+    printf("The self-test of the coils takes %d seconds. It starts with\n", SELF_TEST_MS / 1000);
+    size_t sent = form(LOG_GATE_SEND_COMMAND, code, sizeof code, wire);
+    print_bytes("  send    ", wire, sent);
+    print_shell_line(wire, sent, 3, path);
+    printf("and is asked for its result with\n");
+    sent = form(LOG_GATE_COMMAND_RESULT, code, 0, wire);
+    print_bytes("  send    ", wire, sent);
+    print_shell_line(wire, sent, 4, path);
+    printf("  The third byte of that answer: %02X before any test, %02X while it runs, then 00, or the number of a bad coil.\n",
+           LOG_GATE_NO_COMMAND, LOG_GATE_RESULT_DUE);
 }
 
 void print_welcome(struct gate *g, const char *path)
@@ -53,6 +74,8 @@ void print_welcome(struct gate *g, const char *path)
     print_map();
     printf("\n");
     print_example(g, path);
+    printf("\n");
+    print_self_test(path);
     printf("\nStop with Ctrl-C.\n");
     fflush(stdout);
 }

@@ -30,6 +30,12 @@ static uint32_t metal_reading(const struct scene *s, uint32_t place)
     return s->metal == 0 || distance >= METAL_REACH ? 0 : (METAL_REACH - distance) * METAL_PER_MS;
 }
 
+/* With its wire cut, a coil reads nothing at all. */
+static int is_cut(const uint8_t *memory, uint32_t coil)
+{
+    return memory[CUT_COIL] == coil + 1;
+}
+
 static uint32_t reading(struct scene *s, uint32_t coil)
 {
     uint32_t air = AIR + below(s, NOISE), place = s->at - coil * COIL_DISTANCE;
@@ -69,7 +75,7 @@ void scene_tick(struct scene *s, uint8_t *memory)
         put_number(memory + LOGS, 4, number_at(memory + LOGS, 4) + 1);
     }
     for (uint32_t coil = 0; coil < COILS; coil++) {
-        uint32_t value = reading(s, coil);
+        uint32_t live = reading(s, coil), value = is_cut(memory, coil) ? 0 : live;
         put_number(memory + COIL_1 + 2 * coil, 2, value);
         highest = value > highest ? value : highest;
     }

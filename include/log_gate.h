@@ -8,8 +8,8 @@
  * - Pointers are not NULL (a length of 0 does not change that).
  * - Each points to as many bytes as its length says.
  * - What is lent for writing overlaps nothing else that is lent.
- * - While a call runs, nobody else touches what it was lent: one call at a time for one state and its memory. Who ticks in an
- *   interrupt holds it off while log_gate_byte runs; who gives bytes in one, while log_gate_tick runs.
+ * - While a call runs, nobody else touches what it was lent: one call at a time for one state and its memory. Who ticks or gives
+ *   bytes in an interrupt holds it off while another call runs, the two of the gate's own program too.
  *
  * A state needs no alignment. Calls over different states and memories share nothing.
  */
@@ -28,18 +28,18 @@ extern "C" {
  * The version of this header: the major number counts changes for which a caller must be changed or a kept state is void (a call, a
  * number, a state's layout), the minor one additions. It counts apart from the protocol's version, 3, and from what 0xC0 answers.
  */
-#define LOG_GATE_VERSION_MAJOR 1
+#define LOG_GATE_VERSION_MAJOR 2
 #define LOG_GATE_VERSION_MINOR 0
 #define LOG_GATE_VERSION (LOG_GATE_VERSION_MAJOR * 256 + LOG_GATE_VERSION_MINOR)
 
 /* Bytes of a target's state and of an answer reader's state; docs/STATE.md has their layout. More may be lent. */
-#define LOG_GATE_STATE 181u
+#define LOG_GATE_STATE 248u
 #define LOG_GATE_READER 70u
 
 /* The gate's memory, exactly. */
 #define LOG_GATE_MEMORY 16384u
 
-/* Room for an answer, at least; room for the data of an answer that is read, at least. */
+/* Room for an answer, at least; room for the data of an answer that is read or for a command that is collected, at least. */
 #define LOG_GATE_ANSWER_ROOM 132u
 #define LOG_GATE_DATA_ROOM 64u
 
@@ -59,7 +59,8 @@ enum {
     LOG_GATE_ROOM_REFUSED = 3,     /* a lent buffer too short */
     LOG_GATE_FORM_REFUSED = 4,     /* a message or an answer that cannot be formed */
     LOG_GATE_EXPECTED_REFUSED = 5, /* an expected length above 64 */
-    LOG_GATE_SUM_REFUSED = 6       /* a finished answer whose sum is wrong */
+    LOG_GATE_SUM_REFUSED = 6,      /* a finished answer whose sum is wrong */
+    LOG_GATE_RESULT_REFUSED = 7    /* a result above 0xFD, or no collected command that waits for one */
 };
 
 /* Statuses of answers on the wire. */
@@ -93,12 +94,14 @@ enum {
     LOG_GATE_SET_UP_RECORDER = 0x09, /* mode, samples, post-trigger, divider, trigger, then as 0x08; it also starts */
     LOG_GATE_SET_UP_SCOPE_EX = 0x0A,
     LOG_GATE_SET_UP_RECORDER_EX = 0x0B,
+    LOG_GATE_SEND_COMMAND = 0x10,     /* a code and up to 63 arguments for the gate's own program */
     LOG_GATE_DESCRIBE = 0xC0,         /* answers 35 bytes */
     LOG_GATE_START_RECORDER = 0xC1,   /* answers LOG_GATE_DONE or LOG_GATE_RECORDER_RUNS */
     LOG_GATE_STOP_RECORDER = 0xC2,    /* answers LOG_GATE_DONE or LOG_GATE_RECORDER_STOPPED */
     LOG_GATE_RECORDER_STATUS = 0xC3,  /* answers LOG_GATE_RECORDER_RUNS or LOG_GATE_RECORDER_STOPPED */
     LOG_GATE_QUERY_BUFFER = 0xC4,     /* answers the buffer's address and the start index, 2 bytes each */
     LOG_GATE_READ_SCOPE = 0xC5,       /* answers the variables' bytes */
+    LOG_GATE_COMMAND_RESULT = 0xC6,   /* answers LOG_GATE_NO_COMMAND, LOG_GATE_RESULT_DUE, or the result */
     LOG_GATE_DESCRIBE_BRIEFLY = 0xC8, /* answers 6 bytes */
     LOG_GATE_QUERY_BUFFER_EX = 0xC9,  /* as 0xC4, with an address of 4 bytes */
     LOG_GATE_READ_1 = 0xD0,           /* address; so the next five */
@@ -114,18 +117,25 @@ enum {
     LOG_GATE_WRITE_2_MASKED = 0xF1  /* address, value, mask */
 };
 
+/* What 0xC6 answers before any command, and until the result is in; a result is from 0 to LOG_GATE_MOST_RESULT. */
+enum {
+    LOG_GATE_MOST_RESULT = 0xFD,
+    LOG_GATE_RESULT_DUE = 0xFE,
+    LOG_GATE_NO_COMMAND = 0xFF
+};
+
 /* ---- the target */
 
-/* A refusal or LOG_GATE_TAKEN, and how many bytes of the lent buffer are an answer to be sent; 0 is none. */
+/* A refusal or LOG_GATE_TAKEN, and how many bytes of the lent buffer are an answer to be sent, or a message, or a command; 0 is none. */
 typedef struct {
     log_gate_result refusal;
     size_t length;
 } log_gate_taken;
 
-/* Reset: an idle link, and nothing set up. Refuses a state that is too short. */
+/* Reset: an idle link, nothing set up, and no command. Refuses a state that is too short. */
 log_gate_result log_gate_reset(uint8_t *state, size_t state_length);
 
-/* Whether a byte and a tick would take this state: LOG_GATE_TAKEN or LOG_GATE_STATE_REFUSED. */
+/* Whether the calls below would take this state: LOG_GATE_TAKEN or LOG_GATE_STATE_REFUSED. */
 log_gate_result log_gate_check(const uint8_t *state, size_t state_length);
 
 /* A byte came over the port. */
@@ -134,6 +144,15 @@ log_gate_taken log_gate_byte(uint8_t *state, size_t state_length, uint8_t byte, 
 
 /* A tick, each millisecond. */
 log_gate_result log_gate_tick(uint8_t *state, size_t state_length, uint8_t *memory, size_t memory_length);
+
+/*
+ * The gate's own program collects what 0x10 brought: a new command is handed out once, its code first; a length of 0 is nothing new.
+ * Needs LOG_GATE_DATA_ROOM, always.
+ */
+log_gate_taken log_gate_collect(uint8_t *state, size_t state_length, uint8_t *out, size_t out_length);
+
+/* It reports the result of the command that it collected. */
+log_gate_result log_gate_report(uint8_t *state, size_t state_length, uint8_t result);
 
 /* ---- both ends of the line */
 

@@ -28,14 +28,16 @@ static void expect(int holds, const char *what)
 
 /* ---- counts, and a digest of all that the calls gave, by which two archives can be compared */
 
-enum call { RESET, CHECK, BYTE, TICK, WRITE_ANSWER, WRITE_COMMAND, READER_BEGIN, READER_BYTE, CALLS };
+enum call { RESET, CHECK, BYTE, TICK, COLLECT, REPORT, WRITE_ANSWER, WRITE_COMMAND, READER_BEGIN, READER_BYTE, CALLS };
 
-static const char *const names[CALLS] = {"reset",        "check",         "byte",         "tick",
-                                         "write_answer", "write_command", "reader_begin", "reader_byte"};
+enum { MOST_REFUSAL = LOG_GATE_RESULT_REFUSED };
+
+static const char *const names[CALLS] = {"reset",  "check",        "byte",          "tick",         "collect",
+                                         "report", "write_answer", "write_command", "reader_begin", "reader_byte"};
 
 /* The refusals each call can give, 0 for none. Each of them has to come, and no other. */
-static const char *const reachable[CALLS] = {"01", "01", "0123", "012", "034", "034", "015", "0136"};
-static uint64_t counts[CALLS][7], answers[256];
+static const char *const reachable[CALLS] = {"01", "01", "0123", "012", "013", "017", "034", "034", "015", "0136"};
+static uint64_t counts[CALLS][MOST_REFUSAL + 1], answers[256], handed_out;
 static uint64_t digest = 14695981039346656037ull;
 
 static void digest_bytes(const uint8_t *bytes, size_t length)
@@ -46,7 +48,7 @@ static void digest_bytes(const uint8_t *bytes, size_t length)
 
 static void count(enum call call, uint8_t refusal)
 {
-    expect(refusal <= 6, "a refusal above 6");
+    expect(refusal <= MOST_REFUSAL, "a refusal above the highest");
     counts[call][refusal]++;
     digest_bytes(&refusal, 1);
 }
@@ -64,6 +66,19 @@ static size_t some_length(size_t right, size_t more)
     return one_in(2) ? below((uint32_t)right) : right + below((uint32_t)more);
 }
 
+/* Where a state's parts begin. */
+enum { HEAD = 6, BODY_END = 70, SCOPE_END = 111, RUN = 170, APPLICATION = 181 };
+
+/* What an application's part begins with, behind which the command's bytes stand; and how far a command has come. */
+enum { PHASE, COUNT, RESULT, COMMAND, APPLICATION_SIZE = LOG_GATE_STATE - APPLICATION };
+enum { NO_COMMAND, WAITING, COLLECTED, ENDED };
+
+/* Any byte of a state, more often one that the application's bounds look at: most of its part they do not. */
+static size_t some_place(size_t size)
+{
+    return size == LOG_GATE_STATE && one_in(4) ? APPLICATION + below(COMMAND) : below((uint32_t)size);
+}
+
 /* Returns whether it is the live state itself. */
 static int lend_state(struct lent *l, const uint8_t *sound, size_t size)
 {
@@ -73,7 +88,7 @@ static int lend_state(struct lent *l, const uint8_t *sound, size_t size)
     if (kind == 0)
         random_fill(bytes, size);
     if (kind == 1 || kind == 2)
-        bytes[below((uint32_t)size)] = one_in(2) ? (uint8_t)below(10) : random_byte();
+        bytes[some_place(size)] = one_in(2) ? (uint8_t)below(10) : random_byte();
     lend(l, bytes, size, some_length(size, 40));
     return kind > 2;
 }
@@ -115,7 +130,7 @@ static uint8_t byte_refusal(void)
 
 /* ---- the target's calls */
 
-enum { HEAD = 6, BODY_END = 70, SCOPE_END = 111, RUN = 170, VARIABLES_END = 8192, BUFFER = 12288 };
+enum { VARIABLES_END = 8192, BUFFER = 12288 };
 
 static void keep_live(int is_live)
 {
@@ -167,6 +182,34 @@ static void sweep(void)
         }
 }
 
+/* The bounds that docs/STATE.md gives for the application's part. */
+static int application_sound(const uint8_t *part)
+{
+    switch (part[PHASE]) {
+    case NO_COMMAND: case COLLECTED: return 1;
+    case WAITING: return 1 <= part[COUNT] && part[COUNT] <= 64;
+    case ENDED: return part[RESULT] <= 0xFD;
+    default: return 0;
+    }
+}
+
+/* The live state with every phase, and counts and results at their edges: its bounds are these and no other. */
+static void sweep_application(void)
+{
+    static const uint8_t edges[] = {0, 1, 63, 64, 65, 0xFC, 0xFD, 0xFE, 0xFF};
+    uint8_t swept[LOG_GATE_STATE], *part = swept + APPLICATION;
+    memcpy(swept, live, sizeof swept);
+    random_fill(part + COMMAND, APPLICATION_SIZE - COMMAND);
+    for (unsigned at = 0; at < 256 * sizeof edges * sizeof edges; at++) {
+        part[PHASE] = (uint8_t)at;
+        part[COUNT] = edges[at / 256 % sizeof edges];
+        part[RESULT] = edges[at / 256 / sizeof edges];
+        uint8_t refusal = log_gate_check(swept, sizeof swept);
+        count(CHECK, refusal);
+        expect((refusal == LOG_GATE_TAKEN) == application_sound(part), "check: other bounds of the application's part");
+    }
+}
+
 static void look_at_unfinished(void)
 {
     unsigned changed = 0;
@@ -174,6 +217,30 @@ static void look_at_unfinished(void)
         changed += (unsigned)changed_at(&state, i);
     expect(changed <= 1 && kept_but(&state, 0, BODY_END), "an unfinished byte changes more than the receiver and a body byte");
     expect(kept(&mem) && kept(&out), "an unfinished byte changes memory or answer");
+}
+
+/* 0xFF before any command, 0xFE until the result is in, then the result. */
+static uint8_t result_byte(const uint8_t *part)
+{
+    return part[PHASE] == NO_COMMAND ? 0xFF : part[PHASE] == ENDED ? part[RESULT] : 0xFE;
+}
+
+/* An accepted 0x10 stores itself and leaves the bytes behind; whatever else is answered leaves the whole part. */
+static void look_at_application(const uint8_t *answer)
+{
+    const uint8_t *before = state.kept + state.start;
+    uint8_t due[APPLICATION_SIZE], command = before[2], length = before[3];
+    memcpy(due, before + APPLICATION, sizeof due);
+    if (command == LOG_GATE_SEND_COMMAND && answer[1] == LOG_GATE_DONE) {
+        expect(1 <= length && length <= 64 && result_byte(due) != 0xFE, "a command is accepted that should be refused");
+        due[PHASE] = WAITING;
+        due[COUNT] = length;
+        due[RESULT] = 0;
+        memcpy(due + COMMAND, before + HEAD, length);
+    }
+    if (command == LOG_GATE_COMMAND_RESULT && answer[1] == LOG_GATE_DONE)
+        expect(answer[2] == result_byte(due), "0xC6 answers another byte");
+    expect(memcmp(lent_bytes(&state) + APPLICATION, due, sizeof due) == 0, "a message leaves another application's part");
 }
 
 static void look_at_answer(size_t length)
@@ -188,6 +255,7 @@ static void look_at_answer(size_t length)
         expect(!changed_at(&state, i), "an answered byte changes the body");
     if (answer[1] >= 0x80)
         expect(length == 3 && kept(&mem) && kept_but(&state, 0, HEAD), "a refused message changes the gate");
+    look_at_application(answer);
     keep_memory(0, VARIABLES_END);
 }
 
@@ -243,8 +311,66 @@ static void throw_tick(void)
         expect(kept(&state) && kept(&mem), "tick: refused and not untouched");
         return;
     }
-    expect(kept_but(&state, RUN, LOG_GATE_STATE), "a tick changes more than the recorder's run");
+    expect(kept_but(&state, RUN, APPLICATION), "a tick changes more than the recorder's run");
     look_at_place(state.kept + state.start + SCOPE_END);
+    keep_live(is_live);
+}
+
+/* ---- the calls of the gate's own program */
+
+static uint8_t collect_refusal(void)
+{
+    uint8_t refusal = state_refusal();
+    return refusal == LOG_GATE_TAKEN && out.length < LOG_GATE_DATA_ROOM ? LOG_GATE_ROOM_REFUSED : refusal;
+}
+
+static void throw_collect(void)
+{
+    int is_live = lend_state(&state, live, sizeof live);
+    lend_room(some_length(LOG_GATE_DATA_ROOM, 60));
+    uint8_t due = collect_refusal();
+    log_gate_taken taken = log_gate_collect(lent_bytes(&state), state.length, lent_bytes(&out), out.length);
+    count(COLLECT, taken.refusal);
+    expect(taken.refusal == due, "collect: another refusal");
+    if (due != LOG_GATE_TAKEN) {
+        expect(taken.length == 0 && kept(&state) && kept(&out), "collect: refused and not untouched");
+        return;
+    }
+    const uint8_t *part = state.kept + state.start + APPLICATION;
+    int is_new = part[PHASE] == WAITING;
+    handed_out += (unsigned)is_new;
+    expect(taken.length == (is_new ? part[COUNT] : 0u), "collect: another length");
+    expect(memcmp(lent_bytes(&out), part + COMMAND, taken.length) == 0, "collect: another command");
+    expect(kept_but(&out, 0, taken.length), "collect: bytes behind the command");
+    expect(kept_but(&state, APPLICATION + PHASE, APPLICATION + PHASE + (size_t)is_new), "collect: more than the phase");
+    expect(!is_new || lent_bytes(&state)[APPLICATION + PHASE] == COLLECTED, "collect: another phase");
+    digest_bytes(lent_bytes(&out), taken.length);
+    keep_live(is_live);
+}
+
+static uint8_t report_refusal(uint8_t result)
+{
+    if (state_refusal() != LOG_GATE_TAKEN)
+        return LOG_GATE_STATE_REFUSED;
+    return result > 0xFD || lent_bytes(&state)[APPLICATION + PHASE] != COLLECTED ? LOG_GATE_RESULT_REFUSED : LOG_GATE_TAKEN;
+}
+
+static void throw_report(void)
+{
+    int is_live = lend_state(&state, live, sizeof live);
+    uint8_t result = one_in(4) ? (uint8_t)(0xFC + below(4)) : random_byte();
+    uint8_t due = report_refusal(result);
+    uint8_t refusal = log_gate_report(lent_bytes(&state), state.length, result);
+    count(REPORT, refusal);
+    expect(refusal == due, "report: another refusal");
+    if (due != LOG_GATE_TAKEN) {
+        expect(kept(&state), "report: refused and not untouched");
+        return;
+    }
+    const uint8_t *part = lent_bytes(&state) + APPLICATION;
+    expect(kept_but(&state, APPLICATION, APPLICATION + COMMAND), "report: more than phase, count and result");
+    expect(part[COUNT] == 0, "report: a count");
+    expect(part[PHASE] == ENDED && part[RESULT] == result, "report: another phase or result");
     keep_live(is_live);
 }
 
@@ -379,7 +505,7 @@ static void throw_reader_byte(void)
 
 static void throw_one(void)
 {
-    uint32_t which = below(32);
+    uint32_t which = below(34);
     if (which < 18)
         throw_byte();
     else if (which < 24)
@@ -392,6 +518,10 @@ static void throw_one(void)
         throw_write_answer();
     else if (which == 29)
         throw_write_command();
+    else if (which == 30)
+        throw_collect();
+    else if (which == 31)
+        throw_report();
     else if (one_in(2))
         throw_reset();
     else
@@ -400,10 +530,10 @@ static void throw_one(void)
 
 static void report_counts(void)
 {
-    printf("call           taken     1     2     3     4     5     6\n");
+    printf("call           taken     1     2     3     4     5     6     7\n");
     for (int call = 0; call < CALLS; call++) {
         printf("%-13s", names[call]);
-        for (int refusal = 0; refusal < 7; refusal++)
+        for (int refusal = 0; refusal <= MOST_REFUSAL; refusal++)
             printf(refusal == 0 ? " %6llu" : " %5llu", (unsigned long long)counts[call][refusal]);
         printf("\n");
     }
@@ -411,15 +541,16 @@ static void report_counts(void)
     for (int status = 0; status < 256; status++)
         if (answers[status] > 0)
             printf(", %02X %llu", (unsigned)status, (unsigned long long)answers[status]);
-    printf("\n");
+    printf("; commands handed out %llu\n", (unsigned long long)handed_out);
 }
 
 /* After few rounds something may not have come yet; the rounds of a run without words are enough for any seed. */
 static void look_at_counts(void)
 {
     char what[80];
+    expect(handed_out > 0, "no command was ever handed out");
     for (int call = 0; call < CALLS; call++)
-        for (int refusal = 0; refusal < 7; refusal++) {
+        for (int refusal = 0; refusal <= MOST_REFUSAL; refusal++) {
             int can_come = strchr(reachable[call], '0' + refusal) != NULL, came = counts[call][refusal] > 0;
             snprintf(what, sizeof what, "%s, refusal %d: it %s", names[call], refusal, came ? "cannot come" : "never came");
             expect(can_come == came, what);
@@ -437,8 +568,10 @@ int main(int argc, char **argv)
     log_gate_reader_begin(live_reader, sizeof live_reader, 8);
     for (current = 0; current < rounds; current++) {
         throw_one();
-        if (current % (rounds / SWEEPS + 1) == 0)
+        if (current % (rounds / SWEEPS + 1) == 0) {
             sweep();
+            sweep_application();
+        }
     }
     report_counts();
     look_at_counts();

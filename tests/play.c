@@ -8,10 +8,10 @@
 #include <stdlib.h>
 #include <string.h>
 
-enum { LINE = 16384, MOST_ROOM = 600, FILLING = 0xEE };
+enum { LINE = 16384, MOST_ROOM = 600, MOST_UNLIMITED = 65535, FILLING = 0xEE };
 
 static uint8_t state[LOG_GATE_STATE], memory[LOG_GATE_MEMORY], answer[LOG_GATE_ANSWER_ROOM];
-static uint8_t reader[LOG_GATE_READER], lent[MOST_ROOM], bytes[LINE];
+static uint8_t reader[LOG_GATE_READER], lent[MOST_UNLIMITED], bytes[LINE];
 static unsigned long given, read;
 static int memory_used;
 
@@ -37,6 +37,19 @@ static size_t next_bytes(char *text)
     while (text[strspn(text, " \t\r\n")] != '\0')
         bytes[count++] = (uint8_t)next_number(&text, 16);
     return count;
+}
+
+static size_t next_room(char **text, size_t most)
+{
+    size_t room = next_number(text, 10);
+    if (room > most)
+        fail("a room above what a line may lend");
+    return room;
+}
+
+static void fill_lent(size_t room)
+{
+    memset(lent, FILLING, room);
 }
 
 static void print_bytes(const uint8_t *shown, size_t length)
@@ -92,21 +105,29 @@ static void show(char *text)
     print_bytes(memory + address, length);
 }
 
-/* ---- the other end of the line */
+/* ---- the gate's own program */
 
-static size_t next_room(char **text)
+static void collect(char *text)
 {
-    size_t room = next_number(text, 10);
-    if (room > MOST_ROOM)
-        fail("a room above 600");
-    return room;
+    size_t room = next_room(&text, MOST_UNLIMITED);
+    fill_lent(room);
+    log_gate_taken collected = log_gate_collect(state, sizeof state, lent, room);
+    printf("C %u %zu", collected.refusal, collected.length);
+    print_bytes(lent, room);
 }
+
+static void report(char *text)
+{
+    printf("Y %u\n", log_gate_report(state, sizeof state, (uint8_t)next_number(&text, 16)));
+}
+
+/* ---- the other end of the line */
 
 static void write_message(char letter, char *text)
 {
     uint8_t code = (uint8_t)next_number(&text, 16);
-    size_t room = next_room(&text), count = next_bytes(text);
-    memset(lent, FILLING, sizeof lent);
+    size_t room = next_room(&text, MOST_ROOM), count = next_bytes(text);
+    fill_lent(room);
     log_gate_taken written = letter == 'W' ? log_gate_write_command(code, bytes, count, lent, room)
                                            : log_gate_write_answer(code, bytes, count, lent, room);
     printf("%c %u %zu", letter, written.refusal, written.length);
@@ -120,9 +141,9 @@ static void begin(char *text)
 
 static void read_bytes(char *text)
 {
-    size_t room = next_room(&text), count = next_bytes(text);
+    size_t room = next_room(&text, MOST_ROOM), count = next_bytes(text);
     for (size_t i = 0; i < count; i++, read++) {
-        memset(lent, FILLING, sizeof lent);
+        fill_lent(room);
         log_gate_read came = log_gate_reader_byte(reader, sizeof reader, bytes[i], lent, room);
         if (came.refusal != LOG_GATE_TAKEN)
             printf("R %lu %u\n", read, came.refusal);
@@ -138,7 +159,7 @@ static void read_bytes(char *text)
 static void play(char *text)
 {
     char letter = *text;
-    memory_used |= strchr("BTPM", letter) != NULL;
+    memory_used |= strchr("BTPMCY", letter) != NULL;
     switch (letter) {
     case 'B': give(text + 1); break;
     case 'T': tick(text + 1); break;
@@ -147,6 +168,8 @@ static void play(char *text)
     case 'W': case 'V': write_message(letter, text + 1); break;
     case 'E': begin(text + 1); break;
     case 'R': read_bytes(text + 1); break;
+    case 'C': collect(text + 1); break;
+    case 'Y': report(text + 1); break;
     default: fail("no operation");
     }
 }

@@ -1,7 +1,7 @@
 # The virtual gate over the archive: its scene, and a technician at its service port.
 build virtual_gate gate/*.c "$archive"
 build port_test tests/port_test.c "$archive"
-build scene_test tests/scene_test.c gate/scene.c
+build scene_test tests/scene_test.c gate/scene.c gate/self_test.c
 $RUN_X86 $built/scene_test || fail "the scene"
 
 # It ends by itself after a minute of ticks, whatever becomes of this script.

@@ -1,11 +1,12 @@
 /*
  * A technician at the virtual gate's service port: port_test PATH. Commands are written and answers read with the header's other
- * end of the line. It looks that the coils are live, that a recorder triggers on one, and that a written threshold counts.
+ * end of the line. It looks that the coils are live, that a recorder triggers on one, that a written threshold counts, and that the
+ * self-test finds a coil whose wire is cut.
  */
 #define _XOPEN_SOURCE 700
 #define _DEFAULT_SOURCE
+#include "../gate/gate.h"
 #include "../gate/map.h"
-#include "../include/log_gate.h"
 
 #include <fcntl.h>
 #include <poll.h>
@@ -151,6 +152,45 @@ static void test_recorder(void)
     printf("port_test: the trigger came between readings of %u and %u\n", readings[edge - 1], readings[edge]);
 }
 
+/* ---- the self-test */
+
+static void write_byte(unsigned address, uint8_t value)
+{
+    const uint8_t body[] = {(uint8_t)address, (uint8_t)(address >> 8), value, 0};
+    expect(ask(LOG_GATE_WRITE_1, body, sizeof body, 0) == LOG_GATE_DONE, "a byte can be written");
+}
+
+static uint8_t send_code(uint8_t code)
+{
+    return ask(LOG_GATE_SEND_COMMAND, &code, 1, 0);
+}
+
+static uint8_t result_now(void)
+{
+    expect(ask(LOG_GATE_COMMAND_RESULT, data, 0, 1) == LOG_GATE_DONE, "the result can be asked for");
+    return data[0];
+}
+
+static uint8_t result_in_time(void)
+{
+    for (int i = 0; i < TRIES && result_now() == LOG_GATE_RESULT_DUE; i++)
+        pause_a_little();
+    return result_now();
+}
+
+static void test_self_test(void)
+{
+    expect(result_now() == LOG_GATE_NO_COMMAND, "there was no command");
+    expect(send_code(SELF_TEST_CODE) == LOG_GATE_DONE, "the self-test can be started");
+    expect(result_now() == LOG_GATE_RESULT_DUE, "it takes its time");
+    expect(send_code(SELF_TEST_CODE) == LOG_GATE_BUSY, "one command at a time");
+    expect(result_in_time() == 0, "all coils are good");
+    write_byte(CUT_COIL, 3);
+    expect(send_code(SELF_TEST_CODE) == LOG_GATE_DONE && result_in_time() == 3, "coil 3 is bad");
+    write_byte(CUT_COIL, 0);
+    expect(send_code(0x2B) == LOG_GATE_DONE && result_in_time() == UNKNOWN_CODE, "a code that the gate does not know");
+}
+
 int main(int argc, char **argv)
 {
     expect(argc == 2, "one word is given, the port's path");
@@ -159,6 +199,7 @@ int main(int argc, char **argv)
     test_live();
     test_recorder();
     test_alarm();
+    test_self_test();
     printf("port_test: all as it should be\n");
     return 0;
 }

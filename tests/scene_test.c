@@ -1,7 +1,11 @@
-/* The scene of the virtual gate: the same seed gives the same, metal raises the alarm, and the threshold is the technician's. */
+/*
+ * The scene of the virtual gate: the same seed gives the same, metal raises the alarm, and the threshold is the technician's. The
+ * self-test finds a coil whose wire is cut.
+ */
 #include "../gate/map.h"
 #include "../gate/memory.h"
 #include "../gate/scene.h"
+#include "../gate/self_test.h"
 
 #include <stdio.h>
 #include <stdlib.h>
@@ -35,6 +39,25 @@ static void expect_own_bytes(const uint8_t *memory)
         expect((COIL_1 <= i && i < ALARMS + 4) || memory[i] == 0, "the scene keeps to its map");
 }
 
+/* What the self-test says of a scene with this coil cut, and that it says so after just its time. */
+static uint8_t self_test_with(uint8_t cut)
+{
+    uint8_t memory[SIZE] = {0};
+    struct scene scene;
+    struct self_test test;
+    int ticks = 0;
+    scene_begin(&scene, 1, memory);
+    memory[CUT_COIL] = cut;
+    scene_tick(&scene, memory);
+    self_test_begin(&test, memory);
+    do {
+        scene_tick(&scene, memory);
+        ticks++;
+    } while (!self_test_tick(&test, memory));
+    expect(ticks == SELF_TEST_MS && !self_test_tick(&test, memory), "the self-test ends once, after its time");
+    return self_test_result(&test);
+}
+
 int main(void)
 {
     uint8_t first[SIZE], again[SIZE], other[SIZE], deaf[SIZE], shy[SIZE];
@@ -51,6 +74,9 @@ int main(void)
     expect(number_at(deaf + ALARMS, 4) == 0 && deaf[ALARM] == 0, "no reading is at the highest threshold");
     expect(number_at(shy + ALARMS, 4) == 1 && shy[ALARM] == 1, "every reading is at a threshold of 0");
     expect(memcmp(first + COIL_1, deaf + COIL_1, 2 * COILS) == 0, "the threshold does not change the readings");
+    for (uint8_t cut = 0; cut <= COILS; cut++)
+        expect(self_test_with(cut) == cut, "the self-test gives the number of the coil that is cut");
+    expect(self_test_with(COILS + 1) == 0, "a number that no coil has cuts none");
     printf("scene_test: %u logs in a minute, %u with metal\n", logs, alarms);
     return 0;
 }

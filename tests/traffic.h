@@ -74,6 +74,13 @@ static void add_plan(struct message *m, unsigned width)
     add_variables(m, width);
 }
 
+/* Mostly short, so that bytes of a longer one before stand behind it; now and then empty, about as long as can be, or longer. */
+static void add_command(struct message *m)
+{
+    m->length = one_in(8) ? 0 : one_in(4) ? 62 + below(4) : 1 + below(8);
+    random_fill(m->data, m->length);
+}
+
 static void fill_standard(struct message *m)
 {
     switch (m->command) {
@@ -87,6 +94,7 @@ static void fill_standard(struct message *m)
     case LOG_GATE_SET_UP_SCOPE_EX: add_variables(m, 4); break;
     case LOG_GATE_SET_UP_RECORDER: add_plan(m, 2); break;
     case LOG_GATE_SET_UP_RECORDER_EX: add_plan(m, 4); break;
+    case LOG_GATE_SEND_COMMAND: add_command(m); break;
     default:
         m->length = below(80);
         random_fill(m->data, m->length);

@@ -98,9 +98,25 @@ static bool recorder_right(const struct recorder *r)
     return r->ready == 1 && plan_right(&r->plan) && run_right(&r->plan, &r->run);
 }
 
+static bool application_right(const struct application *a)
+{
+    switch (a->phase) {
+    case NO_COMMAND:
+    case COMMAND_COLLECTED:
+        return true;
+    case COMMAND_WAITS:
+        return 1 <= a->count && a->count <= MOST_DATA;
+    case COMMAND_ENDED:
+        return a->result <= LOG_GATE_MOST_RESULT;
+    default:
+        return false;
+    }
+}
+
 static bool target_right(const struct target *t)
 {
-    return receiver_right(&t->receiver) && scope_right(&t->scope) && recorder_right(&t->recorder);
+    return receiver_right(&t->receiver) && scope_right(&t->scope) && recorder_right(&t->recorder) &&
+           application_right(&t->application);
 }
 
 static bool reader_right(const struct reader *r)

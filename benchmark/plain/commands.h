@@ -2,6 +2,7 @@
 #ifndef PLAIN_COMMANDS_H
 #define PLAIN_COMMANDS_H
 
+#include "application.h"
 #include "recorder.h"
 
 enum operation {
@@ -16,7 +17,9 @@ enum operation {
     START_RECORDER,
     STOP_RECORDER,
     RECORDER_STATUS,
-    QUERY_BUFFER
+    QUERY_BUFFER,
+    SEND_COMMAND,
+    COMMAND_RESULT
 };
 
 struct command {
@@ -36,12 +39,14 @@ static const struct command commands[256] = {
     [LOG_GATE_SET_UP_RECORDER] = {SET_UP_RECORDER, 2, 0},
     [LOG_GATE_SET_UP_SCOPE_EX] = {SET_UP_SCOPE, 4, 0},
     [LOG_GATE_SET_UP_RECORDER_EX] = {SET_UP_RECORDER, 4, 0},
+    [LOG_GATE_SEND_COMMAND] = {SEND_COMMAND, 0, 0},
     [LOG_GATE_DESCRIBE] = {DESCRIBE, 0, 35},
     [LOG_GATE_START_RECORDER] = {START_RECORDER, 0, 0},
     [LOG_GATE_STOP_RECORDER] = {STOP_RECORDER, 0, 0},
     [LOG_GATE_RECORDER_STATUS] = {RECORDER_STATUS, 0, 0},
     [LOG_GATE_QUERY_BUFFER] = {QUERY_BUFFER, 2, 0},
     [LOG_GATE_READ_SCOPE] = {READ_SCOPE, 0, 0},
+    [LOG_GATE_COMMAND_RESULT] = {COMMAND_RESULT, 0, 0},
     [LOG_GATE_DESCRIBE_BRIEFLY] = {DESCRIBE, 0, 6},
     [LOG_GATE_QUERY_BUFFER_EX] = {QUERY_BUFFER, 4, 0},
     [LOG_GATE_READ_1] = {READ, 2, 1},
@@ -160,6 +165,12 @@ static void query_buffer(const struct recorder *r, unsigned width, struct answer
     say(a, a->gathered, width + 2);
 }
 
+static void say_result(const struct application *application, struct answer *a)
+{
+    a->gathered[0] = result_byte(application);
+    say(a, a->gathered, 1);
+}
+
 static void carry_out(struct target *t, uint8_t *memory, struct answer *a)
 {
     const struct command *c = &commands[t->receiver.command];
@@ -196,6 +207,12 @@ static void carry_out(struct target *t, uint8_t *memory, struct answer *a)
         break;
     case QUERY_BUFFER:
         query_buffer(&t->recorder, c->width, a);
+        break;
+    case SEND_COMMAND:
+        a->status = send_command(&t->application, body, length);
+        break;
+    case COMMAND_RESULT:
+        say_result(&t->application, a);
         break;
     default:
         a->status = LOG_GATE_NOT_SERVED;

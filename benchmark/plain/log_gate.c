@@ -66,6 +66,27 @@ log_gate_result log_gate_tick(uint8_t *state, size_t state_length, uint8_t *memo
     return LOG_GATE_TAKEN;
 }
 
+log_gate_taken log_gate_collect(uint8_t *state, size_t state_length, uint8_t *out, size_t out_length)
+{
+    struct target *t = (struct target *)state;
+    if (!state_taken(state, state_length))
+        return (log_gate_taken){LOG_GATE_STATE_REFUSED, 0};
+    if (out_length < LOG_GATE_DATA_ROOM)
+        return (log_gate_taken){LOG_GATE_ROOM_REFUSED, 0};
+    return (log_gate_taken){LOG_GATE_TAKEN, collect_command(&t->application, out)};
+}
+
+log_gate_result log_gate_report(uint8_t *state, size_t state_length, uint8_t result)
+{
+    struct target *t = (struct target *)state;
+    if (!state_taken(state, state_length))
+        return LOG_GATE_STATE_REFUSED;
+    if (!result_taken(&t->application, result))
+        return LOG_GATE_RESULT_REFUSED;
+    end_command(&t->application, result);
+    return LOG_GATE_TAKEN;
+}
+
 static bool is_status(uint8_t status)
 {
     return status <= LOG_GATE_RECORDER_STOPPED || (LOG_GATE_NOT_SERVED <= status && status <= LOG_GATE_RANGE_WRONG);

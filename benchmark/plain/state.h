@@ -63,11 +63,22 @@ struct BLOCK recorder {
     struct run run;
 };
 
+enum { NO_COMMAND, COMMAND_WAITS, COMMAND_COLLECTED, COMMAND_ENDED };
+
+/* Count and bytes are looked at while the command waits, the result once it is in. */
+struct BLOCK application {
+    uint8_t phase;
+    uint8_t count;
+    uint8_t result;
+    uint8_t command[MOST_DATA];
+};
+
 struct BLOCK target {
     struct receiver receiver;
     uint8_t body[MOST_DATA];
     struct variables scope;
     struct recorder recorder;
+    struct application application;
 };
 
 enum { READER_IDLE, READER_DATA, READER_SUM };

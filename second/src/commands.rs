@@ -34,6 +34,11 @@ pub fn carry_out(request: Request, target: &mut Target) -> Answer {
             target.recorder = Some(Recorder::started(setup));
             (OK, Vec::new())
         }
+        Request::SendCommand(command) => {
+            target.application.send(command);
+            (OK, Vec::new())
+        }
+        Request::CommandResult => (OK, vec![target.application.result_byte()]),
         recorder_request => {
             let recorder = target.recorder.as_mut();
             on_recorder(recorder_request, recorder.expect("0x88 refuses others"))

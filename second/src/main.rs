@@ -2,6 +2,7 @@
 //! random ones, compares outputs and counts what they reached.
 
 mod adler;
+mod application;
 mod areas;
 mod commands;
 mod compare;
@@ -21,6 +22,8 @@ mod target;
 mod trigger;
 mod wrong;
 
+#[cfg(test)]
+mod application_test;
 #[cfg(test)]
 mod order_test;
 #[cfg(test)]

@@ -1,9 +1,10 @@
 //! Makes random scripts that reach everything a target and its other end do.
 //!
 //! A script is a row of steps: single messages right and wrong, noise, whole
-//! recordings that are set up, triggered and read back, and calls of the other
-//! end of the cable.
+//! recordings that are set up, triggered and read back, commands for the gate's
+//! own program with its calls, and calls of the other end of the cable.
 
+mod application;
 mod host;
 mod memory;
 mod noise;
@@ -32,7 +33,7 @@ pub struct Maker {
 type Step = fn(&mut Maker);
 
 /// Each step with its weight.
-const STEPS: [(u64, Step); 23] = [
+const STEPS: [(u64, Step); 25] = [
     (8, Maker::fast_read),
     (8, Maker::fast_write),
     (10, Maker::block),
@@ -56,6 +57,8 @@ const STEPS: [(u64, Step); 23] = [
     (4, Maker::some_poke),
     (4, Maker::some_ticks),
     (7, Maker::other_end),
+    (6, Maker::application_used),
+    (3, Maker::application_any),
 ];
 
 /// The script of a seed: so many operations, then the memory shown.
@@ -100,10 +103,13 @@ impl Maker {
                 self.poke(address, &bytes);
             }
         }
-        for command in [0xC1, 0xC2, 0xC3, 0xC4, 0xC9, 0xC5] {
+        for command in [0xC1, 0xC2, 0xC3, 0xC4, 0xC9, 0xC5, 0xC6] {
             if self.rng.once_in(2) {
                 self.send(command, &[]);
             }
+        }
+        if self.rng.once_in(2) {
+            self.application_any();
         }
     }
 

@@ -45,9 +45,24 @@ fn recording() -> Target {
     target
 }
 
+/// A target with a command that was not collected.
+fn pending() -> Target {
+    let mut target = Target::reset();
+    assert_eq!(told(&mut target, 0x10, &[1]), 0x00);
+    target
+}
+
 #[test]
 fn a_wrong_sum_comes_first() {
-    for (command, length) in [(0x01, 65), (0x7F, 0), (0x7F, 255), (0x09, 3), (0xC1, 0)] {
+    for (command, length) in [
+        (0x01, 65),
+        (0x7F, 0),
+        (0x7F, 255),
+        (0x09, 3),
+        (0x10, 0),
+        (0x10, 65),
+        (0xC1, 0),
+    ] {
         let mut wrong = literals(command, &vec![0; length]);
         *wrong.last_mut().unwrap() ^= 1;
         assert_eq!(status(&mut Target::reset(), &wrong), 0x82, "{command:02X}");
@@ -59,6 +74,7 @@ fn too_long_before_all_but_the_sum() {
     assert_eq!(told(&mut Target::reset(), 0x7F, &[0; 65]), 0x83);
     assert_eq!(told(&mut recording(), 0x09, &[0; 65]), 0x83);
     assert_eq!(told(&mut Target::reset(), 0x02, &[0; 255]), 0x83);
+    assert_eq!(told(&mut pending(), 0x10, &[0; 65]), 0x83);
     assert_eq!(told(&mut Target::reset(), 0x7F, &[0; 64]), 0x81);
 }
 
@@ -67,6 +83,9 @@ fn busy_before_the_fields() {
     assert_eq!(told(&mut recording(), 0x09, &[]), 0x87);
     assert_eq!(told(&mut recording(), 0x0B, &[3; 20]), 0x87);
     assert_eq!(told(&mut recording(), 0xC9, &[]), 0x87);
+    assert_eq!(told(&mut pending(), 0x10, &[]), 0x87);
+    assert_eq!(told(&mut pending(), 0x09, &[]), 0x85);
+    assert_eq!(told(&mut recording(), 0x10, &[]), 0x85);
     assert_eq!(told(&mut Target::reset(), 0xC4, &[]), 0x88);
 }
 
@@ -117,11 +136,11 @@ fn ranges_of_setups() {
     assert_eq!(told(&mut target, 0x09, &not_looked_at), 0x00);
 }
 
-/// "Application commands (0x10, 0xC6), TSA and string length (0x11, 0x12,
-/// 0xD4, 0xE6) answer 0x81."
+/// "TSA and string length (0x11, 0x12, 0xD4, 0xE6) answer 0x81"; the line has
+/// lost its application commands to request 2026-01.
 #[test]
 fn named_commands_that_are_not_served() {
-    for command in [0x10, 0x11, 0x12, 0xC6, 0xD4, 0xE6] {
+    for command in [0x11, 0x12, 0xD4, 0xE6] {
         let data = vec![0; fast_length(command).unwrap_or(0)];
         let answered = told(&mut Target::reset(), command, &data);
         assert_eq!(answered, 0x81, "{command:02X}");

@@ -36,7 +36,7 @@ struct Player<'a, O: Write, W: Watch> {
     /// Wire bytes given so far, on B lines and on R lines.
     given: u64,
     read: u64,
-    /// A B, T, P or M line came.
+    /// A line came that counts for the D line.
     memory_used: bool,
     watch: &'a mut W,
     out: &'a mut O,
@@ -117,6 +117,14 @@ impl<O: Write, W: Watch> Player<'_, O, W> {
             Operation::Read { room, bytes } => bytes
                 .iter()
                 .try_for_each(|byte| self.read_byte(*byte, room)),
+            Operation::Collect(room) => {
+                self.memory_used = true;
+                self.collect(room)
+            }
+            Operation::Report(result) => {
+                self.memory_used = true;
+                self.report(result)
+            }
         }
     }
 
@@ -134,12 +142,36 @@ impl<O: Write, W: Watch> Player<'_, O, W> {
 
     fn write(&mut self, letter: char, writer: Writer, call: Call) -> Result<(), Failure> {
         let mut lent = vec![FILL; call.room];
-        let (refusal, written) = match writer(call.first, &call.data, &mut lent) {
-            Ok(written) => (0, written),
+        let written = writer(call.first, &call.data, &mut lent);
+        self.print_lent(letter, written, &lent)
+    }
+
+    fn collect(&mut self, room: usize) -> Result<(), Failure> {
+        let mut lent = vec![FILL; room];
+        let collected = self.target.application.collect(&mut lent);
+        self.print_lent('C', collected, &lent)
+    }
+
+    fn report(&mut self, result: u8) -> Result<(), Failure> {
+        let reported = self.target.application.report(result);
+        let refusal = reported.err().unwrap_or(0);
+        self.watch.called('Y', refusal);
+        self.print(&format!("Y {refusal}"), &[])
+    }
+
+    /// Refusal, count and the whole lent buffer of a call.
+    fn print_lent(
+        &mut self,
+        letter: char,
+        counted: Result<usize, Refusal>,
+        lent: &[u8],
+    ) -> Result<(), Failure> {
+        let (refusal, count) = match counted {
+            Ok(count) => (0, count),
             Err(refusal) => (refusal, 0),
         };
         self.watch.called(letter, refusal);
-        self.print(&format!("{letter} {refusal} {written}"), &lent)
+        self.print(&format!("{letter} {refusal} {count}"), lent)
     }
 
     /// "refused, the old reader stays"
@@ -215,6 +247,19 @@ mod tests {
         let rest = " EE".repeat(63);
         let wanted = format!("E 0\nR 3 0 00 1 07{rest}\nR 6 0 81 0 EE{rest}\n");
         assert_eq!(read, wanted);
+    }
+
+    #[test]
+    fn commands_are_collected_and_reported() {
+        let (_, out) =
+            played("C 1\nY 0\nB 2B 10 02 07 09 DE\nC 64\nC 64\nY FE\nY fd\nB 2B C6 3A\n");
+        let rest = " EE".repeat(62);
+        let collected = format!("C 0 2 07 09{rest}\nC 0 0 EE EE{rest}\n");
+        let wanted =
+            format!("C 3 0 EE\nY 7\nA 5 2B 00 00\n{collected}Y 7\nY 0\nA 8 2B 00 FD 03\nD ");
+        assert!(out.starts_with(&wanted), "{out}");
+        let (_, nothing) = played("C 0\n");
+        assert!(nothing.starts_with("C 3 0\nD "), "{nothing}");
     }
 
     #[test]

@@ -2,6 +2,7 @@
 //! since the rest of the program would only make its building longer.
 
 mod adler;
+mod application;
 mod areas;
 mod commands;
 mod host;

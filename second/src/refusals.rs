@@ -72,14 +72,21 @@ fn not_set_up(case: &Case) -> bool {
     }
 }
 
-/// "recorder setup or buffer query while the recorder runs"
+/// "recorder setup or buffer query while the recorder runs"; "0x10 while one is
+/// pending"
 fn busy(case: &Case) -> bool {
-    matches!(case.order, Some(Order::RecorderSetup | Order::BufferQuery))
-        && case.target.recorder.as_ref().is_some_and(|r| r.runs())
+    match case.order {
+        Some(Order::RecorderSetup | Order::BufferQuery) => {
+            case.target.recorder.as_ref().is_some_and(|r| r.runs())
+        }
+        Some(Order::SendCommand) => case.target.application.is_pending(),
+        _ => false,
+    }
 }
 
 /// "a data length that is not the one its fields give (or too short to hold
-/// them), a trigger mode above 2, or, with mode 1 or 2, a sign field above 1"
+/// them), a trigger mode above 2, or, with mode 1 or 2, a sign field above 1";
+/// of 0x10 "an empty data part"
 fn misfit(case: &Case) -> bool {
     match &case.request {
         None => true,

@@ -22,6 +22,8 @@ pub enum Order {
     Stop,
     Status,
     BufferQuery,
+    SendCommand,
+    CommandResult,
 }
 
 /// The order a command value gives and the bytes of its addresses ("Addresses
@@ -57,6 +59,8 @@ pub fn order(command: u8) -> Option<(Order, usize)> {
         0xC3 => (Order::Status, 2),
         0xC4 => (Order::BufferQuery, 2),
         0xC9 => (Order::BufferQuery, 4),
+        0x10 => (Order::SendCommand, 2),
+        0xC6 => (Order::CommandResult, 2),
         _ => return None,
     };
     Some(found)
@@ -108,6 +112,8 @@ pub enum Request {
     BufferQuery {
         address_bytes: usize,
     },
+    SendCommand(Vec<u8>),
+    CommandResult,
 }
 
 /// What is left of a data part; each field is taken from its beginning.
@@ -198,6 +204,14 @@ impl<'a> Fields<'a> {
         })
     }
 
+    /// "one code byte and up to 63 argument bytes": nothing but the code has to
+    /// be there, and all that follows belongs to it.
+    fn command(&mut self) -> Option<Vec<u8>> {
+        let mut command = vec![self.byte()?];
+        command.extend_from_slice(self.bytes(self.rest.len())?);
+        Some(command)
+    }
+
     fn request(&mut self, order: Order) -> Option<Request> {
         Some(match order {
             Order::Information => Request::Information,
@@ -229,6 +243,8 @@ impl<'a> Fields<'a> {
             Order::BufferQuery => Request::BufferQuery {
                 address_bytes: self.address_bytes,
             },
+            Order::SendCommand => Request::SendCommand(self.command()?),
+            Order::CommandResult => Request::CommandResult,
         })
     }
 }

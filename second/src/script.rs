@@ -2,8 +2,9 @@
 
 use crate::areas::MEMORY;
 
-/// The most room a W, V or R line may lend.
+/// The most room a W, V or R line may lend, and a line of no limit of its own.
 const MOST_ROOM: usize = 600;
+const MOST_UNLIMITED: usize = 65_535;
 
 /// One operation.
 #[derive(Debug, PartialEq, Eq)]
@@ -15,7 +16,13 @@ pub enum Operation {
     WriteCommand(Call),
     WriteAnswer(Call),
     BeginReader(u64),
-    Read { room: usize, bytes: Vec<u8> },
+    Read {
+        room: usize,
+        bytes: Vec<u8>,
+    },
+    /// The room for the command.
+    Collect(usize),
+    Report(u8),
 }
 
 /// A call of a writer: command or status, room of the lent buffer, data.
@@ -67,6 +74,8 @@ impl Words<'_> {
                 room: self.room()?,
                 bytes: self.bytes()?,
             }),
+            "C" => Ok(Operation::Collect(self.room_up_to(MOST_UNLIMITED)?)),
+            "Y" => Ok(Operation::Report(hex(self.word("result")?)?)),
             other => Err(format!("`{other}` is no operation")),
         }
     }
@@ -88,9 +97,13 @@ impl Words<'_> {
     }
 
     fn room(&mut self) -> Result<usize, String> {
+        self.room_up_to(MOST_ROOM)
+    }
+
+    fn room_up_to(&mut self, most: usize) -> Result<usize, String> {
         match self.size("room")? {
-            room if room <= MOST_ROOM => Ok(room),
-            room => Err(format!("a room of {room} is above {MOST_ROOM}")),
+            room if room <= most => Ok(room),
+            room => Err(format!("a room of {room} is above {most}")),
         }
     }
 
@@ -140,6 +153,8 @@ mod tests {
         assert_eq!(read("P 16 5A"), Some(Operation::Poke(16, vec![0x5A])));
         assert_eq!(read("M 16383 1"), Some(Operation::Show(16_383, 1)));
         assert_eq!(read("E 65"), Some(Operation::BeginReader(65)));
+        assert_eq!(read("C 65535"), Some(Operation::Collect(65_535)));
+        assert_eq!(read("Y fd"), Some(Operation::Report(0xFD)));
         let call = Call {
             first: 0xD0,
             room: 600,
@@ -170,6 +185,14 @@ mod tests {
             "E",
             "R",
             "R 601",
+            "C",
+            "C 64 00",
+            "C 65536",
+            "C x",
+            "Y",
+            "Y 100",
+            "Y 0 0",
+            "Y g",
         ] {
             assert!(parse(line).is_err(), "{line}");
         }

@@ -1,5 +1,7 @@
-//! The target: the bytes it heard, its memory, scope and recorder.
+//! The target: the bytes it heard, its memory, scope, recorder and the
+//! commands for the gate's own program.
 
+use crate::application::Application;
 use crate::areas::{Range, MEMORY};
 use crate::commands::carry_out;
 use crate::line::{wire, Heard};
@@ -11,6 +13,7 @@ pub struct Target {
     pub memory: Vec<u8>,
     pub scope: Option<Vec<Range>>,
     pub recorder: Option<Recorder>,
+    pub application: Application,
     heard: Heard,
 }
 
@@ -22,12 +25,13 @@ pub struct Answer {
 }
 
 impl Target {
-    /// The target after reset: an idle link, nothing set up.
+    /// The target after reset: an idle link, nothing set up, no command.
     pub fn reset() -> Target {
         Target {
             memory: vec![0; MEMORY],
             scope: None,
             recorder: None,
+            application: Application::default(),
             heard: Heard::default(),
         }
     }

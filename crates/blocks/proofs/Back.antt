@@ -19,11 +19,12 @@ use Rattle.plans.specs.declared.plan.Plan.{Plan}
 use Rattle.runs.specs.declared.run.Run.{Run}
 use Rattle.recorder.specs.declared.state.Recorder.{Recorder}
 use Rattle.document.proofs.Values.{number-back}
+use Rattle.application.specs.State.{Command}
 use Rattle.state.specs.State.{Target}
 use Rattle.state.specs.Widths.{VariablesFit, PlanFits, RunFits, TargetFits}
-use Rattle.blocks.specs.Places.{definitionsLength, variablesLength, numbersLength, planLength, bodyPlace, scopePlace, recorderPlace, recordedPlace, runPlace, stateLength}
-use Rattle.blocks.specs.Layout.{decodedReceiver, decodedDefinitions, decodedScope, decodedPlan, decodedRun, decodedRecorder, decoded, encodedReceiver, encodedDefinitions, encodedScope, encodedRun, encodedRecorder, encoded}
-use Rattle.blocks.proofs.Parts.{receiver-length, definitions-length, scope-length, recorder-length}
+use Rattle.blocks.specs.Places.{definitionsLength, variablesLength, numbersLength, planLength, recorderLength, bodyPlace, scopePlace, recorderPlace, recordedPlace, runPlace, applicationPlace, commandPlace, stateLength}
+use Rattle.blocks.specs.Layout.{decodedReceiver, decodedDefinitions, decodedScope, decodedPlan, decodedRun, decodedRecorder, decodedApplication, decoded, encodedReceiver, encodedDefinitions, encodedScope, encodedRun, encodedRecorder, encodedApplication, encoded}
+use Rattle.blocks.proofs.Parts.{receiver-length, definitions-length, scope-length, recorder-length, application-length}
 
 -- ---- definitions
 
@@ -130,6 +131,20 @@ module _ (l rest : List ℕ) (r : Recorder) (e : drop recorderPlace l ≡ encode
     recorder-back run =
         λ i. record { ready = byte-of-plan 0 (r .ready) refl i; plan = plan-back i; run = run-back l rest (r .run) behind run i }
 
+application-back : (l rest : List ℕ) (c : Command) → length (c .bytes) ≡ mostData → drop applicationPlace l ≡ encodedApplication c ++ rest → decodedApplication l ≡ c
+unfolding encodedApplication decodedApplication
+application-back l rest c size e =
+    let q : List ℕ = c .phase ∷ c .count ∷ c .result ∷ (c .bytes ++ rest) in
+    let command : bytesAt l commandPlace mostData ≡ c .bytes =
+    ap (take mostData) (sym (drop-drop 3 applicationPlace l) ∙ ap (drop 3) e) ∙ take-at (c .bytes) rest mostData size in
+    λ i.
+    record {
+      phase = byte-there l q applicationPlace 0 (c .phase) e refl i;
+      count = byte-there l q applicationPlace 1 (c .count) e refl i;
+      result = byte-there l q applicationPlace 2 (c .result) e refl i;
+      bytes = command i;
+    }
+
 -- ---- the whole
 
 pub decoded-encoded : (t : Target) (rest : List ℕ) → TargetFits t → decoded (encoded t ++ rest) ≡ t
@@ -140,16 +155,20 @@ decoded-encoded t rest fits =
       body = body-there i;
       instruments =
           record {
-            scope = scope-back l (encodedRecorder (t .instruments .recorder) ++ rest) (t .instruments .scope) (fits .scope) behind-body i;
-            recorder = recorder-back l rest (t .instruments .recorder) behind-scope (fits .recorder .plan) (fits .recorder .run) i;
+            scope = scope-back l (encodedRecorder (t .instruments .recorder) ++ last) (t .instruments .scope) (fits .scope) behind-body i;
+            recorder = recorder-back l last (t .instruments .recorder) behind-scope (fits .recorder .plan) (fits .recorder .run) i;
+            application = application-back l rest (t .instruments .application) (fits .application) behind-recorder i;
           };
     }
   where
     l : List ℕ
     l = encoded t ++ rest
 
+    last : List ℕ
+    last = encodedApplication (t .instruments .application) ++ rest
+
     instruments : List ℕ
-    instruments = encodedScope (t .instruments .scope) ++ (encodedRecorder (t .instruments .recorder) ++ rest)
+    instruments = encodedScope (t .instruments .scope) ++ (encodedRecorder (t .instruments .recorder) ++ last)
 
     parts : l ≡ encodedReceiver (t .receiver) ++ (t .body ++ instruments)
     parts = simp append-assoc
@@ -160,11 +179,17 @@ decoded-encoded t rest fits =
     behind-body : drop scopePlace l ≡ instruments
     behind-body = sym (drop-drop mostData bodyPlace l) ∙ ap (drop mostData) behind-receiver ∙ drop-at (t .body) instruments mostData (fits .body)
 
-    behind-scope : drop recorderPlace l ≡ encodedRecorder (t .instruments .recorder) ++ rest
+    behind-scope : drop recorderPlace l ≡ encodedRecorder (t .instruments .recorder) ++ last
     behind-scope =
         sym (drop-drop variablesLength scopePlace l)
         ∙ ap (drop variablesLength) behind-body
-        ∙ drop-at (encodedScope (t .instruments .scope)) (encodedRecorder (t .instruments .recorder) ++ rest) variablesLength (scope-length (t .instruments .scope) (fits .scope .eight))
+        ∙ drop-at (encodedScope (t .instruments .scope)) (encodedRecorder (t .instruments .recorder) ++ last) variablesLength (scope-length (t .instruments .scope) (fits .scope .eight))
+
+    behind-recorder : drop applicationPlace l ≡ last
+    behind-recorder =
+        sym (drop-drop recorderLength recorderPlace l)
+        ∙ ap (drop recorderLength) behind-scope
+        ∙ drop-at (encodedRecorder (t .instruments .recorder)) last recorderLength (recorder-length (t .instruments .recorder) (fits .recorder .plan .variables .eight))
 
     receiver-there : decodedReceiver l ≡ t .receiver
     receiver-there = ap decodedReceiver parts ∙ receiver-back (t .receiver) (t .body ++ instruments)
@@ -177,7 +202,7 @@ decoded-encoded t rest fits =
 pub encoded-length : (t : Target) → TargetFits t → length (encoded t) ≡ stateLength
 encoded-length t fits =
     simp length-append
-    (omega (arith, receiver-length (t .receiver), fits .body, scope-length (t .instruments .scope) (fits .scope .eight), recorder-length (t .instruments .recorder) (fits .recorder .plan .variables .eight)))
+    (omega (arith, receiver-length (t .receiver), fits .body, scope-length (t .instruments .scope) (fits .scope .eight), recorder-length (t .instruments .recorder) (fits .recorder .plan .variables .eight), application-length (t .instruments .application) (fits .application)))
 
 pub stored-decoded : (block : List ℕ) (t : Target) → stateLength ≤ length block → TargetFits t → decoded (sets block 0 (encoded t)) ≡ t
 stored-decoded block t long fits =

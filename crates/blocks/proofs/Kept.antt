@@ -7,8 +7,8 @@ use lib.ListN.{length, getD, take}
 use Rattle.document.specs.Numbers.{mostData}
 use Rattle.document.specs.Areas.{bytesAt}
 use Rattle.runs.specs.declared.run.Run.{Run}
-use Rattle.blocks.specs.Layout.{decodedReceiver, decodedDefinitions, decodedVariables, decodedScope, decodedPlan, decodedRecorder, decodedInstruments, decoded, encodedReceiver, encodedVariables, encodedScope, encodedNumbers, encodedRun, encodedRecorder, encodedInstruments, encoded}
-use Rattle.blocks.specs.Places.{receiverLength, definitionsLength, variablesLength, numbersLength, planLength, runLength, recorderLength, instrumentsLength, bodyPlace, scopePlace, recorderPlace, planPlace, samplesPlace, postTriggerPlace, dividerPlace, triggerAddressPlace, triggerSizePlace, signPlace, thresholdPlace, recordedPlace, runPlace, fullPlace, watchPlace, waitPlace, placePlace, valuePlace, stateLength}
+use Rattle.blocks.specs.Layout.{decodedReceiver, decodedDefinitions, decodedVariables, decodedScope, decodedPlan, decodedRecorder, decodedApplication, decodedInstruments, decoded, encodedReceiver, encodedVariables, encodedScope, encodedNumbers, encodedRun, encodedRecorder, encodedApplication, encodedInstruments, encoded}
+use Rattle.blocks.specs.Places.{receiverLength, definitionsLength, variablesLength, numbersLength, planLength, runLength, recorderLength, applicationLength, instrumentsLength, bodyPlace, scopePlace, recorderPlace, planPlace, samplesPlace, postTriggerPlace, dividerPlace, triggerAddressPlace, triggerSizePlace, signPlace, thresholdPlace, recordedPlace, runPlace, fullPlace, watchPlace, waitPlace, placePlace, valuePlace, applicationPlace, commandPlace, stateLength}
 use Rattle.block_fields.proofs.Ranges.{bytes-cons, bytes-append}
 use Rattle.block_fields.proofs.Numbers.{number-kept}
 use Rattle.blocks.proofs.Definitions.{definitions-kept}
@@ -84,9 +84,17 @@ module _ (l : List ℕ) (small : (i : ℕ) → getD l i 0 < 256) where
         ∙ ap (λ (k : List ℕ). bytesAt l recorderPlace (1 + planLength) ++ k) run-kept
         ∙ bytes-append l recorderPlace (1 + planLength) runLength
 
+    pub application-kept : encodedApplication (decodedApplication l) ≡ bytesAt l applicationPlace applicationLength
+    unfolding encodedApplication decodedApplication
+    application-kept =
+        ap (λ (k : List ℕ). k ++ bytesAt l commandPlace mostData) (each-bytes 3 l applicationPlace (omega arith))
+        ∙ bytes-append l applicationPlace 3 mostData
+
     pub instruments-kept : encodedInstruments (decodedInstruments l) ≡ bytesAt l scopePlace instrumentsLength
     instruments-kept =
-        (λ i. scope-kept i ++ same-recorder-kept i) ∙ bytes-append l scopePlace variablesLength recorderLength
+        (λ i. scope-kept i ++ (same-recorder-kept i ++ application-kept i))
+        ∙ ap (λ (k : List ℕ). bytesAt l scopePlace variablesLength ++ k) (bytes-append l recorderPlace recorderLength applicationLength)
+        ∙ bytes-append l scopePlace variablesLength (recorderLength + applicationLength)
 
     -- the whole
     pub encoded-decoded : encoded (decoded l) ≡ take stateLength l

@@ -1,23 +1,24 @@
 -- What a byte and a tick store is the encoding of the next state: the parts they leave alone are there already.
 use mathlib.Core.Path.{_≡_, refl, sym, ap, _∙_}
-use mathlib.Core.List.{List, _++_}
-use Prim.Native.Nat.{ℕ, _+_, _<_, _≤_}
+use mathlib.Core.List.{List, [], _∷_, _++_}
+use Prim.Native.Nat.{ℕ, _+_, _-_, _<_, _≤_}
 use native.Mathlib.Omega.{arith}
-use lib.ListN.{length, getD, set, take, length-set}
-use lib.Seq.{sets, length-sets, drop-set-lt}
+use lib.ListN.{length, getD, set, take, drop, length-set, length-append}
+use lib.Seq.{sets, length-sets, drop-at, drop-set-lt}
 use Rattle.document.specs.Numbers.{mostData}
 use Rattle.document.specs.Areas.{bytesAt}
 use Rattle.link.specs.declared.Receiver.{Receiver}
 use Rattle.scope.specs.declared.Scope.{Scope}
 use Rattle.runs.specs.declared.run.Run.{Run}
 use Rattle.recorder.specs.declared.state.Recorder.{Recorder}
+use Rattle.application.specs.State.{Command, sentCommand, endedCommand}
 use Rattle.state.specs.State.{Instruments}
 use Rattle.history.proofs.Bytes.{bytes-behind}
-use Rattle.blocks.specs.Layout.{decodedReceiver, decodedBody, decodedScope, decodedRecorder, decodedInstruments, encodedReceiver, encodedScope, encodedRun, encodedRecorder, encodedInstruments, encoded}
-use Rattle.blocks.specs.Places.{receiverLength, variablesLength, planLength, recorderLength, instrumentsLength, bodyPlace, scopePlace, recorderPlace, runPlace, stateLength}
-use Rattle.block_fields.proofs.Ranges.{bytes-length, sets-same, sets-set, sets-apart}
+use Rattle.blocks.specs.Layout.{decodedReceiver, decodedBody, decodedScope, decodedRecorder, decodedApplication, decodedInstruments, encodedReceiver, encodedScope, encodedRun, encodedRecorder, encodedApplication, encodedInstruments, encoded}
+use Rattle.blocks.specs.Places.{receiverLength, variablesLength, planLength, recorderLength, applicationLength, instrumentsLength, bodyPlace, scopePlace, recorderPlace, runPlace, applicationPlace, commandPlace, stateLength}
+use Rattle.block_fields.proofs.Ranges.{bytes-length, bytes-append, sets-same, sets-set, sets-apart}
 use Rattle.blocks.proofs.Parts.{receiver-length, sets-two}
-use Rattle.blocks.proofs.Kept.{receiver-kept, scope-kept, recorder-kept, same-recorder-kept, instruments-kept}
+use Rattle.blocks.proofs.Kept.{receiver-kept, scope-kept, recorder-kept, same-recorder-kept, application-kept, instruments-kept}
 
 module _ (block : List ℕ) (long : stateLength ≤ length block) where
   parts-stored : (r : Receiver) (body rest : List ℕ) → length body ≡ mostData
@@ -95,21 +96,54 @@ module _ (block : List ℕ) (long : stateLength ≤ length block) where
     same-instruments =
         ap (sets block scopePlace) (instruments-kept block small long) ∙ sets-same instrumentsLength block scopePlace (omega arith)
 
-    pub scope-stored : (s : Scope) → length (encodedScope s) ≡ variablesLength
-        → sets block scopePlace (encodedScope s) ≡ sets block scopePlace (encodedInstruments (record { scope = s; recorder = decodedRecorder block }))
-    scope-stored s width =
-        sym
-        (sets-two block (encodedScope s) (encodedRecorder (decodedRecorder block)) scopePlace variablesLength recorderPlace width refl
-        ∙ ap (sets (sets block scopePlace (encodedScope s)) recorderPlace)
-        (same-recorder-kept block small long ∙ sym (bytes-behind (encodedScope s) block scopePlace recorderPlace recorderLength (omega (arith, width))))
-        ∙ sets-same recorderLength (sets block scopePlace (encodedScope s)) recorderPlace (omega (arith, length-sets block scopePlace (encodedScope s))))
+    -- what stands behind the scope: the recorder and the application command, as they are
+    behind-scope-kept : encodedRecorder (decodedRecorder block) ++ encodedApplication (decodedApplication block) ≡ bytesAt block recorderPlace (recorderLength + applicationLength)
+    behind-scope-kept =
+        (λ i. same-recorder-kept block small long i ++ application-kept block small long i) ∙ bytes-append block recorderPlace recorderLength applicationLength
 
-    pub recorder-stored : (r : Recorder)
-        → sets block recorderPlace (encodedRecorder r) ≡ sets block scopePlace (encodedInstruments (record { scope = decodedScope block; recorder = r }))
-    recorder-stored r =
+    -- a part, stored, and what stands behind it stored over what is there
+    behind-there : (l xs ys : List ℕ) (at n next m : ℕ) → length xs ≡ n → at + n ≡ next → next + m ≤ length l → ys ≡ bytesAt l next m
+        → sets l at (xs ++ ys) ≡ sets l at xs
+    behind-there l xs ys at n next m width place fits same =
+        sets-two l xs ys at n next width place
+        ∙ ap (sets (sets l at xs) next) (same ∙ sym (bytes-behind xs l at next m (omega (arith, width, place))))
+        ∙ sets-same m (sets l at xs) next (omega (arith, length-sets l at xs))
+
+    pub scope-stored : (s : Scope) → length (encodedScope s) ≡ variablesLength
+        → sets block scopePlace (encodedScope s) ≡ sets block scopePlace (encodedInstruments (record { scope = s; recorder = decodedRecorder block; application = decodedApplication block }))
+    scope-stored s width =
+        sym (behind-there block (encodedScope s) _ scopePlace variablesLength recorderPlace (recorderLength + applicationLength) width refl (omega arith) behind-scope-kept)
+
+    -- behind the scope that is there
+    past-scope : (r : Recorder) (c : Command)
+        → sets block scopePlace (encodedInstruments (record { scope = decodedScope block; recorder = r; application = c }))
+        ≡ sets block recorderPlace (encodedRecorder r ++ encodedApplication c)
+    past-scope r c =
+        sets-two block (encodedScope (decodedScope block)) (encodedRecorder r ++ encodedApplication c) scopePlace variablesLength recorderPlace scope-width refl
+        ∙ ap (λ (l : List ℕ). sets l recorderPlace (encodedRecorder r ++ encodedApplication c)) same-scope
+
+    pub recorder-stored : (r : Recorder) → length (encodedRecorder r) ≡ recorderLength
+        → sets block recorderPlace (encodedRecorder r)
+        ≡ sets block scopePlace (encodedInstruments (record { scope = decodedScope block; recorder = r; application = decodedApplication block }))
+    recorder-stored r width =
         sym
-        (sets-two block (encodedScope (decodedScope block)) (encodedRecorder r) scopePlace variablesLength recorderPlace scope-width refl
-        ∙ ap (λ (l : List ℕ). sets l recorderPlace (encodedRecorder r)) same-scope)
+        (past-scope r (decodedApplication block)
+        ∙ behind-there block (encodedRecorder r) _ recorderPlace recorderLength applicationPlace applicationLength width refl (omega arith) (application-kept block small long))
+
+    same-recorder : sets block recorderPlace (encodedRecorder (decodedRecorder block)) ≡ block
+    same-recorder = ap (sets block recorderPlace) (same-recorder-kept block small long) ∙ sets-same recorderLength block recorderPlace (omega arith)
+
+    recorder-width : length (encodedRecorder (decodedRecorder block)) ≡ recorderLength
+    recorder-width = ap length (same-recorder-kept block small long) ∙ bytes-length block recorderPlace recorderLength (omega arith)
+
+    pub application-stored : (c : Command)
+        → sets block applicationPlace (encodedApplication c)
+        ≡ sets block scopePlace (encodedInstruments (record { scope = decodedScope block; recorder = decodedRecorder block; application = c }))
+    application-stored c =
+        sym
+        (past-scope (decodedRecorder block) c
+        ∙ sets-two block (encodedRecorder (decodedRecorder block)) (encodedApplication c) recorderPlace recorderLength applicationPlace recorder-width refl
+        ∙ ap (λ (l : List ℕ). sets l applicationPlace (encodedApplication c)) same-recorder)
 
     -- the recorder in the block, with another run
     abbrev withRun : Run → Recorder
@@ -122,9 +156,17 @@ module _ (block : List ℕ) (long : stateLength ≤ length block) where
         ∙ sets-two block (bytesAt block recorderPlace (1 + planLength)) (encodedRun run) recorderPlace (1 + planLength) runPlace (bytes-length block recorderPlace (1 + planLength) (omega arith)) refl
         ∙ ap (λ (l : List ℕ). sets l runPlace (encodedRun run)) (sets-same (1 + planLength) block recorderPlace (omega arith)))
 
+    run-width : (run : Run) → length (encodedRecorder (withRun run)) ≡ recorderLength
+    unfolding encodedRun
+    run-width run =
+        ap length (recorder-kept block small long run)
+        ∙ length-append (bytesAt block recorderPlace (1 + planLength)) (encodedRun run)
+        ∙ omega (arith, bytes-length block recorderPlace (1 + planLength) (omega arith))
+
     pub run-stored : (run : Run)
-        → sets block runPlace (encodedRun run) ≡ sets block scopePlace (encodedInstruments (record { scope = decodedScope block; recorder = withRun run }))
-    run-stored run = run-in-recorder run ∙ recorder-stored (withRun run)
+        → sets block runPlace (encodedRun run)
+        ≡ sets block scopePlace (encodedInstruments (record { scope = decodedScope block; recorder = withRun run; application = decodedApplication block }))
+    run-stored run = run-in-recorder run ∙ recorder-stored (withRun run) (run-width run)
 
     -- what is set up, behind the link as it is there
     pub instruments-stored : (i : Instruments)
@@ -134,3 +176,41 @@ module _ (block : List ℕ) (long : stateLength ≤ length block) where
         ap (λ (l : List ℕ). sets l scopePlace (encodedInstruments i))
         (sym (ap (sets block 0) (receiver-kept block small long) ∙ sets-same receiverLength block 0 (omega arith)))
         ∙ whole-stored (decodedReceiver block) i
+
+    -- ---- the application command, byte by byte
+
+    -- a byte of its head
+    pub head-stored : (k b : ℕ) (c : Command) → k < 3 → set (encodedApplication (decodedApplication block)) k b ≡ encodedApplication c
+        → set block (applicationPlace + k) b
+        ≡ sets block scopePlace (encodedInstruments (record { scope = decodedScope block; recorder = decodedRecorder block; application = c }))
+    head-stored k b c h same =
+        sym (sets-set applicationLength block applicationPlace k b (omega arith) (omega arith))
+        ∙ ap (λ (l : List ℕ). sets block applicationPlace (set l k b)) (sym (application-kept block small long))
+        ∙ ap (sets block applicationPlace) same
+        ∙ application-stored c
+
+    -- a new one: its head, and its bytes in front of those that are there
+    pub command-stored : (body : List ℕ) → length body ≤ mostData
+        → sets block applicationPlace (1 ∷ length body ∷ 0 ∷ body)
+        ≡ sets block scopePlace (encodedInstruments (record { scope = decodedScope block; recorder = decodedRecorder block; application = sentCommand body (decodedApplication block) }))
+    unfolding encodedApplication decodedApplication
+    command-stored body few =
+        let n = length body in
+        sym (behind-there block (1 ∷ n ∷ 0 ∷ body) (drop n (bytesAt block commandPlace mostData)) applicationPlace (3 + n) (commandPlace + n) (mostData - n) (omega arith) (omega arith) (omega arith) (bytes-left n few))
+        ∙ application-stored (sentCommand body (decodedApplication block))
+      where
+        bytes-left : (n : ℕ) → n ≤ mostData → drop n (bytesAt block commandPlace mostData) ≡ bytesAt block (commandPlace + n) (mostData - n)
+        bytes-left n small-enough =
+            let whole : mostData ≡ n + (mostData - n) = omega (arith, small-enough) in
+            ap (λ (k : ℕ). drop n (bytesAt block commandPlace k)) whole
+            ∙ ap (drop n) (sym (bytes-append block commandPlace n (mostData - n)))
+            ∙ drop-at (bytesAt block commandPlace n) (bytesAt block (commandPlace + n) (mostData - n)) n (bytes-length block commandPlace n (omega arith))
+
+    -- a result: its head, and the bytes that are there
+    pub ended-stored : (result : ℕ)
+        → sets block applicationPlace (3 ∷ 0 ∷ result ∷ [])
+        ≡ sets block scopePlace (encodedInstruments (record { scope = decodedScope block; recorder = decodedRecorder block; application = endedCommand result (decodedApplication block) }))
+    unfolding encodedApplication decodedApplication
+    ended-stored result =
+        sym (behind-there block (3 ∷ 0 ∷ result ∷ []) (bytesAt block commandPlace mostData) applicationPlace 3 commandPlace mostData refl refl (omega arith) refl)
+        ∙ application-stored (endedCommand result (decodedApplication block))

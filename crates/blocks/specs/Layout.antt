@@ -14,8 +14,9 @@ use Rattle.scope.specs.declared.Scope.{Scope}
 use Rattle.plans.specs.declared.plan.Plan.{Plan}
 use Rattle.runs.specs.declared.run.Run.{Run}
 use Rattle.recorder.specs.declared.state.Recorder.{Recorder}
+use Rattle.application.specs.State.{Command}
 use Rattle.state.specs.State.{Instruments, Target}
-use Rattle.blocks.specs.Places.{bodyPlace, scopePlace, recorderPlace, planPlace, samplesPlace, postTriggerPlace, dividerPlace, triggerAddressPlace, triggerSizePlace, signPlace, thresholdPlace, recordedPlace, runPlace, fullPlace, watchPlace, waitPlace, placePlace, valuePlace}
+use Rattle.blocks.specs.Places.{bodyPlace, scopePlace, recorderPlace, planPlace, samplesPlace, postTriggerPlace, dividerPlace, triggerAddressPlace, triggerSizePlace, signPlace, thresholdPlace, recordedPlace, runPlace, fullPlace, watchPlace, waitPlace, placePlace, valuePlace, applicationPlace, commandPlace}
 
 -- ---- from a block to the state that it is
 
@@ -76,8 +77,18 @@ decodedRun block =
 unfoldable pub decodedRecorder : List ℕ → Recorder
 decodedRecorder block = record { ready = getD block recorderPlace 0; plan = decodedPlan block; run = decodedRun block }
 
+unfoldable pub decodedApplication : List ℕ → Command
+decodedApplication block =
+    record {
+      phase = getD block applicationPlace 0;
+      count = getD block (applicationPlace + 1) 0;
+      result = getD block (applicationPlace + 2) 0;
+      bytes = bytesAt block commandPlace mostData;
+    }
+
 abbrev pub decodedInstruments : List ℕ → Instruments
-decodedInstruments block = record { scope = decodedScope block; recorder = decodedRecorder block }
+decodedInstruments block =
+    record { scope = decodedScope block; recorder = decodedRecorder block; application = decodedApplication block }
 
 abbrev pub decoded : List ℕ → Target
 decoded block =
@@ -118,8 +129,11 @@ encodedRun r =
 unfoldable pub encodedRecorder : Recorder → List ℕ
 encodedRecorder r = r .ready ∷ encodedNumbers (r .plan) ++ encodedVariables (r .plan .variables) ++ encodedRun (r .run)
 
+unfoldable pub encodedApplication : Command → List ℕ
+encodedApplication c = c .phase ∷ c .count ∷ c .result ∷ c .bytes
+
 abbrev pub encodedInstruments : Instruments → List ℕ
-encodedInstruments i = encodedScope (i .scope) ++ encodedRecorder (i .recorder)
+encodedInstruments i = encodedScope (i .scope) ++ (encodedRecorder (i .recorder) ++ encodedApplication (i .application))
 
 abbrev pub encoded : Target → List ℕ
 encoded t = encodedReceiver (t .receiver) ++ (t .body ++ encodedInstruments (t .instruments))

@@ -29,9 +29,13 @@ runLength = 11
 abbrev pub recorderLength : ℕ
 recorderLength = 1 + planLength + runLength
 
--- scope and recorder
+-- the application command: phase, count and result, and 64 bytes
+abbrev pub applicationLength : ℕ
+applicationLength = 3 + mostData
+
+-- scope, recorder and application command
 abbrev pub instrumentsLength : ℕ
-instrumentsLength = variablesLength + recorderLength
+instrumentsLength = variablesLength + (recorderLength + applicationLength)
 
 -- ---- where it begins
 
@@ -53,9 +57,15 @@ recordedPlace = planPlace + numbersLength
 abbrev pub runPlace : ℕ
 runPlace = recordedPlace + variablesLength
 
+abbrev pub applicationPlace : ℕ
+applicationPlace = runPlace + runLength
+
+abbrev pub commandPlace : ℕ
+commandPlace = applicationPlace + 3
+
 -- how many bytes a target's state takes
 abbrev pub stateLength : ℕ
-stateLength = runPlace + runLength
+stateLength = applicationPlace + applicationLength
 
 -- ---- the plan's numbers and the run's, as they lie behind each other
 

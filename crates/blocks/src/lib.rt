@@ -3,13 +3,17 @@ mod places;
 mod reading;
 mod writing;
 
+pub use places::APPLICATION;
 pub use places::BODY;
+pub use places::COMMAND;
+pub use places::COUNT;
 pub use places::DIVIDER;
 pub use places::MODE;
 pub use places::POST_TRIGGER;
 pub use places::READY;
 pub use places::RECORDED;
 pub use places::RECORDED_DEFINITIONS;
+pub use places::RESULT;
 pub use places::SAMPLES;
 pub use places::SCOPE;
 pub use places::SCOPE_DEFINITIONS;

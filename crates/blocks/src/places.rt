@@ -49,5 +49,14 @@ pub const PLACE: usize = WAIT + 2;
 
 pub const VALUE: usize = PLACE + 2;
 
+// The application command: its phase, how many bytes it has, its result, and 64 bytes.
+pub const APPLICATION: usize = VALUE + 4;
+
+pub const COUNT: usize = APPLICATION + 1;
+
+pub const RESULT: usize = COUNT + 1;
+
+pub const COMMAND: usize = RESULT + 1;
+
 // How many bytes a target's state takes.
-pub const STATE_LENGTH: usize = VALUE + 4;
+pub const STATE_LENGTH: usize = COMMAND + MOST_DATA;

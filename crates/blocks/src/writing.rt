@@ -4,7 +4,7 @@ ghost use Prim.Native.Nat.{_+_, _≤_};
 ghost use lib.ListN.{length};
 ghost use lib.Seq.{sets};
 ghost use Rattle.state.specs.Bounds.{fresh};
-ghost use Rattle.blocks.specs.Layout.{decodedScope, decodedRecorder, encodedReceiver, encodedDefinitions, encodedVariables, encodedNumbers, encodedRun, encodedInstruments, encoded};
+ghost use Rattle.blocks.specs.Layout.{decodedScope, decodedRecorder, decodedApplication, encodedReceiver, encodedDefinitions, encodedVariables, encodedNumbers, encodedRun, encodedInstruments, encoded};
 ghost use Rattle.blocks.specs.Places.{receiverLength, definitionsLength, variablesLength, scopePlace, planPlace, runPlace, stateLength};
 use crate::places::DIVIDER;
 use crate::places::FULL;
@@ -95,10 +95,10 @@ pub fn put_run(block: &mut [u8], run: runs::Run)
     put_long(block, VALUE, run.value);
 }
 
-// One of the instruments: the other stays as it is there.
+// One of the instruments: the others stay as they are there.
 pub fn put_recorder(block: &mut [u8], recorder: recorder::Recorder)
     requires { ⌜ stateLength ≤ length (now block) ⌝ }
-    ensures { λ _. ⌜ now (block .exit) ≡ sets (now (block .entry)) scopePlace (encodedInstruments (record { scope = decodedScope (now (block .entry)); recorder = recorder })) ⌝ }
+    ensures { λ _. ⌜ now (block .exit) ≡ sets (now (block .entry)) scopePlace (encodedInstruments (record { scope = decodedScope (now (block .entry)); recorder = recorder; application = decodedApplication (now (block .entry)) })) ⌝ }
 {
     let plan = recorder.plan;
     let v = plan.variables;
@@ -111,7 +111,7 @@ pub fn put_recorder(block: &mut [u8], recorder: recorder::Recorder)
 
 pub fn put_scope(block: &mut [u8], scope: scope::Scope)
     requires { ⌜ stateLength ≤ length (now block) ⌝ }
-    ensures { λ _. ⌜ now (block .exit) ≡ sets (now (block .entry)) scopePlace (encodedInstruments (record { scope = scope; recorder = decodedRecorder (now (block .entry)) })) ⌝ }
+    ensures { λ _. ⌜ now (block .exit) ≡ sets (now (block .entry)) scopePlace (encodedInstruments (record { scope = scope; recorder = decodedRecorder (now (block .entry)); application = decodedApplication (now (block .entry)) })) ⌝ }
 {
     let v = scope.variables;
     put_variables(block, SCOPE, v);

@@ -9,17 +9,24 @@ ghost use Rattle.plans.specs.Bounds as plans;
 ghost use Rattle.runs.specs.Bounds.{runSound};
 ghost use Rattle.recorder.specs.Bounds as recorder;
 ghost use Rattle.state.specs.Bounds as state;
-ghost use Rattle.blocks.specs.Layout.{decoded, decodedScope, decodedPlan, decodedRun, decodedRecorder};
+ghost use Rattle.application.specs.State as application;
+ghost use Rattle.blocks.specs.Layout.{decoded, decodedScope, decodedPlan, decodedRun, decodedRecorder, decodedApplication};
 ghost use Rattle.blocks.specs.Places.{definitionsLength, triggerSizePlace, stateLength};
 ghost use Rattle.bounds.specs.Measured.{measured};
+use application::ENDED;
+use application::MOST_RESULT;
+use application::WAITING;
 use block_fields::long_at;
 use block_fields::word_at;
+use blocks::APPLICATION;
+use blocks::COUNT;
 use blocks::DIVIDER;
 use blocks::MODE;
 use blocks::POST_TRIGGER;
 use blocks::READY;
 use blocks::RECORDED;
 use blocks::RECORDED_DEFINITIONS;
+use blocks::RESULT;
 use blocks::SAMPLES;
 use blocks::SCOPE;
 use blocks::SCOPE_DEFINITIONS;
@@ -29,6 +36,7 @@ use blocks::TRIGGER_ADDRESS;
 use blocks::TRIGGER_SIZE;
 use blocks::receiver_in;
 use blocks::run_in;
+use codes::MOST_DATA_BYTE;
 use memory::BUFFER_SIZE;
 use memory::MEMORY_END;
 use memory::RECORDED_END;
@@ -165,6 +173,22 @@ fn is_recorder_sound(block: &[u8]) -> bool
     is_run_sound(block)
 }
 
+// What a phase does not look at may be anything.
+fn is_application_sound(block: &[u8]) -> bool
+    requires { ⌜ stateLength ≤ length (now block) ⌝ }
+    ensures { λ r. ⌜ r ≡ application.sound (decodedApplication (now (block .entry))) ⌝ }
+{
+    let phase = block[APPLICATION];
+    if phase == WAITING {
+        let count = block[COUNT];
+        return count != 0 && count <= MOST_DATA_BYTE;
+    }
+    if phase == ENDED {
+        return block[RESULT] <= MOST_RESULT;
+    }
+    phase <= ENDED
+}
+
 // Whether every part of the state is within its bounds.
 pub fn is_sound(block: &[u8]) -> bool
     requires { ⌜ stateLength ≤ length (now block) ⌝ }
@@ -177,5 +201,8 @@ pub fn is_sound(block: &[u8]) -> bool
     if !is_scope_sound(block) {
         return false;
     }
-    is_recorder_sound(block)
+    if !is_recorder_sound(block) {
+        return false;
+    }
+    is_application_sound(block)
 }

@@ -8,9 +8,11 @@ use lib.ListN.{length}
 use lib.Seq.{sets}
 use Rattle.document.specs.Numbers.{taken, stateRefused}
 use Rattle.document.specs.Calls.{byteRefusal, tickRefusal}
+use Rattle.document.specs.Application.{collectRefusal, reportRefusal}
+use Rattle.application.specs.State.{applicationOf}
 use Rattle.state.specs.Bounds.{sound, fresh}
 use Rattle.blocks.specs.Places.{stateLength}
-use Rattle.blocks.specs.Layout.{decoded, encoded}
+use Rattle.blocks.specs.Layout.{decodedApplication, decoded, encoded}
 
 -- "1 a state outside the bounds listed in docs/": every block is a state, but one that is too short
 abbrev pub blockSound : List ℕ → Bool
@@ -24,9 +26,15 @@ pub record ResetDone (block : List ℕ) (r : ℕ) (after : List ℕ) : Type 0 wh
 pub record Checked (block : List ℕ) (r : ℕ) : Type 0 where
   pub result : r ≡ cond (blockSound block) taken stateRefused
 
--- the numbers of a byte and of a tick
+-- the numbers of the calls
 abbrev pub byteNumber : List ℕ → List ℕ → List ℕ → ℕ
 byteNumber block memory buffer = byteRefusal (blockSound block) memory buffer
 
 abbrev pub tickNumber : List ℕ → List ℕ → ℕ
 tickNumber block memory = tickRefusal (blockSound block) memory
+
+abbrev pub collectNumber : List ℕ → List ℕ → ℕ
+collectNumber block buffer = collectRefusal (blockSound block) buffer
+
+abbrev pub reportNumber : List ℕ → ℕ → ℕ
+reportNumber block result = reportRefusal (blockSound block) (applicationOf (decodedApplication block)) result

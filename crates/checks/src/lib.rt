@@ -1,10 +1,14 @@
-// A state begun, and looked at: reset, check, and the numbers with which a byte and a tick refuse.
+// A state begun, and looked at: reset, check, and the numbers with which the calls that take a state refuse.
 ghost use mathlib.Core.Path.{_≡_};
 ghost use Rattle.document.specs.Calls.{byteRefusal, tickRefusal};
-ghost use Rattle.checks.specs.Promises.{blockSound, ResetDone, Checked};
+ghost use Rattle.checks.specs.Promises.{blockSound, ResetDone, Checked, collectNumber, reportNumber};
+use application::MOST_RESULT;
+use applying::is_collected;
 use blocks::STATE_LENGTH;
 use codes::ANSWER_ROOM;
 use codes::MEMORY_REFUSED;
+use codes::MOST_DATA;
+use codes::RESULT_REFUSED;
 use codes::ROOM_REFUSED;
 use codes::STATE_REFUSED;
 use codes::TAKEN;
@@ -60,6 +64,33 @@ pub fn byte_refusal(state: &[u8], memory: &[u8], answer: &[u8]) -> u8
     }
     if answer.len() < ANSWER_ROOM {
         return ROOM_REFUSED;
+    }
+    TAKEN
+}
+
+pub fn collect_refusal(state: &[u8], out: &[u8]) -> u8
+    ensures { λ r. ⌜ r ≡ collectNumber (now (state .entry)) (now (out .entry)) ⌝ }
+{
+    if !is_sound(state) {
+        return STATE_REFUSED;
+    }
+    if out.len() < MOST_DATA {
+        return ROOM_REFUSED;
+    }
+    TAKEN
+}
+
+pub fn report_refusal(state: &[u8], result: u8) -> u8
+    ensures { λ r. ⌜ r ≡ reportNumber (now (state .entry)) result ⌝ }
+{
+    if !is_sound(state) {
+        return STATE_REFUSED;
+    }
+    if result > MOST_RESULT {
+        return RESULT_REFUSED;
+    }
+    if !is_collected(state) {
+        return RESULT_REFUSED;
     }
     TAKEN
 }

@@ -3,7 +3,7 @@ use mathlib.Core.List.{List, [], _∷_}
 use Prim.Native.Nat.{ℕ}
 use lib.ListN.{getD}
 use Rattle.document.specs.declared.Operation.{Operation}
-use Rattle.document.specs.declared.Operation.the-variants.{Unserved, Describe, DescribeBriefly, Read, Write, WriteMasked, SetUpScope, ReadScope, SetUpRecorder, Start, Stop, Status, QueryBuffer}
+use Rattle.document.specs.declared.Operation.the-variants.{Unserved, Describe, DescribeBriefly, Read, Write, WriteMasked, SetUpScope, ReadScope, SetUpRecorder, Start, Stop, Status, QueryBuffer, SendCommand, CommandResult}
 
 -- what is not served has no number, and 0 stands in its place
 abbrev pub numberOf : Operation → ℕ
@@ -20,6 +20,8 @@ numberOf Start = 8
 numberOf Stop = 9
 numberOf Status = 10
 numberOf QueryBuffer = 11
+numberOf SendCommand = 12
+numberOf CommandResult = 13
 
 abbrev pub operations : List Operation
 operations =
@@ -35,6 +37,8 @@ operations =
     ∷ Stop
     ∷ Status
     ∷ QueryBuffer
+    ∷ SendCommand
+    ∷ CommandResult
     ∷ []
 
 abbrev pub operationNumbered : ℕ → Operation

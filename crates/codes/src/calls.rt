@@ -13,3 +13,5 @@ pub const FORM_REFUSED: u8 = 4;
 pub const EXPECTED_REFUSED: u8 = 5;
 
 pub const SUM_REFUSED: u8 = 6;
+
+pub const RESULT_REFUSED: u8 = 7;

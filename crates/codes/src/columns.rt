@@ -25,6 +25,10 @@ pub const STATUS: u16 = 10;
 
 pub const QUERY_BUFFER: u16 = 11;
 
+pub const SEND_COMMAND: u16 = 12;
+
+pub const COMMAND_RESULT: u16 = 13;
+
 // ---- the command's own size
 pub const SIZE: u16 = 64;
 

@@ -11,6 +11,7 @@ mod table;
 pub use calls::EXPECTED_REFUSED;
 pub use calls::FORM_REFUSED;
 pub use calls::MEMORY_REFUSED;
+pub use calls::RESULT_REFUSED;
 pub use calls::ROOM_REFUSED;
 pub use calls::STATE_REFUSED;
 pub use calls::SUM_REFUSED;

@@ -3,6 +3,7 @@ ghost use mathlib.Core.Path.{_≡_};
 ghost use Prim.Native.Nat.{_%_};
 ghost use Rattle.codes.specs.Numbering.{operationNumbered};
 ghost use Rattle.codes.specs.Table.{lengthIn, serviceIn};
+use crate::columns::COMMAND_RESULT;
 use crate::columns::DESCRIBE;
 use crate::columns::DESCRIBE_BRIEFLY;
 use crate::columns::EX;
@@ -11,6 +12,7 @@ use crate::columns::LENGTH;
 use crate::columns::QUERY_BUFFER;
 use crate::columns::READ;
 use crate::columns::READ_SCOPE;
+use crate::columns::SEND_COMMAND;
 use crate::columns::SET_UP_RECORDER;
 use crate::columns::SET_UP_SCOPE;
 use crate::columns::SIZE;
@@ -55,6 +57,8 @@ fn operation_in(entry: u16) -> Operation
         STOP => Operation::Stop,
         STATUS => Operation::Status,
         QUERY_BUFFER => Operation::QueryBuffer,
+        SEND_COMMAND => Operation::SendCommand,
+        COMMAND_RESULT => Operation::CommandResult,
         _ => Operation::Unserved,
     }
 }

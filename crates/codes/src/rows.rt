@@ -1,6 +1,7 @@
 // The rows of the table of commands: a number for each, and what stands in it, column by column.
 ghost use mathlib.Core.Path.{_≡_};
 ghost use Rattle.codes.specs.Rows.{rowAt};
+use crate::columns::COMMAND_RESULT;
 use crate::columns::DATA_0;
 use crate::columns::DATA_2;
 use crate::columns::DATA_4;
@@ -12,6 +13,7 @@ use crate::columns::FAST;
 use crate::columns::QUERY_BUFFER;
 use crate::columns::READ;
 use crate::columns::READ_SCOPE;
+use crate::columns::SEND_COMMAND;
 use crate::columns::SET_UP_RECORDER;
 use crate::columns::SET_UP_SCOPE;
 use crate::columns::SIZE_1;
@@ -85,16 +87,20 @@ pub const BUFFER_QUERY: u8 = 27;
 
 pub const BUFFER_QUERY_EX: u8 = 28;
 
+pub const COMMAND: u8 = 29;
+
+pub const RESULT: u8 = 30;
+
 // ---- those not served: with so many data bytes, or, the last, with as many as the next literal tells
-pub const NONE_0: u8 = 29;
+pub const NONE_0: u8 = 31;
 
-pub const NONE_2: u8 = 30;
+pub const NONE_2: u8 = 32;
 
-pub const NONE_4: u8 = 31;
+pub const NONE_4: u8 = 33;
 
-pub const NONE_6: u8 = 32;
+pub const NONE_6: u8 = 34;
 
-pub const NONE: u8 = 33;
+pub const NONE: u8 = 35;
 
 // A match becomes a table in read-only memory, which no call has to build. The last arm is that of NONE.
 pub fn row(number: u8) -> u16
@@ -130,6 +136,8 @@ pub fn row(number: u8) -> u16
         RECORDER_STATUS => FAST | DATA_0 | STATUS,
         BUFFER_QUERY => FAST | DATA_0 | QUERY_BUFFER,
         BUFFER_QUERY_EX => FAST | DATA_0 | QUERY_BUFFER | EX,
+        COMMAND => STANDARD | TOLD | SEND_COMMAND,
+        RESULT => FAST | DATA_0 | COMMAND_RESULT,
         NONE_0 => UNSERVED | DATA_0,
         NONE_2 => UNSERVED | DATA_2,
         NONE_4 => UNSERVED | DATA_4,

@@ -10,6 +10,7 @@ use crate::reading::service_in;
 use crate::rows::BRIEF_DESCRIPTION;
 use crate::rows::BUFFER_QUERY;
 use crate::rows::BUFFER_QUERY_EX;
+use crate::rows::COMMAND;
 use crate::rows::DESCRIPTION;
 use crate::rows::NONE;
 use crate::rows::NONE_0;
@@ -29,6 +30,7 @@ use crate::rows::RECORDER_SETUP_EX;
 use crate::rows::RECORDER_START;
 use crate::rows::RECORDER_STATUS;
 use crate::rows::RECORDER_STOP;
+use crate::rows::RESULT;
 use crate::rows::SCOPE_READ;
 use crate::rows::SCOPE_SETUP;
 use crate::rows::SCOPE_SETUP_EX;
@@ -62,7 +64,7 @@ const COMMANDS: [u8; 256] = [
     NONE, // 0x0D
     NONE, // 0x0E
     NONE, // 0x0F
-    NONE, // 0x10
+    COMMAND, // 0x10
     NONE, // 0x11
     NONE, // 0x12
     NONE, // 0x13
@@ -244,7 +246,7 @@ const COMMANDS: [u8; 256] = [
     RECORDER_STATUS, // 0xC3
     BUFFER_QUERY, // 0xC4
     SCOPE_READ, // 0xC5
-    NONE_0, // 0xC6
+    RESULT, // 0xC6
     NONE_0, // 0xC7
     BRIEF_DESCRIPTION, // 0xC8
     BUFFER_QUERY_EX, // 0xC9

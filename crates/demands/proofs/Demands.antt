@@ -1,16 +1,17 @@
 -- The three demands and the recorder's history, proved of the calls that are linked into the gate.
 --
 -- A run is any list of things that happen since reset: a byte comes over the port and `log_gate_byte` is called, the gate ticks and
--- `log_gate_tick` is called, or the gate's own program writes its memory; and refused calls anywhere among them. Of a call only its
--- promise is known (`byte_call.Promises.ByteTaken`, `tick_call.Promises.TickTaken`), and that promise is the contract that the prover
--- holds the compiled function to. What the calls are compared with is document 01 as definitions (`document`), never a program.
+-- `log_gate_tick` is called, the gate's own program writes its memory, or it calls `log_gate_collect` and `log_gate_report`; and refused
+-- calls anywhere among them. Of a call only its promise is known (`byte_call.Promises.ByteTaken`, `tick_call.Promises.TickTaken`,
+-- `application_calls.Promises.CollectDone` and `ReportDone`), and that promise is the contract that the prover holds the compiled
+-- function to. What the calls are compared with is document 01 and the requests as definitions (`document`), never a program.
 use mathlib.Core.Path.{_≡_, refl, sym, ap, subst, _∙_}
 use mathlib.Core.Bool.{true, false}
 use mathlib.Core.List.{List, [], _∷_, _++_}
 use Prim.Native.Nat.{ℕ, suc, _*_, _<_, _≤_}
 use lib.Dec.{ltb}
 use lib.ListN.{length, drop}
-use Rattle.document.specs.Numbers.{mostData, answerRoom, taken, sumWrong}
+use Rattle.document.specs.Numbers.{mostData, answerRoom, taken, done, busy, sumWrong}
 use Rattle.document.specs.Message.{Message, sumRight, wellFormed, onWire, finishedBy}
 use Rattle.document.specs.Answer.{Answer}
 use Rattle.document.specs.AnswerWriter.{answerRefusal}
@@ -19,9 +20,11 @@ use Rattle.document.specs.Plan.{Plan}
 use Rattle.document.specs.Run.{Run as DocumentRun, started}
 use Rattle.document.specs.Recorder.Recorder.{planned}
 use Rattle.document.specs.Sets.{setsTaken}
+use Rattle.document.specs.Application.{isPending}
+use Rattle.document.specs.Application.Application.{waiting}
 use Rattle.document.specs.Gate.{Gate, says, fresh as gate}
 use Rattle.document.specs.Commands.{answered}
-use Rattle.document.specs.Asides.Aside.{tick}
+use Rattle.document.specs.Asides.Aside.{tick, collects, reports}
 use Rattle.document.specs.Happenings.{Happening, Since, after as happened, afterAll, fromReset as since}
 use Rattle.document.specs.Happenings.Happening.{byte, aside}
 use Rattle.history.specs.History.{memoriesLeft, TriggersNext, Unstopped}
@@ -40,7 +43,10 @@ use Rattle.state.specs.Within.{MemoryWithin}
 use Rattle.blocks.specs.Places.{stateLength}
 use Rattle.blocks.specs.Layout.{decoded}
 use Rattle.checks.specs.Promises.{ResetDone, Checked}
+use Rattle.happenings.specs.Applying.{sends, sentOf, waitingIn, unrefusedSoFar, AllUnreported}
+use Rattle.happenings.proofs.Applying.{while-pending, between, handed-out-from-reset}
 use Rattle.tick_call.specs.Promises.{TickTaken}
+use Rattle.application_calls.specs.Promises.{CollectDone, ReportDone}
 use Rattle.target.specs.Turn.{Turn, turn}
 use Rattle.byte_call.specs.declared.Taken.{Taken}
 use Rattle.byte_call.specs.Promises.{ByteTaken}
@@ -49,7 +55,7 @@ use Rattle.reader.specs.Promises.{BeginDone, ReadDone}
 use Rattle.demands.specs.House.{House, gateIn}
 use Rattle.demands.specs.Lent.{lends}
 use Rattle.demands.specs.Run.{ByByte, Step, Refused, Run, Ready}
-use Rattle.demands.specs.Refused.{ResetRefused, CheckRefused, ByteRefused, TickRefused, WriteRefused, BeginRefused, ReadRefused, WireRefused}
+use Rattle.demands.specs.Refused.{ResetRefused, CheckRefused, ByteRefused, TickRefused, CollectRefused, ReportRefused, WriteRefused, BeginRefused, ReadRefused, WireRefused}
 use Rattle.demands.specs.Sent.{Sent}
 use Rattle.demands.specs.Stands.{blank, Stands}
 use Rattle.demands.specs.Fresh.{AnsweredFresh, NothingByHalf}
@@ -60,9 +66,11 @@ use Rattle.demands.proofs.Refused as calls
 use Rattle.demands.proofs.EndsRefused as both-ends
 use Rattle.demands.proofs.Served.{refused-kept, ready, room-lent, told-byte}
 use Rattle.demands.proofs.Turns.{turn-stands}
-use Rattle.demands.proofs.Runs.{Reached, reached-reset, reached-step, reached-run, bytes-on, plan-fits}
+use Rattle.demands.proofs.Runs.{Reached, reached-reset, reached-step, reached-run, bytes-on, plan-fits, collect-only, report-only}
 use Rattle.demands.proofs.Fresh.{answered-fresh, by-half}
 use Rattle.demands.proofs.Recorded.{recorded}
+use Rattle.demands.specs.Applying.{OnlyCommand, OnlySaid}
+use Rattle.demands.proofs.Applying.{run-hands, only-said, sent-waits}
 use Rattle.demands.proofs.Recorder.{start-begun, tick-touches, run-stops}
 use Rattle.demands.proofs.Readings as readings
 
@@ -85,6 +93,13 @@ demand-1-byte = calls.byte-refused
 pub demand-1-tick : (block memory : List ℕ) (r : ℕ) (after left : List ℕ) → TickTaken block memory r after left → TickRefused block memory r after left
 demand-1-tick = calls.tick-refused
 
+pub demand-1-collect : (block buffer : List ℕ) (r : Written) (after told : List ℕ) → CollectDone block buffer r after told
+    → CollectRefused block buffer r after told
+demand-1-collect = calls.collect-refused
+
+pub demand-1-report : (block : List ℕ) (reported r : ℕ) (after : List ℕ) → ReportDone block reported r after → ReportRefused block reported r after
+demand-1-report = calls.report-refused
+
 -- both ends of the line: the answer writer, the command writer, the answer reader
 pub demand-1-answer : (a : Answer) (before : List ℕ) (r : Written) (after : List ℕ) → AnswerWritten a before r after
     → WriteRefused (answerRefusal a before) before r after
@@ -105,21 +120,21 @@ demand-1-read = both-ends.read-refused
 pub demand-1-wire : (g : Gate) (m : Message) → WireRefused g m
 demand-1-wire = calls.wire-refused
 
--- a refused call along a run consumes nothing: block, memory and answers are as before
+-- a refused call along a run consumes nothing: block, memory, answers and commands are as before
 pub demand-1-refused : (h next : House) → Refused h next → next ≡ h
 demand-1-refused = refused-kept
 
 -- ---- what happens since reset: `first` has happened, and h is the house then
 
 module _ (block memory : List ℕ) (r : ℕ) (after : List ℕ) (long : stateLength ≤ length block) (lent : MemoryWithin memory) (reset : ResetDone block r after)
-    (first : List Happening) (h : House) (are : AreBytes first) (run : Run (record { block = after; memory = memory; answers = [] }) first h) where
+    (first : List Happening) (h : House) (are : AreBytes first) (run : Run (record { block = after; memory = memory; answers = []; commands = [] }) first h) where
   -- what the definition has then
   abbrev reached : Since
   reached = afterAll (since (gate memory)) first
 
   there : Reached h (afterAll (since (gate memory)) first)
   there =
-      reached-run (record { block = after; memory = memory; answers = [] }) h first run (since (gate memory)) are
+      reached-run (record { block = after; memory = memory; answers = []; commands = [] }) h first run (since (gate memory)) are
       (reached-reset block memory r after long lent reset)
 
   reached-bytes : reached .bytes ≡ bytesOf first
@@ -144,14 +159,14 @@ module _ (block memory : List ℕ) (r : ℕ) (after : List ℕ) (long : stateLen
       }
 
   -- ---- Demand 2: "Messages, commands and recorder do exactly what AN2471/D and the MCBCOM manual define, as document 01
-  -- sets them out.": after any run the answers, the memory, the scope and the recorder are the definition's
+  -- sets them out.": after any run the answers, the memory, the scope, the recorder and the application are the definition's
 
   pub demand-2 : Stands h (afterAll (since (gate memory)) first)
   demand-2 = there .stands
 
   -- ---- Demand 3: "After any bytes since reset, with an even (or no) run of 0x2B just before, a start byte and a well-formed
   -- stuffed message get exactly the answer, and leave the memory, scope and recorder, that a freshly reset link would give over
-  -- these as they stand at the last byte."
+  -- these as they stand at the last byte." The application is compared with them (2026-01).
 
   module _ (hs : List Happening) (before : House) (b : ℕ) (last : House) (m : Message) (more : AreBytes hs) (small : b < 256) (formed : wellFormed m ≡ true) where
     -- `hs` brings the start byte and the message but for its last byte `b`, and whatever happens beside the bytes; before `b` the
@@ -228,6 +243,51 @@ module _ (block memory : List ℕ) (r : ℕ) (after : List ℕ) (long : stateLen
       let link = end .stands .link-part ∙ ap (λ (bs : List ℕ). sinceReset blank bs) (told-bytes (finishedBy (reached .bytes) b) _) in
       subst (λ (q : Beside). Idle (q .receiver)) (sym link)
       (finished-idle blank refl (reached .bytes) b m more (ap (λ (l : List ℕ). finishedBy l b) reached-bytes ∙ finished))
+
+  -- ---- application commands (2026-01)
+
+  -- "the gate's program collects it once": what was handed out, and behind it what waits, are the commands that were sent, in their
+  -- order and each as it stood in its message
+  pub commands-once : h .commands ++ waitingIn (gateIn h .application) ≡ sentOf (since (gate memory)) first
+  commands-once =
+      (λ j. run-hands _ h first run (since (gate memory)) are (reached-reset block memory r after long lent reset) j ++ waitingIn (there .stands .gate j .application))
+      ∙ sym (handed-out-from-reset first memory)
+
+  -- a collection and a report touch nothing but this state
+  pub collect-touches : (next : House) → Step h (aside collects) next → OnlyCommand h next
+  collect-touches next step = collect-only h reached there next step
+
+  pub report-touches : (reported : ℕ) (next : House) → Step h (aside (reports reported)) next → OnlyCommand h next
+  report-touches reported next step = report-only h reached there reported next step
+
+  -- the byte that finishes a message: an accepted 0x10 is pending
+  module _ (b : ℕ) (last : House) (small : b < 256) (step : Step h (byte b) last) (m : Message) (more : List Message)
+      (finished : finishedBy (bytesOf first) b ≡ m ∷ more) where
+    finished-there : finishedBy (reached .bytes) b ≡ m ∷ more
+    finished-there = ap (λ (l : List ℕ). finishedBy l b) reached-bytes ∙ finished
+
+    end-stands : Stands last (happened reached (byte b))
+    end-stands = reached-step h reached there (byte b) last small step .stands
+
+    pub command-sent : sends (gateIn h) m ≡ true → gateIn last .application ≡ waiting (m .body)
+    command-sent = sent-waits h last reached (there .stands) b end-stands m more finished-there
+
+    -- "0x10 while one is pending 0x87", "0xFE until the result is in"
+    module _ (pending : isPending (gateIn h .application) ≡ true) (so-far : unrefusedSoFar m ≡ true) where
+      pub command-busy : m .command ≡ 0x10 → OnlySaid (record { status = busy; body = [] }) h last
+      command-busy is =
+          only-said h last reached (there .stands) b end-stands m more finished-there busy [] (while-pending (gateIn h) pending .sent m is so-far)
+
+      pub result-awaited : m .command ≡ 0xC6 → OnlySaid (record { status = done; body = 0xFE ∷ [] }) h last
+      result-awaited is =
+          only-said h last reached (there .stands) b end-stands m more finished-there done (0xFE ∷ []) (while-pending (gateIn h) pending .asked m is so-far)
+
+  -- and it is pending until its result is reported
+  pub command-pending : (hs : List Happening) (last : House) → AreBytes hs → Run h hs last → AllUnreported (afterAll (since (gate memory)) first) hs
+      → isPending (gateIn h .application) ≡ true → isPending (gateIn last .application) ≡ true
+  command-pending hs last more on quiet pending =
+      ap (λ (g : Gate). isPending (g .application)) (reached-run h last hs on reached more there .stands .gate)
+      ∙ between hs reached (ap (λ (g : Gate). isPending (g .application)) (sym (there .stands .gate)) ∙ pending) quiet
 
 -- ".. with a right sum ..": of a message whose sum is wrong the definition carries nothing out, it says 0x82 and leaves the gate
 pub demand-3-sum : (g : Gate) (m : Message) → sumRight m ≡ false → answered g m ≡ says g sumWrong []

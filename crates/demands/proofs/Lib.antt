@@ -10,5 +10,6 @@ pub mod Runs
 pub mod Fresh
 pub mod Recorded
 pub mod Recorder
+pub mod Applying
 pub mod Readings
 pub mod Demands

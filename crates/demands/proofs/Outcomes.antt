@@ -8,6 +8,7 @@ use Rattle.line.specs.AnswerWritten.{AnswerWritten}
 use Rattle.commands.specs.CommandWritten.{CommandWritten}
 use Rattle.checks.specs.Promises.{ResetDone, Checked}
 use Rattle.tick_call.specs.Promises.{TickTaken}
+use Rattle.application_calls.specs.Promises.{CollectDone, ReportDone}
 use Rattle.byte_call.specs.declared.Taken.{Taken}
 use Rattle.byte_call.specs.Promises.{ByteTaken}
 use Rattle.reader.specs.declared.calls.ReadByte.{ReadByte}
@@ -23,6 +24,9 @@ module _ (block : List ℕ) (r s : ℕ) (x y : List ℕ) where
   pub tick-one-outcome : (memory m n : List ℕ) → TickTaken block memory r x m → TickTaken block memory s y n → (r ≡ s) × (x ≡ y) × (m ≡ n)
   tick-one-outcome memory m n p q = (p .result ∙ sym (q .result), p .state ∙ sym (q .state), p .memory-left ∙ sym (q .memory-left))
 
+  pub report-one-outcome : (reported : ℕ) → ReportDone block reported r x → ReportDone block reported s y → (r ≡ s) × (x ≡ y)
+  report-one-outcome reported p q = (p .number ∙ sym (q .number), p .state ∙ sym (q .state))
+
   pub begin-one-outcome : (expected : ℕ) → BeginDone block expected r x → BeginDone block expected s y → (r ≡ s) × (x ≡ y)
   begin-one-outcome expected p q = (p .result ∙ sym (q .result), p .reader ∙ sym (q .reader))
 
@@ -31,6 +35,10 @@ module _ (block : List ℕ) (b : ℕ) (memory buffer : List ℕ) (r s : Taken) (
       → (r ≡ s) × (x ≡ y) × (m ≡ n) × (c ≡ d)
   byte-one-outcome p q =
       (p .result ∙ sym (q .result), p .state ∙ sym (q .state), p .memory-left ∙ sym (q .memory-left), p .buffer-told ∙ sym (q .buffer-told))
+
+module _ (block buffer : List ℕ) (r s : Written) (x y c d : List ℕ) where
+  pub collect-one-outcome : CollectDone block buffer r x c → CollectDone block buffer s y d → (r ≡ s) × (x ≡ y) × (c ≡ d)
+  collect-one-outcome p q = (p .result ∙ sym (q .result), p .state ∙ sym (q .state), p .buffer-told ∙ sym (q .buffer-told))
 
 module _ (block : List ℕ) (b : ℕ) (buffer : List ℕ) (r s : ReadByte) (x y c d : List ℕ) where
   pub read-one-outcome : ReadDone block b buffer r x c → ReadDone block b buffer s y d → (r ≡ s) × (x ≡ y) × (c ≡ d)

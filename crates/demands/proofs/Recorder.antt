@@ -54,6 +54,7 @@ module _ (h last : House) (s : Since) (now : Stands h s) where
           before = ap (take place) memory ∙ tick-before p r (h .memory);
           behind = ap (drop (place + setSize (p .variables))) memory ∙ tick-behind p r (h .memory) fits size;
           scope = ap (λ (g : Gate). g .scope) same;
+          application = ap (λ (g : Gate). g .application) same;
           answers = end .answers ∙ sym (now .answers);
         }
 

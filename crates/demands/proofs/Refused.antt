@@ -11,6 +11,9 @@ use lib.Seq.{sets}
 use Rattle.document.specs.Numbers.{taken, stateRefused, done, sumWrong, isError}
 use Rattle.document.specs.Message.{Message, sumRight}
 use Rattle.document.specs.Recorder.{tickedMemory}
+use Rattle.document.specs.Application.{Application, newCommand, collectBuffer}
+use Rattle.line.specs.declared.Written.{Written}
+use Rattle.application.specs.State.{applicationOf}
 use Rattle.document.specs.Gate.{Gate, Outcome, says}
 use Rattle.document.specs.Refusals.{refusal}
 use Rattle.document.specs.Commands.{answered}
@@ -19,13 +22,14 @@ use Rattle.outcomes.proofs.Answered.{accepted-right}
 use Rattle.recorder.specs.State.{recorderOf}
 use Rattle.state.specs.Bounds.{fresh}
 use Rattle.blocks.specs.Places.{stateLength}
-use Rattle.blocks.specs.Layout.{decoded, encoded}
-use Rattle.checks.specs.Promises.{ResetDone, Checked, byteNumber, tickNumber}
+use Rattle.blocks.specs.Layout.{decodedApplication, decoded, encoded}
+use Rattle.checks.specs.Promises.{ResetDone, Checked, byteNumber, tickNumber, collectNumber, reportNumber}
 use Rattle.target.specs.Turn.{Turn, turn}
 use Rattle.tick_call.specs.Promises.{tickedTarget, TickTaken}
+use Rattle.application_calls.specs.Promises.{collectedTarget, reportedTarget, CollectDone, ReportDone}
 use Rattle.byte_call.specs.declared.Taken.{Taken}
 use Rattle.byte_call.specs.Promises.{ByteTaken}
-use Rattle.demands.specs.Refused.{ResetRefused, CheckRefused, ByteRefused, TickRefused, WireRefused}
+use Rattle.demands.specs.Refused.{ResetRefused, CheckRefused, ByteRefused, TickRefused, CollectRefused, ReportRefused, WireRefused}
 use Rattle.demands.proofs.Goes.{stays}
 
 -- ---- calls
@@ -81,6 +85,34 @@ module _ (block memory : List ℕ) (r : ℕ) (after left : List ℕ) (promised :
               stays n after (sets block 0 (encoded (tickedTarget (decoded block) memory))) block no (promised .state),
               stays n left (tickedMemory (recorderOf (decoded block .instruments .recorder)) memory) memory no (promised .memory-left),
             );
+      }
+
+module _ (block buffer : List ℕ) (r : Written) (after told : List ℕ) (promised : CollectDone block buffer r after told) where
+  pub collect-refused : CollectRefused block buffer r after told
+  collect-refused =
+      let a : Application = applicationOf (decodedApplication block) in
+      let n : ℕ = collectNumber block buffer in
+      let given : Written = record { refusal = taken; length = length (newCommand a) } in
+      let kept : Written = record { refusal = n; length = 0 } in
+      let number : r .refusal ≡ n = numbered (λ (x : Written). x .refusal) n r given kept refl refl (promised .result) in
+      record {
+        number = number;
+        unchanged = λ other.
+            let no : n ≡ taken → ⊥ = λ e. other (number ∙ e) in (
+              ap (λ (x : Written). x .length) (stays n r given kept no (promised .result)),
+              stays n after (sets block 0 (encoded (collectedTarget (decoded block)))) block no (promised .state),
+              stays n told (collectBuffer a buffer) buffer no (promised .buffer-told),
+            );
+      }
+
+module _ (block : List ℕ) (reported r : ℕ) (after : List ℕ) (promised : ReportDone block reported r after) where
+  pub report-refused : ReportRefused block reported r after
+  report-refused =
+      let n : ℕ = reportNumber block reported in
+      record {
+        number = promised .number;
+        unchanged = λ other.
+            stays n after (sets block 0 (encoded (reportedTarget reported (decoded block)))) block (λ e. other (promised .number ∙ e)) (promised .state);
       }
 
 -- ---- the wire

@@ -1,5 +1,6 @@
 -- What a run since reset comes to: a house within its bounds, standing for document 01.
 use mathlib.Core.Path.{_≡_, refl, sym, ap, subst, _∙_}
+use mathlib.Core.Bool.{true}
 use mathlib.Core.List.{List, [], _∷_, _++_, map, map-append, append-nil}
 use Prim.Native.Nat.{ℕ, _<_, _≤_}
 use native.Mathlib.Omega.{arith}
@@ -16,9 +17,10 @@ use Rattle.document.specs.Plan.{Plan}
 use Rattle.document.specs.Run.{Run as DocumentRun}
 use Rattle.document.specs.Recorder.{Recorder, recorderAbsent, tickedMemory}
 use Rattle.document.specs.Recorder.Recorder.{absent, planned}
-use Rattle.document.specs.Gate.{Gate, fresh as gate, withMemory}
+use Rattle.document.specs.Application.{Application, afterCollect, afterReport, isCollected}
+use Rattle.document.specs.Gate.{Gate, fresh as gate, withMemory, withApplication}
 use Rattle.document.specs.Asides.{Aside, beside, tickedGate}
-use Rattle.document.specs.Asides.Aside.{tick, writes}
+use Rattle.document.specs.Asides.Aside.{tick, writes, collects, reports}
 use Rattle.document.specs.Happenings.{Happening, Since, told, after, afterAll, fromReset as since}
 use Rattle.document.specs.Happenings.Happening.{byte, aside}
 use Rattle.document.proofs.Cases.{split, neither}
@@ -29,12 +31,14 @@ use Rattle.plans.proofs.Granted.{sound-fits}
 use Rattle.recorder.specs.declared.state.Recorder.{Recorder as RecorderState}
 use Rattle.recorder.specs.State.{recorderOf}
 use Rattle.recorder.proofs.Keeps.{sound-parts}
+use Rattle.application.specs.State.{Command, applicationOf, collectedCommand, endedCommand}
+use Rattle.application.proofs.Means.{collected-means, ended-means}
 use Rattle.ticks.proofs.Ticked.{ticked-means}
 use Rattle.state.specs.State.{Target, gateOf}
 use Rattle.state.specs.Bounds.{fresh}
-use Rattle.state.specs.Within.{MemoryWithin, Within}
+use Rattle.state.specs.Within.{CommandWithin, MemoryWithin, Within}
 use Rattle.state.proofs.ByteLaws.{all-at, all-append}
-use Rattle.state.proofs.Keeps.{recorder-ticked, memory-stored, memory-ticked, within-fits, within-reset}
+use Rattle.state.proofs.Keeps.{recorder-ticked, command-collected, command-ended, memory-stored, memory-ticked, within-fits, within-reset}
 use Rattle.blocks.specs.Places.{stateLength}
 use Rattle.blocks.specs.Layout.{decoded, encoded}
 use Rattle.blocks.proofs.Back.{stored-decoded}
@@ -42,13 +46,15 @@ use Rattle.checks.specs.Promises.{ResetDone}
 use Rattle.target.specs.Turn.{Turn, turn}
 use Rattle.target.proofs.Keeps.{byte-keeps}
 use Rattle.tick_call.specs.Promises.{tickedTarget}
+use Rattle.application_calls.specs.Promises.{withCommand}
 use Rattle.happenings.specs.Bytes.{Bytes, bytesOf, BesideIsBytes, IsBytes, AreBytes}
 use Rattle.happenings.proofs.Resync.{told-bytes}
 use Rattle.demands.specs.House.{House, gateIn}
 use Rattle.demands.specs.Run.{Beside, Step, Run}
 use Rattle.demands.specs.Run.Run.{ends, happens, refuses}
 use Rattle.demands.specs.Stands.{blank, linkIn, Stands}
-use Rattle.demands.proofs.Served.{servedByte, servedTick, refused-kept, room-lent, step-byte, step-tick}
+use Rattle.demands.specs.Applying.{OnlyCommand}
+use Rattle.demands.proofs.Served.{servedByte, servedTick, servedCollect, servedReport, refused-kept, room-lent, step-byte, step-tick, step-collect, step-report, report-fits}
 use Rattle.demands.proofs.Turns.{answersTo, gateAfter, TurnStands, turn-stands}
 
 -- ---- what comes over the line is bytes
@@ -132,6 +138,7 @@ module _ (h : House) (s : Since) (r : Reached h s) where
         link-part = record { receiver = w .link-part .receiver; command = w .link-part .command; size = w .link-part .size; body = w .link-part .body };
         scope-part = w .scope-part;
         recorder-part = recorder-ticked (decoded (h .block) .instruments .recorder) (h .memory) (w .recorder-part) (w .memory-part);
+        application-part = w .application-part;
         memory-part = memory-ticked (recorderOf (decoded (h .block) .instruments .recorder)) (h .memory) (w .memory-part);
       } in
       let there : decoded (servedTick h .block) ≡ next = stored-decoded (h .block) next (r .long) (within-fits next left keeps) in
@@ -141,6 +148,7 @@ module _ (h : House) (s : Since) (r : Reached h s) where
         memory = left;
         scope = scopeOf (decoded (h .block) .instruments .scope);
         recorder = ticked-means (decoded (h .block) .instruments .recorder) (h .memory) j;
+        application = applicationOf (decoded (h .block) .instruments .application);
       } in
       record {
         long = still-long (h .block) next (r .long);
@@ -155,7 +163,7 @@ module _ (h : House) (s : Since) (r : Reached h s) where
       }
 
   pub reached-write : (address : ℕ) (bytes : List ℕ) → AllBytes bytes
-      → Reached (record { block = h .block; memory = stored (h .memory) address bytes; answers = h .answers }) (after s (aside (writes address bytes)))
+      → Reached (record { block = h .block; memory = stored (h .memory) address bytes; answers = h .answers; commands = h .commands }) (after s (aside (writes address bytes)))
   unfolding beside
   reached-write address bytes are =
       record {
@@ -165,6 +173,7 @@ module _ (h : House) (s : Since) (r : Reached h s) where
               link-part = r .within .link-part;
               scope-part = r .within .scope-part;
               recorder-part = r .within .recorder-part;
+              application-part = r .within .application-part;
               memory-part = memory-stored (h .memory) address bytes (r .within .memory-part) are;
             };
         stands =
@@ -176,12 +185,106 @@ module _ (h : House) (s : Since) (r : Reached h s) where
         bytes = r .bytes;
       }
 
+  -- another application command in the block
+  command-keeps : (c : Command) → CommandWithin c → Within (withCommand (decoded (h .block)) c) (h .memory)
+  command-keeps c within =
+      let w = r .within in
+      record {
+        link-part = record { receiver = w .link-part .receiver; command = w .link-part .command; size = w .link-part .size; body = w .link-part .body };
+        scope-part = w .scope-part;
+        recorder-part = w .recorder-part;
+        application-part = within;
+        memory-part = w .memory-part;
+      }
+
+  command-there : (c : Command) → CommandWithin c
+      → decoded (sets (h .block) 0 (encoded (withCommand (decoded (h .block)) c))) ≡ withCommand (decoded (h .block)) c
+  command-there c within =
+      let next : Target = withCommand (decoded (h .block)) c in
+      stored-decoded (h .block) next (r .long) (within-fits next (h .memory) (command-keeps c within))
+
+  -- it stands for what the gate has then
+  reached-command : (c : Command) (a : Aside) → CommandWithin c → (commands : List (List ℕ))
+      → beside (s .gate) a ≡ withApplication (s .gate) (applicationOf c)
+      → Reached (record { block = sets (h .block) 0 (encoded (withCommand (decoded (h .block)) c)); memory = h .memory; answers = h .answers; commands = commands }) (after s (aside a))
+  reached-command c a within commands becomes =
+      let next : Target = withCommand (decoded (h .block)) c in
+      let there : decoded (sets (h .block) 0 (encoded next)) ≡ next = command-there c within in
+      record {
+        long = still-long (h .block) next (r .long);
+        within = subst (λ (q : Target). Within q (h .memory)) (sym there) (command-keeps c within);
+        stands =
+            record {
+              gate =
+                  ap (λ (q : Target). gateOf (q .instruments) (h .memory)) there
+                  ∙ ap (λ (g : Gate). withApplication g (applicationOf c)) (r .stands .gate)
+                  ∙ sym becomes;
+              answers = r .stands .answers;
+              link-part = ap linkIn there ∙ r .stands .link-part;
+            };
+        bytes = r .bytes;
+      }
+
+  only-command : (c : Command) (next : House) (commands : List (List ℕ)) → CommandWithin c
+      → next ≡ record { block = sets (h .block) 0 (encoded (withCommand (decoded (h .block)) c)); memory = h .memory; answers = h .answers; commands = commands }
+      → OnlyCommand h next
+  only-command c next commands within is =
+      let there : decoded (next .block) ≡ withCommand (decoded (h .block)) c = ap (λ (q : House). decoded (q .block)) is ∙ command-there c within in
+      record {
+        link-part = ap linkIn there;
+        scope = ap (λ (t : Target). t .instruments .scope) there;
+        recorder = ap (λ (t : Target). t .instruments .recorder) there;
+        memory = ap (λ (q : House). q .memory) is;
+        answers = ap (λ (q : House). q .answers) is;
+      }
+
+  abbrev command : Command
+  command = decoded (h .block) .instruments .application
+
+  -- the application of the house is that of the gate
+  application-is : applicationOf (decoded (h .block) .instruments .application) ≡ s .gate .application
+  application-is = ap (λ (g : Gate). g .application) (r .stands .gate)
+
+  pub reached-collect : Reached (servedCollect h) (after s (aside collects))
+  unfolding beside
+  reached-collect =
+      reached-command (collectedCommand command) collects (command-collected command (r .within .application-part)) _
+      (ap (λ (a : Application). withApplication (s .gate) (afterCollect a)) (sym application-is)
+      ∙ ap (withApplication (s .gate)) (sym (collected-means command)))
+
+  pub reached-report : (reported : ℕ) → reported ≤ 0xFD → isCollected (applicationOf (decoded (h .block) .instruments .application)) ≡ true
+      → Reached (servedReport h reported) (after s (aside (reports reported)))
+  unfolding beside
+  reached-report reported small is =
+      reached-command (endedCommand reported command) (reports reported) (command-ended command reported (r .within .application-part) small) _
+      (ap (λ (a : Application). withApplication (s .gate) (afterReport reported a)) (sym application-is)
+      ∙ ap (withApplication (s .gate)) (sym (ended-means command reported is)))
+
+  -- a collection and a report touch nothing else
+  pub collect-only : (next : House) → Beside h collects next → OnlyCommand h next
+  collect-only next step =
+      only-command (collectedCommand command) next _ (command-collected command (r .within .application-part))
+      (step-collect h (r .long) (r .within) next (step .0) (step .1) (step .2))
+
+  pub report-only : (reported : ℕ) (next : House) → Beside h (reports reported) next → OnlyCommand h next
+  report-only reported next step =
+      only-command (endedCommand reported command) next _
+      (command-ended command reported (r .within .application-part) (report-fits h (r .long) (r .within) reported next (step .0) (step .1) (step .2) .0))
+      (step-report h (r .long) (r .within) reported next (step .0) (step .1) (step .2))
+
   reached-beside : (a : Aside) (next : House) → BesideIsBytes a → Beside h a next → Reached next (after s (aside a))
   reached-beside tick next are step =
       let same = memory-ticked (recorderOf (decoded (h .block) .instruments .recorder)) (h .memory) (r .within .memory-part) .size ∙ sym (r .within .memory-part .size) in
       subst (λ (q : House). Reached q (after s (aside tick))) (sym (step-tick h (r .long) (r .within) next (step .0) (step .1) (step .2) same)) reached-tick
   reached-beside (writes address bytes) next are step =
       subst (λ (q : House). Reached q (after s (aside (writes address bytes)))) (sym step) (reached-write address bytes are)
+  reached-beside collects next are step =
+      subst (λ (q : House). Reached q (after s (aside collects))) (sym (step-collect h (r .long) (r .within) next (step .0) (step .1) (step .2)))
+      reached-collect
+  reached-beside (reports reported) next are step =
+      let known = report-fits h (r .long) (r .within) reported next (step .0) (step .1) (step .2) in
+      subst (λ (q : House). Reached q (after s (aside (reports reported))))
+      (sym (step-report h (r .long) (r .within) reported next (step .0) (step .1) (step .2))) (reached-report reported (known .0) (known .1))
 
   -- whatever happens, with whatever lent
   pub reached-step : (e : Happening) (next : House) → IsBytes e → Step h e next → Reached next (after s e)
@@ -200,7 +303,7 @@ reached-run h last hs (refuses _ next _ _ refused run) s are r =
 
 -- ---- since reset
 pub reached-reset : (block memory : List ℕ) (r : ℕ) (after : List ℕ) → stateLength ≤ length block → MemoryWithin memory → ResetDone block r after
-    → Reached (record { block = after; memory = memory; answers = [] }) (since (gate memory))
+    → Reached (record { block = after; memory = memory; answers = []; commands = [] }) (since (gate memory))
 reached-reset block memory r after long good reset =
     let stored-fresh : after ≡ sets block 0 (encoded fresh) = reset .state ∙ rw (le-leb stateLength (length block) long) refl in
     let w : Within fresh memory = within-reset memory good in

@@ -3,36 +3,43 @@
 use mathlib.Core.Path.{_≡_, refl, sym, ap, subst, _∙_}
 use mathlib.Core.Bool.{Bool, true, cond}
 use mathlib.Core.List.{List, [], _∷_, _++_, append-nil}
-use Prim.Native.Nat.{ℕ, _<_, _≤_}
+use Prim.Native.Nat.{ℕ, suc, _<_, _≤_}
 use native.Mathlib.Omega.{arith}
-use borrow.Author.Tests.{eq-eqb, le-leb, le-ltb}
+use borrow.Author.Tests.{eq-eqb, ne-eqb, le-leb, le-ltb}
 use lib.Dec.{eqb}
 use lib.ListN.{length, take}
 use lib.Seq.{sets, length-sets}
 use Rattle.document.specs.Areas.{memoryEnd}
-use Rattle.document.specs.Numbers.{answerRoom, taken}
+use Rattle.document.specs.Numbers.{answerRoom, mostData, taken}
+use Rattle.document.specs.Application.{Application, newCommand, collectBuffer, isCollected}
 use Rattle.document.specs.Recorder.{tickedMemory}
+use Rattle.line.proofs.Left.{sets-front}
 use Rattle.recorder.specs.State.{recorderOf}
+use Rattle.application.specs.State.{applicationOf}
+use Rattle.application.proofs.Means.{new-few}
+use Rattle.happenings.specs.Applying.{ifAny, waitingIn}
 use Rattle.state.specs.State.{Target}
 use Rattle.state.specs.Within.{Within}
 use Rattle.state.proofs.Keeps.{within-sound}
 use Rattle.blocks.specs.Places.{stateLength}
-use Rattle.blocks.specs.Layout.{decoded, encoded}
-use Rattle.checks.specs.Promises.{blockSound, byteNumber, tickNumber}
+use Rattle.blocks.specs.Layout.{decodedApplication, decoded, encoded}
+use Rattle.checks.specs.Promises.{blockSound, byteNumber, tickNumber, collectNumber, reportNumber}
 use Rattle.checks.proofs.Numbers.{tick-known, byte-known}
+use Rattle.checks.proofs.ApplicationNumbers.{collect-known, report-known}
 use Rattle.checks.proofs.Settled.{block-known, long-decides}
 use Rattle.target.specs.Turn.{Turn, turn}
 use Rattle.target.proofs.Keeps.{byte-keeps}
 use Rattle.tick_call.specs.Promises.{tickedTarget, TickTaken}
+use Rattle.application_calls.specs.Promises.{collectedTarget, reportedTarget}
 use Rattle.byte_call.specs.declared.Taken.{Taken}
 use Rattle.byte_call.specs.Promises.{ByteTaken}
-use Rattle.demands.specs.House.{House}
+use Rattle.demands.specs.House.{House, gateIn}
 use Rattle.demands.specs.Lent.{Piece, lends, handedBack}
-use Rattle.demands.specs.Run.{handedOut, ByByte, ByTick, Refused, Ready}
-use Rattle.demands.specs.Run.Refused.{refused-byte, refused-tick}
+use Rattle.demands.specs.Run.{handedOut, ByByte, ByTick, ByCollect, ByReport, Refused, Ready}
+use Rattle.demands.specs.Run.Refused.{refused-byte, refused-tick, refused-collect, refused-report}
 use Rattle.demands.proofs.Goes.{goes}
 use Rattle.demands.proofs.Lends.{lent-back, lent-whole, whole-back}
-use Rattle.demands.proofs.Refused.{byte-refused, tick-refused}
+use Rattle.demands.proofs.Refused.{byte-refused, tick-refused, collect-refused, report-refused}
 
 -- ---- refused
 
@@ -42,23 +49,40 @@ back-as-was l p back e = ap (handedBack l p) e ∙ lent-back l p
 byte-kept : (h next : House) (b : ℕ) (c : ByByte h b next) → (c .result .refusal ≡ taken → ⊥) → next ≡ h
 byte-kept h next b c other =
     let kept = byte-refused (lends (h .block) (c .state)) b (lends (h .memory) (c .memory)) (c .buffer) (c .result) (c .after) (c .left) (c .told) (c .promised) .unchanged other in
-    let none : handedOut (c .result) (c .told) ≡ [] = rw (kept .0) refl in
+    let none : handedOut (c .result .length) (c .told) ≡ [] = rw (kept .0) refl in
     let block : handedBack (h .block) (c .state) (c .after) ≡ h .block = back-as-was (h .block) (c .state) (c .after) (kept .1) in
     let memory : handedBack (h .memory) (c .memory) (c .left) ≡ h .memory = back-as-was (h .memory) (c .memory) (c .left) (kept .2) in
-    let answers : h .answers ++ handedOut (c .result) (c .told) ≡ h .answers =
+    let answers : h .answers ++ handedOut (c .result .length) (c .told) ≡ h .answers =
     ap (λ (l : List (List ℕ)). h .answers ++ l) none ∙ append-nil (h .answers) in
-    c .house ∙ (λ j. record { block = block j; memory = memory j; answers = answers j })
+    c .house ∙ (λ j. record { block = block j; memory = memory j; answers = answers j; commands = h .commands })
 
 tick-kept : (h next : House) (c : ByTick h next) → (c .result ≡ taken → ⊥) → next ≡ h
 tick-kept h next c other =
     let kept = tick-refused (lends (h .block) (c .state)) (lends (h .memory) (c .memory)) (c .result) (c .after) (c .left) (c .promised) .unchanged other in
     let block : handedBack (h .block) (c .state) (c .after) ≡ h .block = back-as-was (h .block) (c .state) (c .after) (kept .0) in
     let memory : handedBack (h .memory) (c .memory) (c .left) ≡ h .memory = back-as-was (h .memory) (c .memory) (c .left) (kept .1) in
-    c .house ∙ (λ j. record { block = block j; memory = memory j; answers = h .answers })
+    c .house ∙ (λ j. record { block = block j; memory = memory j; answers = h .answers; commands = h .commands })
+
+collect-kept : (h next : House) (c : ByCollect h next) → (c .result .refusal ≡ taken → ⊥) → next ≡ h
+collect-kept h next c other =
+    let kept = collect-refused (lends (h .block) (c .state)) (c .buffer) (c .result) (c .after) (c .told) (c .promised) .unchanged other in
+    let none : handedOut (c .result .length) (c .told) ≡ [] = rw (kept .0) refl in
+    let block : handedBack (h .block) (c .state) (c .after) ≡ h .block = back-as-was (h .block) (c .state) (c .after) (kept .1) in
+    let commands : h .commands ++ handedOut (c .result .length) (c .told) ≡ h .commands =
+    ap (λ (l : List (List ℕ)). h .commands ++ l) none ∙ append-nil (h .commands) in
+    c .house ∙ (λ j. record { block = block j; memory = h .memory; answers = h .answers; commands = commands j })
+
+report-kept : (h next : House) (reported : ℕ) (c : ByReport h reported next) → (c .result ≡ taken → ⊥) → next ≡ h
+report-kept h next reported c other =
+    let kept = report-refused (lends (h .block) (c .state)) reported (c .result) (c .after) (c .promised) .unchanged other in
+    let block : handedBack (h .block) (c .state) (c .after) ≡ h .block = back-as-was (h .block) (c .state) (c .after) kept in
+    c .house ∙ (λ j. record { block = block j; memory = h .memory; answers = h .answers; commands = h .commands })
 
 pub refused-kept : (h next : House) → Refused h next → next ≡ h
 refused-kept h next (refused-byte b call other) = byte-kept h next b call other
 refused-kept h next (refused-tick call other) = tick-kept h next call other
+refused-kept h next (refused-collect call other) = collect-kept h next call other
+refused-kept h next (refused-report reported call other) = report-kept h next reported call other
 
 -- ---- taken
 
@@ -73,6 +97,7 @@ servedByte h b buffer =
       block = sets (h .block) 0 (encoded (turn (decoded (h .block)) b (h .memory) buffer .next));
       memory = turn (decoded (h .block)) b (h .memory) buffer .memory;
       answers = h .answers ++ replied (turn (decoded (h .block)) b (h .memory) buffer);
+      commands = h .commands;
     }
 
 abbrev pub servedTick : House → House
@@ -81,7 +106,33 @@ servedTick h =
       block = sets (h .block) 0 (encoded (tickedTarget (decoded (h .block)) (h .memory)));
       memory = tickedMemory (recorderOf (decoded (h .block) .instruments .recorder)) (h .memory);
       answers = h .answers;
+      commands = h .commands;
     }
+
+-- behind a collection, and behind a report
+abbrev pub servedCollect : House → House
+servedCollect h =
+    record {
+      block = sets (h .block) 0 (encoded (collectedTarget (decoded (h .block))));
+      memory = h .memory;
+      answers = h .answers;
+      commands = h .commands ++ waitingIn (gateIn h .application);
+    }
+
+abbrev pub servedReport : House → ℕ → House
+servedReport h reported =
+    record {
+      block = sets (h .block) 0 (encoded (reportedTarget reported (decoded (h .block))));
+      memory = h .memory;
+      answers = h .answers;
+      commands = h .commands;
+    }
+
+-- a command that fits stands at the front of the buffer
+front-handed : (new buffer : List ℕ) → length new ≤ length buffer → handedOut (length new) (sets buffer 0 new) ≡ ifAny new
+front-handed [] buffer fits = refl
+front-handed (code ∷ arguments) buffer fits =
+    rw (ne-eqb (suc (length arguments)) 0 (λ e. omega (arith, e))) (ap (λ (l : List ℕ). l ∷ []) (sets-front (code ∷ arguments) buffer fits))
 
 -- what comes back of the whole is the whole then
 all-back : (l : List ℕ) (p : Piece) (back given : List ℕ) → lends l p ≡ l → back ≡ given → length given ≡ length l → handedBack l p back ≡ given
@@ -96,6 +147,7 @@ module _ (h : House) (long : stateLength ≤ length (h .block)) (w : Within (dec
       record {
         byte-taken = λ buffer room. rw (sound, eq-eqb (length (h .memory)) memoryEnd (w .memory-part .size), le-ltb (length buffer) answerRoom room) refl;
         tick-taken = rw (sound, eq-eqb (length (h .memory)) memoryEnd (w .memory-part .size)) refl;
+        collect-taken = λ buffer room. rw (sound, le-ltb (length buffer) mostData room) refl;
       }
 
   module _ (b : ℕ) (small : b < 256) (next : House) (c : ByByte h b next) (fine : c .result .refusal ≡ taken) (whole : lends (h .block) (c .state) ≡ h .block) where
@@ -149,7 +201,7 @@ module _ (h : House) (long : stateLength ≤ length (h .block)) (w : Within (dec
         all-back (h .block) (c .state) (c .after) (sets (h .block) 0 (encoded (u .next))) whole after (length-sets (h .block) 0 (encoded (u .next))) in
         let memory : handedBack (h .memory) (c .memory) (c .left) ≡ u .memory =
         all-back (h .memory) (c .memory) (c .left) (u .memory) lent-memory left (keeps .memory-part .size ∙ sym (w .memory-part .size)) in
-        c .house ∙ (λ j. record { block = block j; memory = memory j; answers = h .answers ++ handedOut (result j) (told j) })
+        c .house ∙ (λ j. record { block = block j; memory = memory j; answers = h .answers ++ handedOut (result j .length) (told j); commands = h .commands })
 
   module _ (next : House) (c : ByTick h next) (fine : c .result ≡ taken) (whole : lends (h .block) (c .state) ≡ h .block) where
     pub step-tick : length (tickedMemory (recorderOf (decoded (h .block) .instruments .recorder)) (h .memory)) ≡ length (h .memory) → next ≡ servedTick h
@@ -171,4 +223,52 @@ module _ (h : House) (long : stateLength ≤ length (h .block)) (w : Within (dec
         all-back (h .block) (c .state) (c .after) (sets (h .block) 0 (encoded (ticked (h .block) (h .memory)))) whole after (length-sets (h .block) 0 (encoded (ticked (h .block) (h .memory)))) in
         let memory : handedBack (h .memory) (c .memory) (c .left) ≡ left-by (h .block) (h .memory) =
         all-back (h .memory) (c .memory) (c .left) (left-by (h .block) (h .memory)) all left same in
-        c .house ∙ (λ j. record { block = block j; memory = memory j; answers = h .answers })
+        c .house ∙ (λ j. record { block = block j; memory = memory j; answers = h .answers; commands = h .commands })
+
+  -- what was new is what the buffer begins with
+  module _ (next : House) (c : ByCollect h next) (fine : c .result .refusal ≡ taken) (whole : lends (h .block) (c .state) ≡ h .block) where
+    pub step-collect : next ≡ servedCollect h
+    step-collect =
+        let lentBlock : List ℕ = lends (h .block) (c .state) in
+        let n : ℕ = collectNumber lentBlock (c .buffer) in
+        let number : n ≡ taken = sym (collect-refused lentBlock (c .buffer) (c .result) (c .after) (c .told) (c .promised) .number) ∙ fine in
+        let a : List ℕ → Application = λ l. applicationOf (decodedApplication l) in
+        let result : c .result ≡ record { refusal = taken; length = length (newCommand (a (h .block))) } =
+        goes n (c .result) (record { refusal = taken; length = length (newCommand (a lentBlock)) }) (record { refusal = n; length = 0 }) number (c .promised .result)
+        ∙ ap (λ (l : List ℕ). record { refusal = taken; length = length (newCommand (a l)) }) whole in
+        let after : c .after ≡ sets (h .block) 0 (encoded (collectedTarget (decoded (h .block)))) =
+        goes n (c .after) (sets lentBlock 0 (encoded (collectedTarget (decoded lentBlock)))) lentBlock number (c .promised .state)
+        ∙ ap (λ (l : List ℕ). sets l 0 (encoded (collectedTarget (decoded l)))) whole in
+        let told : c .told ≡ collectBuffer (a (h .block)) (c .buffer) =
+        goes n (c .told) (collectBuffer (a lentBlock) (c .buffer)) (c .buffer) number (c .promised .buffer-told)
+        ∙ ap (λ (l : List ℕ). collectBuffer (a l) (c .buffer)) whole in
+        let fits : length (newCommand (a (h .block))) ≤ length (c .buffer) =
+        omega (arith, new-few (decodedApplication (h .block)), w .application-part .size, collect-known (blockSound lentBlock) (c .buffer) number .1) in
+        let block : handedBack (h .block) (c .state) (c .after) ≡ sets (h .block) 0 (encoded (collectedTarget (decoded (h .block)))) =
+        all-back (h .block) (c .state) (c .after) (sets (h .block) 0 (encoded (collectedTarget (decoded (h .block))))) whole after
+        (length-sets (h .block) 0 (encoded (collectedTarget (decoded (h .block))))) in
+        c .house
+        ∙ (λ j. record { block = block j; memory = h .memory; answers = h .answers; commands = h .commands ++ handedOut (result j .length) (told j) })
+        ∙ ap (λ (l : List (List ℕ)). record { block = servedCollect h .block; memory = h .memory; answers = h .answers; commands = h .commands ++ l })
+        (front-handed (newCommand (a (h .block))) (c .buffer) fits)
+
+  module _ (reported : ℕ) (next : House) (c : ByReport h reported next) (fine : c .result ≡ taken) (whole : lends (h .block) (c .state) ≡ h .block) where
+    -- "a result from 0 to 0xFD", for a command that was collected
+    pub report-fits : (reported ≤ 0xFD) × (isCollected (applicationOf (decoded (h .block) .instruments .application)) ≡ true)
+    report-fits =
+        let lentBlock : List ℕ = lends (h .block) (c .state) in
+        let known = report-known (blockSound lentBlock) (applicationOf (decodedApplication lentBlock)) reported (sym (c .promised .number) ∙ fine) in
+        (known .1, subst (λ (l : List ℕ). isCollected (applicationOf (decodedApplication l)) ≡ true) whole (known .2))
+
+    pub step-report : next ≡ servedReport h reported
+    step-report =
+        let lentBlock : List ℕ = lends (h .block) (c .state) in
+        let n : ℕ = reportNumber lentBlock reported in
+        let number : n ≡ taken = sym (c .promised .number) ∙ fine in
+        let after : c .after ≡ sets (h .block) 0 (encoded (reportedTarget reported (decoded (h .block)))) =
+        goes n (c .after) (sets lentBlock 0 (encoded (reportedTarget reported (decoded lentBlock)))) lentBlock number (c .promised .state)
+        ∙ ap (λ (l : List ℕ). sets l 0 (encoded (reportedTarget reported (decoded l)))) whole in
+        let block : handedBack (h .block) (c .state) (c .after) ≡ sets (h .block) 0 (encoded (reportedTarget reported (decoded (h .block)))) =
+        all-back (h .block) (c .state) (c .after) (sets (h .block) 0 (encoded (reportedTarget reported (decoded (h .block))))) whole after
+        (length-sets (h .block) 0 (encoded (reportedTarget reported (decoded (h .block))))) in
+        c .house ∙ (λ j. record { block = block j; memory = h .memory; answers = h .answers; commands = h .commands })

@@ -1,4 +1,5 @@
--- A gate as its firmware has it: the block that it lends to the calls, its memory, and what went over the wire.
+-- A gate as its firmware has it: the block that it lends to the calls, its memory, what went over the wire, and what its own program
+-- was handed.
 use mathlib.Core.List.{List, []}
 use Prim.Native.Nat.{ℕ}
 use Rattle.document.specs.Gate.{Gate}
@@ -10,7 +11,9 @@ pub record House : Type 0 where
   pub memory : List ℕ
   -- each answer as its bytes went over the wire
   pub answers : List (List ℕ)
+  -- each application command as it was collected
+  pub commands : List (List ℕ)
 
--- the memory, scope and recorder that it stands for
+-- the memory, scope, recorder and application that it stands for
 abbrev pub gateIn : House → Gate
 gateIn h = gateOf (decoded (h .block) .instruments) (h .memory)

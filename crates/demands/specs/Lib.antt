@@ -8,4 +8,5 @@ pub mod Stands
 pub mod Fresh
 pub mod Recorded
 pub mod Recorder
+pub mod Applying
 pub mod Readings

@@ -20,11 +20,12 @@ pub record Goes (p : Plan) (h : House) (on : Bool) : Type 0 where
   pub recorder : gateIn h .recorder ≡ planned p run
   pub is : run .running ≡ on
 
--- "A tick changes only that place.": the memory before and behind it stays, and so do scope and answers
+-- "A tick changes only that place.": the memory before and behind it stays, and so do scope, application and answers
 pub record OnlyItsPlace (p : Plan) (r : Run) (h next : House) : Type 0 where
   pub before : take (placeBegins p (r .place)) (next .memory) ≡ take (placeBegins p (r .place)) (h .memory)
   pub behind :
       drop (placeBegins p (r .place) + setSize (p .variables)) (next .memory)
       ≡ drop (placeBegins p (r .place) + setSize (p .variables)) (h .memory)
   pub scope : gateIn next .scope ≡ gateIn h .scope
+  pub application : gateIn next .application ≡ gateIn h .application
   pub answers : next .answers ≡ h .answers

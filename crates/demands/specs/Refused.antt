@@ -15,7 +15,7 @@ use Rattle.document.specs.Commands.{answered}
 use Rattle.line.specs.declared.Written.{Written}
 use Rattle.host.specs.Reader.{idle, stepped}
 use Rattle.blocks.specs.Places.{stateLength}
-use Rattle.checks.specs.Promises.{blockSound, byteNumber, tickNumber}
+use Rattle.checks.specs.Promises.{blockSound, byteNumber, tickNumber, collectNumber, reportNumber}
 use Rattle.byte_call.specs.declared.Taken.{Taken}
 use Rattle.reader.specs.declared.calls.ReadByte.{ReadByte}
 use Rattle.reader.specs.Layout.{decodedReader, encodedReader}
@@ -40,6 +40,14 @@ pub record ByteRefused (block memory buffer : List ℕ) (r : Taken) (after left 
 pub record TickRefused (block memory : List ℕ) (r : ℕ) (after left : List ℕ) : Type 0 where
   pub number : r ≡ tickNumber block memory
   pub unchanged : (r ≡ taken → ⊥) → (after ≡ block) × (left ≡ memory)
+
+pub record CollectRefused (block buffer : List ℕ) (r : Written) (after told : List ℕ) : Type 0 where
+  pub number : r .refusal ≡ collectNumber block buffer
+  pub unchanged : (r .refusal ≡ taken → ⊥) → (r .length ≡ 0) × (after ≡ block) × (told ≡ buffer)
+
+pub record ReportRefused (block : List ℕ) (reported r : ℕ) (after : List ℕ) : Type 0 where
+  pub number : r ≡ reportNumber block reported
+  pub unchanged : (r ≡ taken → ⊥) → after ≡ block
 
 -- "a refusal sent on the wire writes that answer's bytes only": the gate stays, and there are no data
 pub record WireRefused (g : Gate) (m : Message) : Type 0 where

@@ -6,22 +6,24 @@ use mathlib.Core.List.{List, [], _∷_, _++_}
 use Prim.Native.Nat.{ℕ, _≤_}
 use lib.ListN.{length, take}
 use lib.Dec.{eqb}
-use Rattle.document.specs.Numbers.{answerRoom, taken}
+use Rattle.document.specs.Numbers.{answerRoom, mostData, taken}
 use Rattle.document.specs.Stores.{stored}
 use Rattle.document.specs.Asides.{Aside}
-use Rattle.document.specs.Asides.Aside.{tick, writes}
+use Rattle.document.specs.Asides.Aside.{tick, writes, collects, reports}
 use Rattle.document.specs.Happenings.{Happening}
 use Rattle.document.specs.Happenings.Happening.{byte, aside}
-use Rattle.checks.specs.Promises.{byteNumber, tickNumber}
+use Rattle.line.specs.declared.Written.{Written}
+use Rattle.checks.specs.Promises.{byteNumber, tickNumber, collectNumber}
 use Rattle.tick_call.specs.Promises.{TickTaken}
+use Rattle.application_calls.specs.Promises.{CollectDone, ReportDone}
 use Rattle.byte_call.specs.declared.Taken.{Taken}
 use Rattle.byte_call.specs.Promises.{ByteTaken}
 use Rattle.demands.specs.House.{House}
 use Rattle.demands.specs.Lent.{Piece, lends, handedBack}
 
--- an answer is the first bytes of the lent buffer, as many as the call says; a length of 0 is no answer
-abbrev pub handedOut : Taken → List ℕ → List (List ℕ)
-handedOut r told = cond (eqb (r .length) 0) [] (take (r .length) told ∷ [])
+-- an answer, or a command, is the first bytes of the lent buffer, as many as the call says; a length of 0 is none
+abbrev pub handedOut : ℕ → List ℕ → List (List ℕ)
+handedOut n told = cond (eqb n 0) [] (take n told ∷ [])
 
 -- `log_gate_byte` was called
 pub record ByByte (h : House) (b : ℕ) (next : House) : Type 0 where
@@ -38,7 +40,8 @@ pub record ByByte (h : House) (b : ℕ) (next : House) : Type 0 where
       ≡ record {
         block = handedBack (h .block) state after;
         memory = handedBack (h .memory) memory left;
-        answers = h .answers ++ handedOut result told;
+        answers = h .answers ++ handedOut (result .length) told;
+        commands = h .commands;
       }
 
 -- `log_gate_tick` was called
@@ -55,13 +58,50 @@ pub record ByTick (h next : House) : Type 0 where
         block = handedBack (h .block) state after;
         memory = handedBack (h .memory) memory left;
         answers = h .answers;
+        commands = h .commands;
+      }
+
+-- `log_gate_collect` was called
+pub record ByCollect (h next : House) : Type 0 where
+  pub state : Piece
+  pub buffer : List ℕ
+  pub result : Written
+  pub after : List ℕ
+  pub told : List ℕ
+  pub promised : CollectDone (lends (h .block) state) buffer result after told
+  pub house :
+      next
+      ≡ record {
+        block = handedBack (h .block) state after;
+        memory = h .memory;
+        answers = h .answers;
+        commands = h .commands ++ handedOut (result .length) told;
+      }
+
+-- `log_gate_report` was called
+pub record ByReport (h : House) (reported : ℕ) (next : House) : Type 0 where
+  pub state : Piece
+  pub result : ℕ
+  pub after : List ℕ
+  pub promised : ReportDone (lends (h .block) state) reported result after
+  pub house :
+      next
+      ≡ record {
+        block = handedBack (h .block) state after;
+        memory = h .memory;
+        answers = h .answers;
+        commands = h .commands;
       }
 
 -- what happens beside the bytes: a call that is taken, over the whole block; or the gate's own program writes its memory
 abbrev pub Beside : House → Aside → House → Type 0
 Beside h tick next = (call : ByTick h next) × (call .result ≡ taken) × (lends (h .block) (call .state) ≡ h .block)
 Beside h (writes address bytes) next =
-    next ≡ record { block = h .block; memory = stored (h .memory) address bytes; answers = h .answers }
+    next ≡ record { block = h .block; memory = stored (h .memory) address bytes; answers = h .answers; commands = h .commands }
+Beside h collects next =
+    (call : ByCollect h next) × (call .result .refusal ≡ taken) × (lends (h .block) (call .state) ≡ h .block)
+Beside h (reports reported) next =
+    (call : ByReport h reported next) × (call .result ≡ taken) × (lends (h .block) (call .state) ≡ h .block)
 
 abbrev pub Step : House → Happening → House → Type 0
 Step h (byte b) next = (call : ByByte h b next) × (call .result .refusal ≡ taken) × (lends (h .block) (call .state) ≡ h .block)
@@ -71,6 +111,8 @@ Step h (aside a) next = Beside h a next
 pub data Refused (h next : House) : Type 0 where
   refused-byte : (b : ℕ) (call : ByByte h b next) → (call .result .refusal ≡ taken → ⊥) → Refused h next
   refused-tick : (call : ByTick h next) → (call .result ≡ taken → ⊥) → Refused h next
+  refused-collect : (call : ByCollect h next) → (call .result .refusal ≡ taken → ⊥) → Refused h next
+  refused-report : (reported : ℕ) (call : ByReport h reported next) → (call .result ≡ taken → ⊥) → Refused h next
 
 pub data Run : House → List Happening → House → Type 0 where
   ends : (h : House) → Run h [] h
@@ -78,7 +120,8 @@ pub data Run : House → List Happening → House → Type 0 where
   -- "consume no byte": nothing has happened
   refuses : (h next last : House) (es : List Happening) → Refused h next → Run next es last → Run h es last
 
--- a call that is lent the block, the memory and room for an answer is taken
+-- a call that is lent the block, the memory and room for an answer or for a command is taken; a report waits for its command
 pub record Ready (h : House) : Type 0 where
   pub byte-taken : (buffer : List ℕ) → answerRoom ≤ length buffer → byteNumber (h .block) (h .memory) buffer ≡ taken
   pub tick-taken : tickNumber (h .block) (h .memory) ≡ taken
+  pub collect-taken : (buffer : List ℕ) → mostData ≤ length buffer → collectNumber (h .block) buffer ≡ taken

@@ -19,7 +19,7 @@ abbrev pub linkIn : Target → Beside
 linkIn t = record { receiver = t .receiver; body = t .body }
 
 pub record Stands (h : House) (s : Since) : Type 0 where
-  -- memory, scope and recorder
+  -- memory, scope, recorder and application
   pub gate : gateIn h ≡ s .gate
   -- each answer, as it goes over the wire
   pub answers : h .answers ≡ map answerOnWire (s .answers)

@@ -12,15 +12,16 @@ use Rattle.document.specs.Trigger.{fires}
 use Rattle.document.specs.Sets.{setsTaken}
 use Rattle.document.specs.CallRows.{Line, callRows, answerRows, commandRows, statusRows}
 use Rattle.document.specs.ReaderRows.{readerRows}
+use Rattle.document.specs.ApplicationRows.{collectRows}
 use Rattle.document.specs.SetRows.{plainPlan, exPlan, plainPlanNoTrigger, plansIn, bufferAnswers, histories, taken, written, lasts, rounds}
 use Rattle.document.proofs.Rows.{holds-eq, lists-eq}
 
 abbrev pub lines : List Line
-unfolding callRows answerRows commandRows statusRows readerRows
-lines = callRows ++ answerRows ++ commandRows ++ statusRows ++ readerRows
+unfolding callRows answerRows commandRows statusRows readerRows collectRows
+lines = callRows ++ answerRows ++ commandRows ++ statusRows ++ readerRows ++ collectRows
 
 pub lines-hold : map (λ (l : Line). l .gives) lines ≡ map (λ (l : Line). l .says) lines
-unfolding callRows answerRows commandRows statusRows readerRows wellFormed onWire answerOnWire answersHeard answerFinishedBy answerRefusal answerWritten answerBuffer commandRefusal commandWritten commandBuffer readRoomRefusal brought
+unfolding callRows answerRows commandRows statusRows readerRows collectRows wellFormed onWire answerOnWire answersHeard answerFinishedBy answerRefusal answerWritten answerBuffer commandRefusal commandWritten commandBuffer readRoomRefusal brought
 lines-hold = lists-eq (map (λ (l : Line). l .gives) lines) (map (λ (l : Line). l .says) lines) refl
 
 pub plans-hold : plansIn ≡ (plainPlan ∷ exPlan ∷ plainPlanNoTrigger ∷ [])

@@ -15,6 +15,7 @@ use Rattle.document.specs.Permission.{mayBeWritten}
 use Rattle.document.specs.Refusals.{refusal}
 use Rattle.document.specs.Commands.{answered}
 use Rattle.document.specs.Asides.{beside}
+use Rattle.document.specs.ApplicationRows.{applicationRows}
 use Rattle.document.specs.Rows.{Row, saidBy, byteByByte, stepByStep}
 use Rattle.document.specs.LineRows.{lineRows, pairedBytes, tokens}
 use Rattle.document.specs.ReadRows.{readRows}
@@ -84,19 +85,19 @@ holds-eq given said e = none-differs (same (same eqb)) (same-eq (same eqb) (same
 -- ---- the table
 
 abbrev rows : List Row
-unfolding readRows writeRows scopeRows setupRows recorderRows triggerRows
-rows = readRows ++ writeRows ++ scopeRows ++ setupRows ++ recorderRows ++ triggerRows
+unfolding readRows writeRows scopeRows setupRows recorderRows triggerRows applicationRows
+rows = readRows ++ writeRows ++ scopeRows ++ setupRows ++ recorderRows ++ triggerRows ++ applicationRows
 
 abbrev pub given : List (List (List ℕ))
-unfolding lineRows readRows writeRows scopeRows setupRows recorderRows triggerRows
+unfolding lineRows readRows writeRows scopeRows setupRows recorderRows triggerRows applicationRows
 given = map byteByByte lineRows ++ map stepByStep rows
 
 abbrev pub said : List (List (List ℕ))
-unfolding lineRows readRows writeRows scopeRows setupRows recorderRows triggerRows
+unfolding lineRows readRows writeRows scopeRows setupRows recorderRows triggerRows applicationRows
 said = map saidBy lineRows ++ map saidBy rows
 
 pub rows-hold : given ≡ said
-unfolding lineRows readRows writeRows scopeRows setupRows recorderRows triggerRows answerOnWire heard finishedBy serviceOf mayBeWritten refusal answered planIn fires ranTick memoryAfterTick beside
+unfolding lineRows readRows writeRows scopeRows setupRows recorderRows triggerRows applicationRows answerOnWire heard finishedBy serviceOf mayBeWritten refusal answered planIn fires ranTick memoryAfterTick beside
 rows-hold = holds-eq given said refl
 
 pub edges-hold : map firesAt edges ≡ map (λ (e : Edge). e .fires) edges

@@ -3,13 +3,18 @@ use mathlib.Core.List.{List}
 use Prim.Native.Nat.{ℕ}
 use Rattle.document.specs.Stores.{stored}
 use Rattle.document.specs.Recorder.{ticked, tickedMemory}
-use Rattle.document.specs.Gate.{Gate, withMemory, withRecorder}
+use Rattle.document.specs.Application.{afterCollect, afterReport}
+use Rattle.document.specs.Gate.{Gate, withMemory, withRecorder, withApplication}
 
 pub data Aside : Type 0 where
   -- "The gate calls a tick."
   tick : Aside
   -- the gate's own program writes bytes from an address on
   writes : ℕ → List ℕ → Aside
+  -- "the gate's own program collects it" (2026-01)
+  collects : Aside
+  -- "and later reports a result"
+  reports : ℕ → Aside
 
 abbrev pub tickedGate : Gate → Gate
 tickedGate g = withMemory (withRecorder g (ticked (g .recorder) (g .memory))) (tickedMemory (g .recorder) (g .memory))
@@ -17,3 +22,5 @@ tickedGate g = withMemory (withRecorder g (ticked (g .recorder) (g .memory))) (t
 unfoldable pub beside : Gate → Aside → Gate
 beside g tick = tickedGate g
 beside g (writes address bytes) = withMemory g (stored (g .memory) address bytes)
+beside g collects = withApplication g (afterCollect (g .application))
+beside g (reports result) = withApplication g (afterReport result (g .application))

@@ -16,11 +16,11 @@ pub record Line : Type 0 where
   pub gives : List ℕ
   pub says : List ℕ
 
-abbrev line : List ℕ → List ℕ → Line
+abbrev pub line : List ℕ → List ℕ → Line
 line gives says = record { gives = gives; says = says }
 
 -- a lent buffer of n bytes, each 0xAA
-abbrev lent : ℕ → List ℕ
+abbrev pub lent : ℕ → List ℕ
 lent n = replicate n 0xAA
 
 -- ---- "1 a state outside the bounds", "2 memory of another length", "3 a lent output buffer too short"; "Lowest number first"

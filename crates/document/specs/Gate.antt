@@ -1,9 +1,11 @@
--- What demand 3 compares: the memory, the scope and the recorder, and what a message makes of them.
+-- What demand 3 compares: the memory, the scope, the recorder and the application command, and what a message makes of them.
 use mathlib.Core.List.{List}
 use Prim.Native.Nat.{ℕ}
 use Rattle.document.specs.Answer.{Answer}
 use Rattle.document.specs.Scope.{Scope}
 use Rattle.document.specs.Scope.Scope.{absent as noScope}
+use Rattle.document.specs.Application.{Application}
+use Rattle.document.specs.Application.Application.{none}
 use Rattle.document.specs.Recorder.{Recorder}
 use Rattle.document.specs.Recorder.Recorder.{absent as noRecorder}
 
@@ -11,20 +13,25 @@ pub record Gate : Type 0 where
   pub memory : List ℕ
   pub scope : Scope
   pub recorder : Recorder
+  -- "what demand 3 compares beside memory now includes this state" (2026-01)
+  pub application : Application
 
 -- one part changes, all others stay
 abbrev pub withMemory : Gate → List ℕ → Gate
-withMemory g memory = record { memory = memory; scope = g .scope; recorder = g .recorder }
+withMemory g memory = record { memory = memory; scope = g .scope; recorder = g .recorder; application = g .application }
 
 abbrev pub withScope : Gate → Scope → Gate
-withScope g scope = record { memory = g .memory; scope = scope; recorder = g .recorder }
+withScope g scope = record { memory = g .memory; scope = scope; recorder = g .recorder; application = g .application }
 
 abbrev pub withRecorder : Gate → Recorder → Gate
-withRecorder g recorder = record { memory = g .memory; scope = g .scope; recorder = recorder }
+withRecorder g recorder = record { memory = g .memory; scope = g .scope; recorder = recorder; application = g .application }
+
+abbrev pub withApplication : Gate → Application → Gate
+withApplication g application = record { memory = g .memory; scope = g .scope; recorder = g .recorder; application = application }
 
 -- reset: nothing is set up; the memory is as it was lent
 abbrev pub fresh : List ℕ → Gate
-fresh memory = record { memory = memory; scope = noScope; recorder = noRecorder }
+fresh memory = record { memory = memory; scope = noScope; recorder = noRecorder; application = none }
 
 -- what a message leaves, and the answer to it
 pub record Outcome : Type 0 where

@@ -12,6 +12,7 @@ use Rattle.document.specs.Kinds.Kind.{fast, standard, unserved}
 abbrev pub kindRows : String
 kindRows =
     ".ssssss.ssss...."
+    ++ "s..............."
     ++ "................"
     ++ "................"
     ++ "................"
@@ -22,8 +23,7 @@ kindRows =
     ++ "................"
     ++ "................"
     ++ "................"
-    ++ "................"
-    ++ "ffffff..ff......"
+    ++ "fffffff.ff......"
     ++ "fff............."
     ++ "ffffff.........."
     ++ "ff.............."

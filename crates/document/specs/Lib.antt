@@ -24,6 +24,7 @@ pub mod Kinds
 pub mod Fields
 pub mod Variables
 pub mod Scope
+pub mod Application
 pub mod Gate
 pub mod Permission
 pub mod Commands
@@ -53,4 +54,5 @@ pub mod SetupRows
 pub mod RecorderRows
 pub mod EdgeRows
 pub mod TriggerRows
+pub mod ApplicationRows
 pub mod SetRows

@@ -102,3 +102,7 @@ expectedRefused = 5
 -- "6 a finished answer whose sum is wrong"
 abbrev pub sumRefused : ℕ
 sumRefused = 6
+
+-- "call number 7 for a result above 0xFD or with no collected command pending, after 6" (2026-01)
+abbrev pub resultRefused : ℕ
+resultRefused = 7

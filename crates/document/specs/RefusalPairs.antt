@@ -26,6 +26,10 @@ abbrev running : String → String → Faulty
 running message faults =
     record { before = asks "09 13 00 0400 0000 0000 0000 00 00 00000000 01 01 1000" "00" ∷ []; message = hex message; faults = hex faults }
 
+-- while an application command is pending (2026-01)
+abbrev pending : String → String → Faulty
+pending message faults = record { before = asks "10 01 01" "00" ∷ []; message = hex message; faults = hex faults }
+
 -- so many bytes of 0x10 behind it
 abbrev longer : ℕ → Faulty → Faulty
 longer n f = record { before = f .before; message = f .message ++ replicate n 0x10; faults = f .faults }
@@ -40,6 +44,8 @@ faultyMessages =
     ∷ faulty "C5" "88"
     ∷ running "C4" "87"
     ∷ running "09 13 00 0400 0000 0000 0000 00 00 00000000 01 01 1000" "87"
+    ∷ pending "10 01 02" "87"
+    ∷ faulty "10 00" "85"
     ∷ faulty "01 02 01 10" "85"
     ∷ faulty "01 03 00 1000" "86"
     ∷ faulty "01 03 41 1000" "84"
@@ -51,10 +57,12 @@ faultyMessages =
     ∷ longer 66 (faulty "08 43 16" "83 86")
     ∷ longer 62 (faulty "01 41 41 1000" "83 85 84")
     ∷ longer 62 (faulty "02 41 3E 0020" "83 89")
+    ∷ longer 65 (pending "10 41" "83 87")
     -- 0x87 with others
     ∷ running "09 13 03 0400 0000 0000 0000 01 00 00000000 01 01 1000" "87 85"
     ∷ running "09 13 00 0000 0000 0000 0000 00 00 00000000 01 01 1000" "87 86"
     ∷ running "09 13 00 0400 0000 0000 0000 00 00 00000000 01 01 0030" "87 89"
+    ∷ pending "10 00" "87 85"
     -- 0x85 with others: of a scope, a recorder, a read and a write
     ∷ faulty "08 00" "85 86"
     ∷ faulty "08 05 01 01 0040 00" "85 89"

@@ -12,10 +12,11 @@ use Rattle.document.specs.Plan.{recorderLayoutWrong, recorderSizeWrong, 
 use Rattle.document.specs.Recorder.{recorderAbsent, isRunning}
 use Rattle.document.specs.Services.{serviceOf}
 use Rattle.document.specs.Fields.{hasSize, sizeField, addressField, dataPlace}
+use Rattle.document.specs.Application.{isPending}
 use Rattle.document.specs.Gate.{Gate}
 use Rattle.document.specs.Permission.{mayBeWritten}
 use Rattle.document.specs.declared.Operation.{Operation}
-use Rattle.document.specs.declared.Operation.the-variants.{Unserved, Describe, DescribeBriefly, Read, Write, WriteMasked, SetUpScope, ReadScope, SetUpRecorder, Start, Stop, Status, QueryBuffer}
+use Rattle.document.specs.declared.Operation.the-variants.{Unserved, Describe, DescribeBriefly, Read, Write, WriteMasked, SetUpScope, ReadScope, SetUpRecorder, Start, Stop, Status, QueryBuffer, SendCommand, CommandResult}
 use Rattle.document.specs.declared.Service.{Service}
 
 -- a line of the table: the status, and whether it applies
@@ -86,6 +87,10 @@ recorderLines g = when notSetUp (recorderAbsent (g .recorder)) ∷ []
 abbrev pub queryLines : Gate → List Refusal
 queryLines g = when notSetUp (recorderAbsent (g .recorder)) ∷ when busy (isRunning (g .recorder)) ∷ []
 
+-- "an empty data part 0x85; 0x10 while one is pending 0x87" (2026-01)
+abbrev pub sendLines : Gate → List ℕ → List Refusal
+sendLines g body = when busy (isPending (g .application)) ∷ when layoutWrong (eqb (length body) 0) ∷ []
+
 abbrev pub lines : Operation → Gate → Service → List ℕ → List Refusal
 lines Unserved g s body = when notServed true ∷ []
 lines Describe g s body = []
@@ -100,6 +105,8 @@ lines Start g s body = recorderLines g
 lines Stop g s body = recorderLines g
 lines Status g s body = recorderLines g
 lines QueryBuffer g s body = queryLines g
+lines SendCommand g s body = sendLines g body
+lines CommandResult g s body = []
 
 -- ---- of a message
 

@@ -12,7 +12,7 @@ use Rattle.document.specs.Gate.{fresh}
 use Rattle.document.specs.Happenings.{Happening, Since, told, afterAll, fromReset}
 use Rattle.document.specs.Happenings.Happening.{byte, aside}
 use Rattle.document.specs.Asides.{Aside}
-use Rattle.document.specs.Asides.Aside.{tick, writes}
+use Rattle.document.specs.Asides.Aside.{tick, writes, collects, reports}
 use Rattle.document.specs.Staples.{zeros}
 
 pub record Step : Type 0 where
@@ -66,6 +66,13 @@ ticks n = beside (replicate n tick)
 -- the gate's own program writes
 abbrev pub puts : ℕ → String → Step
 puts address bytes = beside (writes address (hex bytes) ∷ [])
+
+-- the gate's own program collects a command, and reports a result (2026-01)
+abbrev pub collecting : Step
+collecting = beside (collects ∷ [])
+
+abbrev pub reporting : ℕ → Step
+reporting result = beside (reports result ∷ [])
 
 -- byte 16 takes these values, one at each tick
 abbrev eachTick : List ℕ → List Aside

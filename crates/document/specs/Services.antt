@@ -4,7 +4,7 @@ use mathlib.Core.List.{List, [], _∷_}
 use Prim.Native.Nat.{ℕ}
 use lib.Dec.{eqb}
 use Rattle.document.specs.declared.Operation.{Operation}
-use Rattle.document.specs.declared.Operation.the-variants.{Unserved, Describe, DescribeBriefly, Read, Write, WriteMasked, SetUpScope, ReadScope, SetUpRecorder, Start, Stop, Status, QueryBuffer}
+use Rattle.document.specs.declared.Operation.the-variants.{Unserved, Describe, DescribeBriefly, Read, Write, WriteMasked, SetUpScope, ReadScope, SetUpRecorder, Start, Stop, Status, QueryBuffer, SendCommand, CommandResult}
 use Rattle.document.specs.declared.Service.{Service}
 
 -- a line of the list
@@ -62,6 +62,9 @@ commands =
     ∷ plain 0xC3 Status 0
     ∷ plain 0xC4 QueryBuffer 0
     ∷ ex 0xC9 QueryBuffer 0
+    -- "Command 0x10", "0xC6" (2026-01)
+    ∷ plain 0x10 SendCommand 0
+    ∷ plain 0xC6 CommandResult 0
     ∷ []
 
 -- "the command is not one of those below"

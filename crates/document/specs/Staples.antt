@@ -9,6 +9,7 @@ use Rattle.document.specs.Run.{Run}
 use Rattle.document.specs.Run.Watch.{previous, triggered}
 use Rattle.document.specs.Recorder.Recorder.{planned}
 use Rattle.document.specs.Scope.Scope.{absent}
+use Rattle.document.specs.Application.Application.{none}
 use Rattle.document.specs.Gate.{Gate, fresh}
 use Rattle.document.specs.Happenings.{Happening, afterAll, fromReset}
 use Rattle.document.specs.Happenings.Happening.{byte, aside}
@@ -80,6 +81,7 @@ risingGate sign memory run =
             variables = record { address = 16; size = 2 } ∷ [];
           })
           run;
+      application = none;
     }
 
 -- both values stand in the buffer, the older first

@@ -22,6 +22,8 @@ pub enum Operation {
     Stop,
     Status,
     QueryBuffer,
+    SendCommand,
+    CommandResult,
 }
 
 // What a command does, whether its addresses take 4 bytes, and its own size; 0 where its data begin with one, or where it has none.

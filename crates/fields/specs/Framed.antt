@@ -3,7 +3,7 @@ use mathlib.Core.List.{List}
 use Prim.Native.Nat.{ℕ}
 use Rattle.document.specs.declared.Service.{Service}
 use Rattle.outcomes.specs.Changes.{Change, changeOf}
-use Rattle.outcomes.specs.Changes.Change.{nothing, store, maskedStore, scopeSetUp, recorderSetUp, recorderStart, recorderStop}
+use Rattle.outcomes.specs.Changes.Change.{nothing, store, maskedStore, scopeSetUp, recorderSetUp, recorderStart, recorderStop, commandSent}
 use Rattle.fields.specs.Blocks.{OwnFits}
 
 -- how many parts of its size stand behind the address: data, or data and mask
@@ -15,6 +15,7 @@ partsOf scopeSetUp = 0
 partsOf recorderSetUp = 0
 partsOf recorderStart = 0
 partsOf recorderStop = 0
+partsOf commandSent = 0
 
 abbrev pub Framed : Service → List ℕ → Type 0
 Framed s body = OwnFits s (partsOf (changeOf (s .operation))) body

@@ -15,7 +15,7 @@ use Rattle.document.specs.Gate.{Gate}
 use Rattle.document.specs.Commands.{answered}
 use Rattle.document.specs.Happenings.{Happening, Since, told, after, afterAll}
 use Rattle.document.specs.Asides.{Aside, beside}
-use Rattle.document.specs.Asides.Aside.{tick, writes}
+use Rattle.document.specs.Asides.Aside.{tick, writes, collects, reports}
 use Rattle.document.specs.Happenings.Happening.{byte, aside}
 use Rattle.document.proofs.Cases.{split}
 use Rattle.memory.proofs.Copies.{stored-length}
@@ -93,6 +93,10 @@ module _ (p : Plan) where
           follows = record { recorder = f .recorder; memory = refl; size = size };
           leaves = λ quiet. ((size, quiet ∙ ap (drop bufferBegin) (f .memory)), tt);
         }
+    followed-beside collects =
+        record { follows = record { recorder = f .recorder; memory = f .memory; size = f .size }; leaves = λ quiet. tt }
+    followed-beside (reports result) =
+        record { follows = record { recorder = f .recorder; memory = f .memory; size = f .size }; leaves = λ quiet. tt }
 
   -- ---- one after the other
   after-append : (es fs : List Event) (g : Recording) → history.after p g (es ++ fs) ≡ history.after p (history.after p g es) fs

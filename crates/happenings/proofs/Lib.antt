@@ -5,3 +5,4 @@ pub mod FreshLink
 pub mod Recording
 pub mod Ticks
 pub mod Follows
+pub mod Applying

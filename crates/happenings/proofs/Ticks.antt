@@ -6,7 +6,7 @@ use native.Mathlib.Omega.{arith}
 use Rattle.document.specs.Message.{Message, finishedBy}
 use Rattle.document.specs.Gate.{Gate}
 use Rattle.document.specs.Asides.{Aside}
-use Rattle.document.specs.Asides.Aside.{tick, writes}
+use Rattle.document.specs.Asides.Aside.{tick, writes, collects, reports}
 use Rattle.document.specs.Happenings.{Happening, Since, after}
 use Rattle.document.specs.Happenings.Happening.{byte, aside}
 use Rattle.document.proofs.Cases.{split}
@@ -28,6 +28,8 @@ no-message-ticks g (m ∷ ms) = split (stops g m) (λ t. rw t refl) (λ f. rw f 
 aside-ticks : (g : Gate) (a : Aside) → ticks (eventsBeside g a) ≡ ticksBeside a
 aside-ticks g tick = refl
 aside-ticks g (writes address bytes) = refl
+aside-ticks g collects = refl
+aside-ticks g (reports result) = refl
 
 pub ticks-counted : (hs : List Happening) (s : Since) → ticks (events s hs) ≡ ticksOf hs
 ticks-counted [] s = refl

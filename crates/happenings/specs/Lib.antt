@@ -1,4 +1,5 @@
--- The words of demand 3 and of the recorder's history, over what happens to a gate.
+-- The words of demand 3, of the recorder's history and of application commands, over what happens to a gate.
 pub mod Bytes
 pub mod Resync
 pub mod Recording
+pub mod Applying

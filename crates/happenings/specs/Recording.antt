@@ -9,7 +9,7 @@ use Rattle.document.specs.Message.{Message, finishedBy}
 use Rattle.document.specs.Gate.{Gate}
 use Rattle.document.specs.Commands.{answered}
 use Rattle.document.specs.Asides.{Aside, beside}
-use Rattle.document.specs.Asides.Aside.{tick, writes}
+use Rattle.document.specs.Asides.Aside.{tick, writes, collects, reports}
 use Rattle.document.specs.Happenings.{Happening, Since, after}
 use Rattle.document.specs.Happenings.Happening.{byte, aside}
 use Rattle.history.specs.History.{Event}
@@ -24,6 +24,8 @@ eventsOf g (m ∷ ms) = cond (stops g m) (stop ∷ []) (others (answered g m .ga
 abbrev pub eventsBeside : Gate → Aside → List Event
 eventsBeside g tick = ticks ∷ []
 eventsBeside g (writes address bytes) = others (beside g (writes address bytes) .memory) ∷ []
+eventsBeside g collects = []
+eventsBeside g (reports result) = []
 
 abbrev pub eventsAt : Since → Happening → List Event
 eventsAt s (byte b) = eventsOf (s .gate) (finishedBy (s .bytes) b)
@@ -37,6 +39,8 @@ events s (h ∷ hs) = eventsAt s h ++ events (after s h) hs
 abbrev pub ticksBeside : Aside → ℕ
 ticksBeside tick = 1
 ticksBeside (writes address bytes) = 0
+ticksBeside collects = 0
+ticksBeside (reports result) = 0
 
 abbrev pub ticksOf : List Happening → ℕ
 ticksOf [] = 0
@@ -61,6 +65,8 @@ abbrev pub LeavesBuffer : Gate → Aside → Type 0
 LeavesBuffer g tick = Unit {0}
 LeavesBuffer g (writes address bytes) =
     drop bufferBegin (beside g (writes address bytes) .memory) ≡ drop bufferBegin (g .memory)
+LeavesBuffer g collects = Unit {0}
+LeavesBuffer g (reports result) = Unit {0}
 
 abbrev pub Undisturbed : Since → Happening → Type 0
 Undisturbed s (byte b) = NoStart (s .gate) (finishedBy (s .bytes) b)

@@ -2,3 +2,4 @@
 pub mod Statuses
 pub mod Readings
 pub mod Changing
+pub mod Sending

@@ -1,9 +1,12 @@
 // The C boundary: what include/log_gate.h declares. A slice crosses as a pointer and a length, a state as a block of bytes. Each call
 // is one of the crates below, under the name and with the promise that it has there.
+mod application;
 mod ends;
 mod lengths;
 mod target;
 
+pub use application::log_gate_collect;
+pub use application::log_gate_report;
 pub use ends::log_gate_reader_begin;
 pub use ends::log_gate_reader_byte;
 pub use ends::log_gate_write_answer;

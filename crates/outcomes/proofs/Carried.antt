@@ -20,7 +20,7 @@ use Rattle.document.specs.Commands.{doing}
 use Rattle.document.specs.Answer.{Answer}
 use Rattle.document.specs.AnswerWriter.{answerFormed}
 use Rattle.document.specs.declared.Operation.{Operation}
-use Rattle.document.specs.declared.Operation.the-variants.{Unserved, Describe, DescribeBriefly, Read, Write, WriteMasked, SetUpScope, ReadScope, SetUpRecorder, Start, Stop, Status, QueryBuffer}
+use Rattle.document.specs.declared.Operation.the-variants.{Unserved, Describe, DescribeBriefly, Read, Write, WriteMasked, SetUpScope, ReadScope, SetUpRecorder, Start, Stop, Status, QueryBuffer, SendCommand, CommandResult}
 use Rattle.document.specs.declared.Service.{Service}
 use Rattle.document.specs.declared.Variable.{Variable}
 use Rattle.document.proofs.Cases.{split}
@@ -171,3 +171,13 @@ carried Status g s body =
     }
 carried QueryBuffer g s body =
     record { gate = refl; known = (refl, refl, (refl, refl, tt)); accepted = λ none. tt; refused = λ some. tt; answer = λ none. right-query g s body (s .ex) (g .recorder) }
+carried SendCommand g s body =
+    record {
+      gate = refl;
+      known = (refl, refl, (refl, refl, tt));
+      accepted = λ none. none;
+      refused = λ some. some;
+      answer = λ none. right-alone;
+    }
+carried CommandResult g s body =
+    record { gate = refl; known = tt; accepted = λ none. tt; refused = λ some. tt; answer = λ none. record { formed = refl; success = refl } }

@@ -18,7 +18,7 @@ use Rattle.document.specs.Commands.{answered}
 use Rattle.document.specs.declared.Service.{Service}
 use Rattle.document.proofs.Cases.{split, neither, both}
 use Rattle.outcomes.specs.Changes.{Change, changeOf, changed, Accepted}
-use Rattle.outcomes.specs.Changes.Change.{nothing, store, maskedStore, scopeSetUp, recorderSetUp, recorderStart, recorderStop}
+use Rattle.outcomes.specs.Changes.Change.{nothing, store, maskedStore, scopeSetUp, recorderSetUp, recorderStart, recorderStop, commandSent}
 use Rattle.outcomes.specs.Starts.{begins, halts, starts, stops, Begins}
 use Rattle.outcomes.proofs.Answered.{accepted-gate, accepted, refused-gate}
 
@@ -42,6 +42,7 @@ module _ (g : Gate) (s : Service) (body : List ℕ) where
   passes recorderSetUp no-start no-stop = neither (sym no-start)
   passes recorderStart no-start no-stop = started-same (g .recorder) (not-false (isRunning (g .recorder)) no-start)
   passes recorderStop no-start no-stop = neither (sym no-stop)
+  passes commandSent no-start no-stop = refl
 
   stopping : (c : Change) → halts c ≡ true → changed c g s body ≡ changed recorderStop g s body
   stopping nothing stop = neither stop
@@ -51,6 +52,7 @@ module _ (g : Gate) (s : Service) (body : List ℕ) where
   stopping recorderSetUp stop = neither stop
   stopping recorderStart stop = neither stop
   stopping recorderStop stop = refl
+  stopping commandSent stop = neither stop
 
   beginning : (c : Change) → Accepted c g s body → begins c (isRunning (g .recorder)) ≡ true
       → (p : Plan) × (changed c g s body .recorder ≡ planned p started)
@@ -61,6 +63,7 @@ module _ (g : Gate) (s : Service) (body : List ℕ) where
   beginning recorderSetUp there start = (planIn (s .ex) body, refl)
   beginning recorderStart there start = begun (g .recorder) there (not-true (isRunning (g .recorder)) start)
   beginning recorderStop there start = neither start
+  beginning commandSent there start = neither start
 
 -- ---- of a message
 

@@ -16,7 +16,7 @@ use Rattle.document.specs.AnswerWriter.{answerFormed}
 use Rattle.document.specs.declared.Service.{Service}
 use Rattle.document.proofs.Cases.{split, neither}
 use Rattle.outcomes.specs.Changes.{Change, changeOf, changed, Accepted, Refused, leavesMemory}
-use Rattle.outcomes.specs.Changes.Change.{nothing, store, maskedStore, scopeSetUp, recorderSetUp, recorderStart, recorderStop}
+use Rattle.outcomes.specs.Changes.Change.{nothing, store, maskedStore, scopeSetUp, recorderSetUp, recorderStart, recorderStop, commandSent}
 use Rattle.outcomes.proofs.Firsts.{first-known}
 use Rattle.outcomes.proofs.Carried.{Carried, carried}
 
@@ -62,6 +62,7 @@ module _ (g : Gate) (s : Service) (body : List ℕ) where
   memory-kept recorderSetUp leaves = refl
   memory-kept recorderStart leaves = refl
   memory-kept recorderStop leaves = refl
+  memory-kept commandSent leaves = refl
 
   pub served-memory-kept : leavesMemory change ≡ true → served g s body .gate .memory ≡ g .memory
   served-memory-kept leaves = served-gate (λ (q : Gate). q .memory ≡ g .memory) refl (λ accepted. memory-kept change leaves)
@@ -79,6 +80,7 @@ module _ (g : Gate) (s : Service) (body : List ℕ) where
     memory-changed recorderSetUp accepted = same
     memory-changed recorderStart accepted = same
     memory-changed recorderStop accepted = same
+    memory-changed commandSent accepted = same
 
     pub served-memory : P (served g s body .gate .memory)
     served-memory = served-gate (λ (q : Gate). P (q .memory)) same (memory-changed change)

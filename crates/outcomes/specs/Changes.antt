@@ -8,11 +8,12 @@ use Rattle.document.specs.Stores.{stored, maskStored}
 use Rattle.document.specs.Scope as scope
 use Rattle.document.specs.Recorder as recorder
 use Rattle.document.specs.Fields.{sizeField, addressField, dataField, maskField}
-use Rattle.document.specs.Gate.{Gate, withMemory, withScope, withRecorder}
+use Rattle.document.specs.Application.Application.{waiting}
+use Rattle.document.specs.Gate.{Gate, withMemory, withScope, withRecorder, withApplication}
 use Rattle.document.specs.Permission.{mayBeWritten}
-use Rattle.document.specs.Refusals.{firstOf, scopeSetUpLines, recorderSetUpLines}
+use Rattle.document.specs.Refusals.{firstOf, scopeSetUpLines, recorderSetUpLines, sendLines}
 use Rattle.document.specs.declared.Operation.{Operation}
-use Rattle.document.specs.declared.Operation.the-variants.{Unserved, Describe, DescribeBriefly, Read, Write, WriteMasked, SetUpScope, ReadScope, SetUpRecorder, Start, Stop, Status, QueryBuffer}
+use Rattle.document.specs.declared.Operation.the-variants.{Unserved, Describe, DescribeBriefly, Read, Write, WriteMasked, SetUpScope, ReadScope, SetUpRecorder, Start, Stop, Status, QueryBuffer, SendCommand, CommandResult}
 use Rattle.document.specs.declared.Service.{Service}
 
 pub data Change : Type 0 where
@@ -23,6 +24,7 @@ pub data Change : Type 0 where
   recorderSetUp : Change
   recorderStart : Change
   recorderStop : Change
+  commandSent : Change
 
 abbrev pub changeOf : Operation → Change
 changeOf Unserved = nothing
@@ -38,6 +40,8 @@ changeOf Start = recorderStart
 changeOf Stop = recorderStop
 changeOf Status = nothing
 changeOf QueryBuffer = nothing
+changeOf SendCommand = commandSent
+changeOf CommandResult = nothing
 
 -- the gate after it
 abbrev pub changed : Change → Gate → Service → List ℕ → Gate
@@ -49,6 +53,7 @@ changed scopeSetUp g s body = withScope g (scope.scopeSetUp (s .ex) body)
 changed recorderSetUp g s body = withRecorder g (recorder.recorderSetUp (s .ex) body)
 changed recorderStart g s body = withRecorder g (recorder.recorderStarted (g .recorder))
 changed recorderStop g s body = withRecorder g (recorder.recorderHalted (g .recorder))
+changed commandSent g s body = withApplication g (waiting body)
 
 -- what is known where it is accepted
 abbrev pub Accepted : Change → Gate → Service → List ℕ → Type 0
@@ -59,6 +64,7 @@ Accepted scopeSetUp g s body = firstOf (scopeSetUpLines (s .ex) body) ≡ done
 Accepted recorderSetUp g s body = firstOf (recorderSetUpLines g (s .ex) body) ≡ done
 Accepted recorderStart g s body = recorder.recorderAbsent (g .recorder) ≡ false
 Accepted recorderStop g s body = recorder.recorderAbsent (g .recorder) ≡ false
+Accepted commandSent g s body = firstOf (sendLines g body) ≡ done
 
 -- what is known where it is refused
 abbrev pub Refused : Change → Gate → Service → List ℕ → Type 0
@@ -69,6 +75,7 @@ Refused scopeSetUp g s body = firstOf (scopeSetUpLines (s .ex) body) ≡ done �
 Refused recorderSetUp g s body = firstOf (recorderSetUpLines g (s .ex) body) ≡ done → ⊥
 Refused recorderStart g s body = recorder.recorderAbsent (g .recorder) ≡ true
 Refused recorderStop g s body = recorder.recorderAbsent (g .recorder) ≡ true
+Refused commandSent g s body = firstOf (sendLines g body) ≡ done → ⊥
 
 -- whether it leaves the memory alone
 abbrev pub leavesMemory : Change → Bool
@@ -79,3 +86,4 @@ leavesMemory scopeSetUp = true
 leavesMemory recorderSetUp = true
 leavesMemory recorderStart = true
 leavesMemory recorderStop = true
+leavesMemory commandSent = true

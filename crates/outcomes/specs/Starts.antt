@@ -13,7 +13,7 @@ use Rattle.document.specs.Gate.{Gate}
 use Rattle.document.specs.Refusals.{refusal}
 use Rattle.document.specs.Commands.{answered}
 use Rattle.outcomes.specs.Changes.{Change, changeOf}
-use Rattle.outcomes.specs.Changes.Change.{nothing, store, maskedStore, scopeSetUp, recorderSetUp, recorderStart, recorderStop}
+use Rattle.outcomes.specs.Changes.Change.{nothing, store, maskedStore, scopeSetUp, recorderSetUp, recorderStart, recorderStop, commandSent}
 
 -- a setup, which "also starts", or a start while the recorder is stopped
 abbrev pub begins : Change → Bool → Bool
@@ -24,6 +24,7 @@ begins scopeSetUp runs = false
 begins recorderSetUp runs = true
 begins recorderStart runs = not runs
 begins recorderStop runs = false
+begins commandSent runs = false
 
 abbrev pub halts : Change → Bool
 halts nothing = false
@@ -33,6 +34,7 @@ halts scopeSetUp = false
 halts recorderSetUp = false
 halts recorderStart = false
 halts recorderStop = true
+halts commandSent = false
 
 -- an accepted start
 abbrev pub starts : Gate → Message → Bool

@@ -3,6 +3,9 @@ ghost use Prim.Native.Nat.{_≤_};
 ghost use Rattle.play.specs.Bounds.{Bounded};
 use crate::lengths::LENT;
 use crate::order::Order;
+use crate::shown::FILLING;
+use crate::shown::put_refusal;
+use crate::shown::put_written;
 use line::Written;
 use log_gate::LOG_GATE_READER;
 use log_gate::log_gate_reader_begin;
@@ -16,9 +19,6 @@ use script::output::put_decimal;
 use script::output::put_hex;
 use script::output::put_text;
 
-// Every lent buffer is filled so before a call, so that what a call leaves can be seen.
-const FILLING: u8 = 0xEE;
-
 fn written(letter: u8, code: u8, body: &[u8], lent: &mut [u8]) -> Written {
     if letter == b'W' {
         return log_gate_write_command(code, body, lent);
@@ -26,7 +26,6 @@ fn written(letter: u8, code: u8, body: &[u8], lent: &mut [u8]) -> Written {
     log_gate_write_answer(code, body, lent)
 }
 
-// What a writer did, and the whole lent buffer.
 fn put_writing(
     letter: u8,
     code: u8,
@@ -36,13 +35,7 @@ fn put_writing(
     at: usize,
 ) -> usize {
     let written = written(letter, code, body, lent);
-    let named = put(letter, out, at);
-    let parted = put(b' ', out, named);
-    let refused = put_decimal(written.refusal as u64, out, parted);
-    let again = put(b' ', out, refused);
-    let counted = put_decimal(written.length as u64, out, again);
-    let shown = put_bytes(lent, out, counted);
-    put(b'\n', out, shown)
+    put_written(letter, written, lent, out, at)
 }
 
 fn write(letter: u8, code: u8, body: &[u8], room: usize, out: &mut [u8; 65536], at: usize) -> usize
@@ -59,9 +52,7 @@ fn begin(
     at: usize,
 ) -> usize {
     let refusal = log_gate_reader_begin(reader, expected as usize);
-    let named = put_text(b"E ", out, at);
-    let refused = put_decimal(refusal as u64, out, named);
-    put(b'\n', out, refused)
+    put_refusal(b'E', refusal, out, at)
 }
 
 fn put_index(index: u64, refusal: u8, out: &mut [u8; 65536], at: usize) -> usize {

@@ -18,7 +18,9 @@ pub const RANGE: u8 = 5;
 
 pub const ROOM: u8 = 6;
 
-pub const LENGTH: u8 = 7;
+pub const WIDE: u8 = 7;
+
+pub const LENGTH: u8 = 8;
 
 fn put_reason(wrong: u8, out: &mut [u8; 65536], at: usize) -> usize {
     match wrong {
@@ -28,6 +30,7 @@ fn put_reason(wrong: u8, out: &mut [u8; 65536], at: usize) -> usize {
         SURPLUS => put_text(b"there is a word too many", out, at),
         RANGE => put_text(b"the memory has no such bytes", out, at),
         ROOM => put_text(b"the room is above 600", out, at),
+        WIDE => put_text(b"the room is above 65535", out, at),
         _ => put_text(b"the line is too long", out, at),
     }
 }

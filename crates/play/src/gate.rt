@@ -1,8 +1,10 @@
-// The orders to the gate: bytes over the wire, ticks, what its own program writes, and a look at its memory.
+// The orders to the gate: bytes over the wire, ticks, what its own program does, and a look at its memory.
 ghost use Prim.Native.Nat.{_≤_};
 ghost use lib.ListN.{length};
 ghost use Rattle.play.specs.Bounds.{Bounded};
 use crate::order::Order;
+use crate::program::collect;
+use crate::program::report;
 use adler::adler32;
 use log_gate::LOG_GATE_ANSWER_ROOM;
 use log_gate::LOG_GATE_MEMORY;
@@ -87,7 +89,7 @@ fn put_part(start: usize, end: usize, memory: &[u8], out: &mut [u8; 65536], at: 
     put(b'\n', out, shown)
 }
 
-// An order that begins with B, T, P or M; `first` is how many bytes the gate was given before. Where the output ends.
+// An order that begins with B, T, P, C, Y or M; `first` is how many bytes the gate was given before. Where the output ends.
 pub fn carry_out(
     order: Order,
     first: u64,
@@ -110,6 +112,8 @@ pub fn carry_out(
             poke(order.start, bytes, memory);
             at
         }
+        b'C' => collect(order.wide, state, out, at),
+        b'Y' => report(order.code, state, out, at),
         _ => put_part(order.start, order.end, memory, out, at),
     }
 }

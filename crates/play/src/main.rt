@@ -5,6 +5,8 @@ mod gate;
 mod lengths;
 mod order;
 mod play;
+mod program;
+mod shown;
 
 ghost use Rattle.play.specs.Bounds.{Bounded};
 use complaint::complain;

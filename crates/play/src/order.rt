@@ -7,8 +7,10 @@ use crate::complaint::OPERATION;
 use crate::complaint::RANGE;
 use crate::complaint::ROOM;
 use crate::complaint::SURPLUS;
+use crate::complaint::WIDE;
 use crate::lengths::BYTES;
 use crate::lengths::LENT;
+use crate::lengths::WIDEST;
 use log_gate::LOG_GATE_MEMORY;
 use words::operands::ByteRead;
 use words::operands::NumberRead;
@@ -26,14 +28,15 @@ pub struct Order {
     pub wrong: u8,
     // what is to be done
     pub letter: u8,
-    // a command, or the status of an answer
+    // a command, the status of an answer, or a result
     pub code: u8,
     // how many ticks, or how many data are expected
     pub number: u64,
     // how many bytes the line gives
     pub count: usize,
-    // how much of a buffer is lent
+    // how much of a buffer is lent; so much where a room has no limit of its own
     pub room: usize,
+    pub wide: usize,
     // the part of the memory that is meant
     pub start: usize,
     pub end: usize,
@@ -49,6 +52,7 @@ fn order_of(letter: u8, wrong: u8) -> Order
         number: 0,
         count: 0,
         room: 0,
+        wide: 0,
         start: 0,
         end: 0,
     }
@@ -118,6 +122,39 @@ fn with_number(order: Order, line: &[u8], from: usize) -> Order
     numbered
 }
 
+// `C room`
+fn with_wide(order: Order, line: &[u8], from: usize) -> Order
+    requires { ⌜ Bounded order ⌝ }
+    ensures { λ r. ⌜ Bounded r ⌝ }
+{
+    let numbered = with_number(order, line, from);
+    if numbered.wrong != NONE {
+        return numbered;
+    }
+    if numbered.number > WIDEST as u64 {
+        return refused(WIDE);
+    }
+    let mut lending = order;
+    lending.wide = numbered.number as usize;
+    lending
+}
+
+// `Y hh`
+fn with_result(order: Order, line: &[u8], from: usize) -> Order
+    requires { ⌜ Bounded order ⌝ }
+    ensures { λ r. ⌜ Bounded r ⌝ }
+{
+    let ByteRead::Is { value, next } = read_byte(line, from) else {
+        return refused(BYTE);
+    };
+    if !is_over(line, next) {
+        return refused(SURPLUS);
+    }
+    let mut coded = order;
+    coded.code = value;
+    coded
+}
+
 // So many bytes of the memory from a place on, if it has them all.
 fn with_part(order: Order, from: u64, count: u64) -> Order
     requires { ⌜ Bounded order ⌝ }
@@ -175,6 +212,8 @@ fn with_operands(letter: u8, line: &[u8], from: usize, bytes: &mut [u8; BYTES]) 
         b'R' => with_room(order, line, from, bytes),
         b'W' | b'V' => with_code(order, line, from, bytes),
         b'T' | b'E' => with_number(order, line, from),
+        b'C' => with_wide(order, line, from),
+        b'Y' => with_result(order, line, from),
         b'M' => with_look(order, line, from),
         _ => refused(OPERATION),
     }

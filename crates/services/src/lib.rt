@@ -21,8 +21,10 @@ use answers::unserved;
 use blocks::BODY;
 use document::Operation;
 use document::Service;
+use instruments::command_result;
 use instruments::query_buffer;
 use instruments::read_scope;
+use instruments::send_command;
 use instruments::set_up_recorder;
 use instruments::set_up_scope;
 use instruments::start;
@@ -57,5 +59,7 @@ pub fn serve(
         Operation::Stop => stop(state),
         Operation::Status => status(state),
         Operation::QueryBuffer => query_buffer(state, service, out),
+        Operation::SendCommand => send_command(state, to),
+        Operation::CommandResult => command_result(state, out),
     }
 }

@@ -1,13 +1,15 @@
 -- Two sound states that differ in anything that is looked at stand for different gates: what a state stands for hides nothing.
 use mathlib.Core.Path.{_≡_, refl, sym, ap, _∙_}
-use mathlib.Core.Bool.{true}
-use mathlib.Core.List.{List}
+use mathlib.Core.Bool.{true, not, _&&_}
+use mathlib.Core.List.{List, _++_}
 use Prim.Native.Nat.{ℕ}
-use borrow.Author.Tests.{eqb-true}
-use lib.Dec.{eqb}
-use lib.ListN.{take}
+use native.Mathlib.Omega.{arith}
+use borrow.Author.Tests.{eqb-true, eqb-false, leb-true}
+use lib.Dec.{eqb, leb}
+use lib.ListN.{length, replicate, take, drop, length-take}
+use Rattle.document.specs.Numbers.{mostData}
 use Rattle.document.specs.declared.Variable.{Variable}
-use Rattle.document.proofs.Cases.{split}
+use Rattle.document.proofs.Cases.{split, and-left, and-right}
 use Rattle.variables.specs.State.{kept}
 use Rattle.scope.specs.declared.Scope.{Scope}
 use Rattle.scope.specs.State.{scopeOf}
@@ -17,8 +19,10 @@ use Rattle.recorder.specs.declared.state.Recorder.{Recorder}
 use Rattle.recorder.specs.State.{recorderOf}
 use Rattle.recorder.specs.Bounds.{sound}
 use Rattle.recorder.proofs.Keeps.{sound-parts}
+use Rattle.application.specs.State.{isNone, isWaiting, isCollected, isEnded, Command, applicationOf}
+use Rattle.application.specs.State as application
 use Rattle.state.specs.State.{Instruments, gateOf}
-use Rattle.state.specs.Looked.{lookedScope, lookedRecorder, looked, scopeKept, recorderKept, instrumentsKept}
+use Rattle.state.specs.Looked.{lookedScope, lookedRecorder, looked, scopeKept, recorderKept, lookedCommand, commandKept, instrumentsKept}
 
 scope-back : (s : Scope) → scopeKept (scopeOf s) ≡ lookedScope s
 scope-back s =
@@ -36,12 +40,37 @@ recorder-back r within =
     let run = run-again (r .plan) (r .run) (parts .run) in
     rw some (λ i. record { ready = sym ready i; plan = planKept (planOf (r .plan)) (kept (planOf (r .plan) .variables)); run = run i }))
 
-module _ (i : Instruments) (within : sound (i .recorder) ≡ true) (memory : List ℕ) where
+command-back : (c : Command) → application.sound c ≡ true → length (c .bytes) ≡ mostData → commandKept (applicationOf c) ≡ lookedCommand c
+unfolding application.sound
+command-back c within size =
+    split (eqb (c .phase) isWaiting)
+    (λ waits.
+    let phase = eqb-true (c .phase) isWaiting waits in
+    let few = leb-true (c .count) mostData (and-right (not (eqb (c .count) 0)) (leb (c .count) mostData) (rw phase at within)) in
+    let counted : length (take (c .count) (c .bytes)) ≡ c .count = simp length-take (omega (arith, few, size)) in
+    rw phase (λ i. record { phase = isWaiting; count = counted i; result = 0; bytes = take (c .count) (c .bytes) ++ drop (counted i) (replicate mostData 0) }))
+    (λ passed.
+    split (eqb (c .phase) isNone)
+    (λ no. rw (eqb-true (c .phase) isNone no) refl)
+    (λ some.
+    split (eqb (c .phase) isCollected)
+    (λ done. rw (eqb-true (c .phase) isCollected done) refl)
+    (λ over.
+    let most = leb-true (c .phase) isEnded (and-left (leb (c .phase) isEnded) _ within) in
+    let phase : c .phase ≡ isEnded = omega (arith, most, eqb-false (c .phase) isWaiting passed, eqb-false (c .phase) isNone some, eqb-false (c .phase) isCollected over) in
+    rw phase refl)))
+
+pub record Sound (i : Instruments) : Type 0 where
+  pub recorder : sound (i .recorder) ≡ true
+  pub application : application.sound (i .application) ≡ true
+  pub size : length (i .application .bytes) ≡ mostData
+
+module _ (i : Instruments) (within : Sound i) (memory : List ℕ) where
   -- all that is looked at can be read off the gate
   pub instruments-back : instrumentsKept (gateOf i memory) ≡ looked i
-  instruments-back = λ j. record { scope = scope-back (i .scope) j; recorder = recorder-back (i .recorder) within j }
+  instruments-back = λ j. record { scope = scope-back (i .scope) j; recorder = recorder-back (i .recorder) (within .recorder) j; application = command-back (i .application) (within .application) (within .size) j }
 
-pub gates-apart : (i j : Instruments) → sound (i .recorder) ≡ true → sound (j .recorder) ≡ true → (memory : List ℕ)
+pub gates-apart : (i j : Instruments) → Sound i → Sound j → (memory : List ℕ)
     → gateOf i memory ≡ gateOf j memory → looked i ≡ looked j
 gates-apart i j within-i within-j memory same =
     sym (instruments-back i within-i memory) ∙ ap instrumentsKept same ∙ instruments-back j within-j memory

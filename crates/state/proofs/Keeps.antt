@@ -5,7 +5,8 @@ use mathlib.Core.List.{List, []}
 use Prim.Native.Nat.{ℕ, _+_, _*_, _^_, _<_, _≤_}
 use native.Mathlib.Omega.{arith}
 use lib.Dec.{eqb}
-use lib.ListN.{length, take, drop}
+use lib.ListN.{length, take, drop, length-append, length-drop}
+use Rattle.document.specs.Numbers.{mostData}
 use Rattle.document.specs.Areas.{memoryEnd, bytesAt}
 use Rattle.document.specs.Bytes.{AllBytes}
 use Rattle.document.specs.Stores.{stored}
@@ -30,12 +31,14 @@ use Rattle.ticks.specs.Tick.{tickedState}
 use Rattle.recorder.proofs.Answers as recorder-answers
 use Rattle.recorder.proofs.Keeps as recorder-keeps
 use Rattle.ticks.proofs.Ticked.{ticked-sound}
+use Rattle.application.specs.State.{isWaiting, Command, sentCommand, collectedCommand, endedCommand}
+use Rattle.application.proofs.Means.{fresh-sound, sent-sound, collected-sound, ended-sound}
 use Rattle.state.specs.State.{Target}
 use Rattle.state.specs.Bounds.{sound, fresh}
 use Rattle.state.specs.Widths.{TargetFits}
-use Rattle.state.specs.Within.{ScopeWithin, RecorderWithin, MemoryWithin, LinkWithin, Within}
+use Rattle.state.specs.Within.{ScopeWithin, RecorderWithin, CommandWithin, MemoryWithin, LinkWithin, Within}
 use Rattle.state.proofs.Parts.{whole-of}
-use Rattle.state.proofs.ByteLaws.{take-short, all-sets, all-take, all-range, all-values, all-zeros, number-below}
+use Rattle.state.proofs.ByteLaws.{take-short, all-sets, all-take, all-range, all-values, all-zeros, number-below, all-append, all-drop}
 use Rattle.state.proofs.Fits.{scope-fit, set-up-fit, started-fit, halted-fit, ticked-fit, kept-fit, no-recorder-fit}
 
 -- ---- the numbers that bytes of the memory or a message hold
@@ -97,15 +100,34 @@ memory-ticked (planned p r) m good =
     (λ waits. rw (runs, waits) good))
     (λ still. rw still good)
 
+-- ---- an application command
+
+pub command-sent : (c : Command) (body : List ℕ) → CommandWithin c → AllBytes body → (length body ≡ 0 → ⊥) → length body ≤ mostData → CommandWithin (sentCommand body c)
+command-sent c body w all some few =
+    record {
+      sound = sent-sound body c some few;
+      size = simp (length-append, length-drop) (omega (arith, few, w .size));
+      bytes = all-append body (drop (length body) (c .bytes)) all (all-drop (length body) (c .bytes) (w .bytes));
+    }
+
+pub command-collected : (c : Command) → CommandWithin c → CommandWithin (collectedCommand c)
+command-collected c w =
+    split (eqb (c .phase) isWaiting)
+    (λ waits. rw waits (record { sound = collected-sound c; size = w .size; bytes = w .bytes }))
+    (λ passed. rw passed w)
+
+pub command-ended : (c : Command) (result : ℕ) → CommandWithin c → result ≤ 0xFD → CommandWithin (endedCommand result c)
+command-ended c result w small = record { sound = ended-sound result c small; size = w .size; bytes = w .bytes }
+
 -- ---- the whole
 
 module _ (t : Target) (memory : List ℕ) (w : Within t memory) where
   pub within-sound : sound t ≡ true
   within-sound =
-      whole-of t (record { receiver = w .link-part .receiver; scope-part = w .scope-part .sound; recorder-part = w .recorder-part .sound })
+      whole-of t (record { receiver = w .link-part .receiver; scope-part = w .scope-part .sound; recorder-part = w .recorder-part .sound; application-part = w .application-part .sound })
 
   pub within-fits : TargetFits t
-  within-fits = record { body = w .link-part .size; scope = w .scope-part .fits; recorder = w .recorder-part .fits }
+  within-fits = record { body = w .link-part .size; scope = w .scope-part .fits; recorder = w .recorder-part .fits; application = w .application-part .size }
 
 -- at reset
 pub within-reset : (memory : List ℕ) → MemoryWithin memory → Within fresh memory
@@ -114,5 +136,6 @@ within-reset memory good =
       link-part = record { receiver = reset-sound; command = omega arith; size = refl; body = all-zeros 64 };
       scope-part = record { sound = new-scope; fits = kept-fit [] tt };
       recorder-part = record { sound = recorder-answers.new-sound; fits = no-recorder-fit };
+      application-part = record { sound = fresh-sound; size = refl; bytes = all-zeros 64 };
       memory-part = good;
     }

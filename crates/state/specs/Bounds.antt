@@ -6,11 +6,12 @@ use Rattle.link.specs.Bounds as link
 use Rattle.scope.specs.State as scope
 use Rattle.recorder.specs.State as recorder
 use Rattle.recorder.specs.Bounds as recorder-bounds
+use Rattle.application.specs.State as application
 use Rattle.state.specs.State.{Target}
 
 -- "1 a state outside the bounds listed in docs/" is about the whole state, at every call
 unfoldable pub sound : Target → Bool
-sound t = link.sound (t .receiver) && (scope.sound (t .instruments .scope) && recorder-bounds.sound (t .instruments .recorder))
+sound t = link.sound (t .receiver) && (scope.sound (t .instruments .scope) && (recorder-bounds.sound (t .instruments .recorder) && application.sound (t .instruments .application)))
 
 -- reset: an idle link, and nothing set up
 abbrev pub fresh : Target
@@ -18,5 +19,5 @@ fresh =
     record {
       receiver = link.fresh;
       body = replicate mostData 0;
-      instruments = record { scope = scope.noScope; recorder = recorder.noRecorder };
+      instruments = record { scope = scope.noScope; recorder = recorder.noRecorder; application = application.noCommand };
     }

@@ -1,6 +1,11 @@
 -- What of a state is looked at: the definitions behind a count are not, nor a plan and a run that nobody set up.
 use mathlib.Core.Bool.{cond}
 use lib.Dec.{eqb}
+use mathlib.Core.List.{_++_}
+use lib.ListN.{replicate, take, drop}
+use Rattle.document.specs.Numbers.{mostData}
+use Rattle.document.specs.Application.{Application}
+use Rattle.document.specs.Application.Application.{none, waiting, collected, ended}
 use Rattle.document.specs.Scope.{Scope as DocumentScope}
 use Rattle.document.specs.Scope.Scope.{absent, watching}
 use Rattle.document.specs.Recorder.{Recorder as DocumentRecorder}
@@ -13,6 +18,7 @@ use Rattle.plans.specs.State.{planOf, planKept}
 use Rattle.runs.specs.State.{runKept}
 use Rattle.recorder.specs.declared.state.Recorder.{Recorder}
 use Rattle.recorder.specs.State.{noRecorder}
+use Rattle.application.specs.State.{isWaiting, isCollected, isEnded, Command, noCommand, sentCommand, endedCommand}
 use Rattle.state.specs.State.{Instruments}
 
 -- the same with zeros where nothing is looked at
@@ -28,8 +34,15 @@ lookedRecorder r =
       run = r .run;
     })
 
+-- of a command its count and bytes while it waits, its result when it is in
+abbrev pub lookedCommand : Command → Command
+lookedCommand c =
+    cond (eqb (c .phase) isWaiting)
+    (record { phase = c .phase; count = c .count; result = 0; bytes = take (c .count) (c .bytes) ++ drop (c .count) (replicate mostData 0) })
+    (record { phase = c .phase; count = 0; result = cond (eqb (c .phase) isEnded) (c .result) 0; bytes = replicate mostData 0 })
+
 abbrev pub looked : Instruments → Instruments
-looked i = record { scope = lookedScope (i .scope); recorder = lookedRecorder (i .recorder) }
+looked i = record { scope = lookedScope (i .scope); recorder = lookedRecorder (i .recorder); application = lookedCommand (i .application) }
 
 -- ---- back from what a state stands for
 
@@ -41,5 +54,11 @@ abbrev pub recorderKept : DocumentRecorder → Recorder
 recorderKept no-setup = noRecorder
 recorderKept (planned p r) = record { ready = 1; plan = planKept p (kept (p .variables)); run = runKept r }
 
+abbrev pub commandKept : Application → Command
+commandKept none = noCommand
+commandKept (waiting command) = sentCommand command noCommand
+commandKept collected = record { phase = isCollected; count = 0; result = 0; bytes = replicate mostData 0 }
+commandKept (ended result) = endedCommand result noCommand
+
 abbrev pub instrumentsKept : Gate → Instruments
-instrumentsKept g = record { scope = scopeKept (g .scope); recorder = recorderKept (g .recorder) }
+instrumentsKept g = record { scope = scopeKept (g .scope); recorder = recorderKept (g .recorder); application = commandKept (g .application) }

@@ -7,11 +7,13 @@ use Rattle.scope.specs.declared.Scope.{Scope}
 use Rattle.scope.specs.State.{scopeOf}
 use Rattle.recorder.specs.declared.state.Recorder.{Recorder}
 use Rattle.recorder.specs.State.{recorderOf}
+use Rattle.application.specs.State.{Command, applicationOf}
 
 -- what is set up
 pub record Instruments : Type 0 where
   pub scope : Scope
   pub recorder : Recorder
+  pub application : Command
 
 -- the receiver, the data of the message it is in, and what is set up
 pub record Target : Type 0 where
@@ -21,4 +23,4 @@ pub record Target : Type 0 where
 
 -- what is set up, with the memory that is lent
 abbrev pub gateOf : Instruments → List ℕ → Gate
-gateOf i memory = record { memory = memory; scope = scopeOf (i .scope); recorder = recorderOf (i .recorder) }
+gateOf i memory = record { memory = memory; scope = scopeOf (i .scope); recorder = recorderOf (i .recorder); application = applicationOf (i .application) }

@@ -34,3 +34,4 @@ pub record TargetFits (t : Target) : Type 0 where
   pub body : length (t .body) ≡ mostData
   pub scope : VariablesFit (t .instruments .scope .variables)
   pub recorder : RecorderFits (t .instruments .recorder)
+  pub application : length (t .instruments .application .bytes) ≡ mostData

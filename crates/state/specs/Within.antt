@@ -12,6 +12,8 @@ use Rattle.scope.specs.declared.Scope.{Scope}
 use Rattle.scope.specs.State as scope
 use Rattle.recorder.specs.declared.state.Recorder.{Recorder}
 use Rattle.recorder.specs.Bounds as recorder
+use Rattle.application.specs.State as application
+use Rattle.application.specs.State.{Command}
 use Rattle.state.specs.State.{Target}
 use Rattle.state.specs.Widths.{VariablesFit, RecorderFits}
 
@@ -22,6 +24,11 @@ pub record ScopeWithin (s : Scope) : Type 0 where
 pub record RecorderWithin (r : Recorder) : Type 0 where
   pub sound : recorder.sound r ≡ true
   pub fits : RecorderFits r
+
+pub record CommandWithin (c : Command) : Type 0 where
+  pub sound : application.sound c ≡ true
+  pub size : length (c .bytes) ≡ mostData
+  pub bytes : AllBytes (c .bytes)
 
 pub record MemoryWithin (m : List ℕ) : Type 0 where
   pub size : length m ≡ memoryEnd
@@ -37,4 +44,5 @@ pub record Within (t : Target) (memory : List ℕ) : Type 0 where
   pub link-part : LinkWithin t
   pub scope-part : ScopeWithin (t .instruments .scope)
   pub recorder-part : RecorderWithin (t .instruments .recorder)
+  pub application-part : CommandWithin (t .instruments .application)
   pub memory-part : MemoryWithin memory

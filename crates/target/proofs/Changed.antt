@@ -1,10 +1,10 @@
 -- What a service leaves of scope and recorder: it stands for the gate that the definition leaves, and is within its bounds.
 use mathlib.Core.Path.{_≡_, refl, ap}
 use mathlib.Core.List.{List}
-use Prim.Native.Nat.{ℕ}
+use Prim.Native.Nat.{ℕ, _≤_}
 use borrow.Author.Tests.{ne-eqb}
 use lib.ListN.{length}
-use Rattle.document.specs.Numbers.{done}
+use Rattle.document.specs.Numbers.{mostData, done}
 use Rattle.document.specs.Bytes.{AllBytes}
 use Rattle.document.specs.Areas.{bytesAt}
 use Rattle.document.specs.Fields.{sizeField, addressField, dataPlace, dataField, maskField}
@@ -20,13 +20,15 @@ use Rattle.recorder.specs.State.{recorderOf}
 use Rattle.recorder.proofs.Answers.{set-up-means}
 use Rattle.recorder.proofs.Meanings.{started-means, halted-means}
 use Rattle.outcomes.specs.Changes.{Change, changeOf, changed, Accepted, Refused}
-use Rattle.outcomes.specs.Changes.Change.{nothing, store, maskedStore, scopeSetUp, recorderSetUp, recorderStart, recorderStop}
+use Rattle.outcomes.specs.Changes.Change.{nothing, store, maskedStore, scopeSetUp, recorderSetUp, recorderStart, recorderStop, commandSent}
 use Rattle.outcomes.proofs.Served.{served-either, served-memory}
+use Rattle.application.specs.State.{applicationOf}
+use Rattle.application.proofs.Sending.{send-refused, send-means, send-either}
 use Rattle.state.specs.State.{Instruments, gateOf}
 use Rattle.target.specs.After.{instrumentsChanged, instrumentsAfter}
-use Rattle.state.specs.Within.{ScopeWithin, RecorderWithin, MemoryWithin}
+use Rattle.state.specs.Within.{ScopeWithin, RecorderWithin, CommandWithin, MemoryWithin}
 use Rattle.state.proofs.ByteLaws.{all-range, all-masked}
-use Rattle.state.proofs.Keeps.{scope-set-up, recorder-set-up, recorder-started, recorder-halted, memory-stored}
+use Rattle.state.proofs.Keeps.{scope-set-up, recorder-set-up, recorder-started, recorder-halted, memory-stored, command-sent}
 
 module _ (i : Instruments) (memory : List ℕ) (s : Service) (body : List ℕ) where
   abbrev g : Gate
@@ -37,10 +39,11 @@ module _ (i : Instruments) (memory : List ℕ) (s : Service) (body : List ℕ) w
   refused-kept nothing r = refl
   refused-kept store r = refl
   refused-kept maskedStore r = refl
-  refused-kept scopeSetUp r = λ j. record { scope = next-refused (s .ex) body (i .scope) r j; recorder = i .recorder }
+  refused-kept scopeSetUp r = λ j. record { scope = next-refused (s .ex) body (i .scope) r j; recorder = i .recorder; application = i .application }
   refused-kept recorderSetUp r = rw (ne-eqb (recorder.setUpStatus (recorderOf (i .recorder)) (s .ex) body) done r) refl
   refused-kept recorderStart r = rw r refl
   refused-kept recorderStop r = rw r refl
+  refused-kept commandSent r = λ j. record { scope = i .scope; recorder = i .recorder; application = send-refused body (i .application) g refl r j }
 
   accepted-kept : (c : Change) → Accepted c g s body → gateOf (instrumentsChanged c i s body) (changed c g s body .memory) ≡ changed c g s body
   unfolding scope.setUpStatus recorder.setUpStatus
@@ -48,13 +51,15 @@ module _ (i : Instruments) (memory : List ℕ) (s : Service) (body : List ℕ) w
   accepted-kept store a = refl
   accepted-kept maskedStore a = refl
   accepted-kept scopeSetUp a =
-      λ j. record { memory = memory; scope = set-up-scope (s .ex) body (i .scope) a j; recorder = recorderOf (i .recorder) }
+      λ j. record { memory = memory; scope = set-up-scope (s .ex) body (i .scope) a j; recorder = recorderOf (i .recorder); application = applicationOf (i .application) }
   accepted-kept recorderSetUp a =
-      λ j. record { memory = memory; scope = scopeOf (i .scope); recorder = set-up-means (i .recorder) (s .ex) body a j }
+      λ j. record { memory = memory; scope = scopeOf (i .scope); recorder = set-up-means (i .recorder) (s .ex) body a j; application = applicationOf (i .application) }
   accepted-kept recorderStart a =
-      λ j. record { memory = memory; scope = scopeOf (i .scope); recorder = started-means (i .recorder) j }
+      λ j. record { memory = memory; scope = scopeOf (i .scope); recorder = started-means (i .recorder) j; application = applicationOf (i .application) }
   accepted-kept recorderStop a =
-      λ j. record { memory = memory; scope = scopeOf (i .scope); recorder = halted-means (i .recorder) j }
+      λ j. record { memory = memory; scope = scopeOf (i .scope); recorder = halted-means (i .recorder) j; application = applicationOf (i .application) }
+  accepted-kept commandSent a =
+      λ j. record { memory = memory; scope = scopeOf (i .scope); recorder = recorderOf (i .recorder); application = send-means body (i .application) g refl a j }
 
   pub served-kept : gateOf (instrumentsAfter (s .operation) i s body) (served g s body .gate .memory) ≡ served g s body .gate
   served-kept =
@@ -73,6 +78,7 @@ module _ (i : Instruments) (s : Service) (body : List ℕ) (all : AllBytes body)
   scope-changed recorderSetUp w = w
   scope-changed recorderStart w = w
   scope-changed recorderStop w = w
+  scope-changed commandSent w = w
 
   pub recorder-changed : (c : Change) → RecorderWithin (i .recorder) → RecorderWithin (instrumentsChanged c i s body .recorder)
   recorder-changed nothing w = w
@@ -82,6 +88,18 @@ module _ (i : Instruments) (s : Service) (body : List ℕ) (all : AllBytes body)
   recorder-changed recorderSetUp w = recorder-set-up (s .ex) body all (i .recorder) w
   recorder-changed recorderStart w = recorder-started (i .recorder) w
   recorder-changed recorderStop w = recorder-halted (i .recorder) w
+  recorder-changed commandSent w = w
+
+  pub application-changed : (c : Change) → length body ≤ mostData → CommandWithin (i .application) → CommandWithin (instrumentsChanged c i s body .application)
+  application-changed nothing few w = w
+  application-changed store few w = w
+  application-changed maskedStore few w = w
+  application-changed scopeSetUp few w = w
+  application-changed recorderSetUp few w = w
+  application-changed recorderStart few w = w
+  application-changed recorderStop few w = w
+  application-changed commandSent few w =
+      send-either body (i .application) CommandWithin w (λ some. command-sent (i .application) body w all some few)
 
 pub memory-served : (g : Gate) (s : Service) (body : List ℕ) → AllBytes body → MemoryWithin (g .memory) → MemoryWithin (served g s body .gate .memory)
 memory-served g s body all w =

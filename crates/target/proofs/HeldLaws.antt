@@ -1,7 +1,8 @@
 -- What is held of a message, answered: the structs stand for the gate that is left, and everything is within bounds.
 use mathlib.Core.Path.{_≡_, refl}
 use mathlib.Core.List.{List}
-use Prim.Native.Nat.{ℕ}
+use Prim.Native.Nat.{ℕ, _≤_}
+use lib.ListN.{length}
 use lib.Dec.{eqb, ltb}
 use Rattle.document.specs.Numbers.{mostData}
 use Rattle.document.specs.Bytes.{AllBytes}
@@ -14,8 +15,8 @@ use Rattle.outcomes.specs.Changes.{changeOf}
 use Rattle.state.specs.State.{Instruments, gateOf}
 use Rattle.target.specs.After.{instrumentsAfter}
 use Rattle.target.specs.AnsweredHeld.{answeredHeld, instrumentsHeld}
-use Rattle.state.specs.Within.{ScopeWithin, RecorderWithin, MemoryWithin}
-use Rattle.target.proofs.Changed.{served-kept, scope-changed, recorder-changed, memory-served}
+use Rattle.state.specs.Within.{ScopeWithin, RecorderWithin, CommandWithin, MemoryWithin}
+use Rattle.target.proofs.Changed.{served-kept, scope-changed, recorder-changed, application-changed, memory-served}
 
 pub held-kept : (i : Instruments) (memory : List ℕ) (h : Held)
     → gateOf (instrumentsHeld i h) (answeredHeld (gateOf i memory) h .gate .memory) ≡ answeredHeld (gateOf i memory) h .gate
@@ -46,6 +47,10 @@ module _ (i : Instruments) (h : Held) where
     pub recorder-within : RecorderWithin (i .recorder) → RecorderWithin (instrumentsHeld i h .recorder)
     recorder-within w =
         instruments-held (λ (k : Instruments). RecorderWithin (k .recorder)) w (recorder-changed i s (h .kept) all (changeOf (s .operation)) w)
+
+    pub application-within : length (h .kept) ≤ mostData → CommandWithin (i .application) → CommandWithin (instrumentsHeld i h .application)
+    application-within few w =
+        instruments-held (λ (k : Instruments). CommandWithin (k .application)) w (application-changed i s (h .kept) all (changeOf (s .operation)) few w)
 
 pub memory-within : (g : Gate) (h : Held) → AllBytes (h .kept) → MemoryWithin (g .memory) → MemoryWithin (answeredHeld g h .gate .memory)
 unfolding answeredHeld

@@ -2,8 +2,9 @@
 use mathlib.Core.Path.{_≡_, refl, sym, ap, subst, _∙_}
 use mathlib.Core.Bool.{true}
 use mathlib.Core.List.{List, []}
-use Prim.Native.Nat.{ℕ, _<_}
-use lib.ListN.{length, set, length-set}
+use Prim.Native.Nat.{ℕ, _<_, _≤_}
+use native.Mathlib.Omega.{arith}
+use lib.ListN.{length, set, length-set, length-take}
 use Rattle.document.specs.Numbers.{mostData}
 use Rattle.document.specs.Bytes.{AllBytes}
 use Rattle.link.specs.declared.Event.{Event}
@@ -16,7 +17,7 @@ use Rattle.state.specs.State.{Target, gateOf}
 use Rattle.state.specs.Within.{MemoryWithin, LinkWithin, Within}
 use Rattle.state.proofs.ByteLaws.{all-set, all-take}
 use Rattle.target.specs.AnsweredHeld.{answeredHeld, instrumentsHeld}
-use Rattle.target.proofs.HeldLaws.{scope-within, recorder-within, memory-within}
+use Rattle.target.proofs.HeldLaws.{scope-within, recorder-within, application-within, memory-within}
 use Rattle.target.specs.Turn.{Turn, keeping, heldBy, turn}
 use Rattle.target.proofs.TurnLaws.{nextOf, by-event}
 
@@ -39,7 +40,7 @@ module _ (t : Target) (memory buffer : List ℕ) (w : Within t memory) (b : ℕ)
       by : (e : Event) → stepped (t .receiver) b .event ≡ e → Within (turn t b memory buffer .next) (turn t b memory buffer .memory)
       by Nothing e =
           subst (λ (u : Turn). Within (u .next) (u .memory)) (sym (by-event t b memory buffer Nothing e))
-          (record { link-part = link-next; scope-part = w .scope-part; recorder-part = w .recorder-part; memory-part = w .memory-part })
+          (record { link-part = link-next; scope-part = w .scope-part; recorder-part = w .recorder-part; application-part = w .application-part; memory-part = w .memory-part })
       by (Keep at v) e =
           subst (λ (u : Turn). Within (u .next) (u .memory)) (sym (by-event t b memory buffer (Keep at v) e))
           (record {
@@ -52,15 +53,18 @@ module _ (t : Target) (memory buffer : List ℕ) (w : Within t memory) (b : ℕ)
                 };
             scope-part = w .scope-part;
             recorder-part = w .recorder-part;
+            application-part = w .application-part;
             memory-part = w .memory-part;
           })
       by (Whole c n sum) e =
           let H : Held = heldBy next c n sum in
           let all : AllBytes (H .kept) = all-take n (t .body) (w .link-part .body) in
+          let few : length (H .kept) ≤ mostData = simp length-take (omega (arith, w .link-part .size)) in
           subst (λ (u : Turn). Within (u .next) (u .memory)) (sym (by-event t b memory buffer (Whole c n sum) e))
           (record {
             link-part = record { receiver = link-next .receiver; command = link-next .command; size = link-next .size; body = link-next .body };
             scope-part = scope-within (t .instruments) H all (w .scope-part);
             recorder-part = recorder-within (t .instruments) H all (w .recorder-part);
+            application-part = application-within (t .instruments) H all few (w .application-part);
             memory-part = memory-within (gateOf (t .instruments) memory) H all (w .memory-part);
           })

@@ -21,7 +21,7 @@ tickedTarget t memory =
       receiver = t .receiver;
       body = t .body;
       instruments =
-          record { scope = t .instruments .scope; recorder = tickedState (t .instruments .recorder) memory };
+          record { scope = t .instruments .scope; recorder = tickedState (t .instruments .recorder) memory; application = t .instruments .application };
     }
 
 pub record TickTaken (block memory : List ℕ) (r : ℕ) (after left : List ℕ) : Type 0 where

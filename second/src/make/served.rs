@@ -5,16 +5,18 @@ use super::Maker;
 use crate::line::{stuffed, START};
 
 /// The commands served that have a length byte.
-const STANDARD: [u8; 10] = [0x01, 0x02, 0x03, 0x04, 0x05, 0x06, 0x08, 0x09, 0x0A, 0x0B];
+const STANDARD: [u8; 11] = [
+    0x01, 0x02, 0x03, 0x04, 0x05, 0x06, 0x08, 0x09, 0x0A, 0x0B, 0x10,
+];
 
 /// The commands served that have none.
-const FAST: [u8; 19] = [
-    0xC0, 0xC1, 0xC2, 0xC3, 0xC4, 0xC5, 0xC8, 0xC9, 0xD0, 0xD1, 0xD2, 0xE0, 0xE1, 0xE2, 0xE3, 0xE4,
-    0xE5, 0xF0, 0xF1,
+const FAST: [u8; 20] = [
+    0xC0, 0xC1, 0xC2, 0xC3, 0xC4, 0xC5, 0xC6, 0xC8, 0xC9, 0xD0, 0xD1, 0xD2, 0xE0, 0xE1, 0xE2, 0xE3,
+    0xE4, 0xE5, 0xF0, 0xF1,
 ];
 
 /// Commands that are not served, of either kind.
-const OTHER: [u8; 6] = [0x00, 0x10, 0x7F, 0xBF, 0xC6, 0xFF];
+const OTHER: [u8; 6] = [0x00, 0x11, 0x7F, 0xBF, 0xC7, 0xFF];
 
 /// The bytes of an address in a standard command.
 pub fn width(command: u8) -> usize {
@@ -41,7 +43,8 @@ impl Maker {
         }
     }
 
-    /// Data with which nothing refuses the command while the recorder stands.
+    /// Data with which nothing refuses the command while the recorder stands and
+    /// no command is pending.
     fn right_data(&mut self, command: u8) -> Vec<u8> {
         let address = self.rng.below(64) as u8;
         match command {
@@ -55,6 +58,7 @@ impl Maker {
                 plan.wide = command == 0x0B;
                 plan.data()
             }
+            0x10 => self.command_bytes(),
             0xD0..=0xD2 => vec![address, 0x00],
             0xE0..=0xE2 => vec![address, 0x00, 0x00, 0x00],
             0xE3..=0xE5 => [vec![address, 0x00], self.rng.bytes(2)].concat(),
@@ -90,6 +94,7 @@ impl Maker {
             0x02..=0x06 if self.rng.once_in(2) => self.send(0x01, &[64, 0x10, 0x00]),
             0x08 | 0x0A => self.send(0xC5, &[]),
             0x09 | 0x0B | 0xC1..=0xC2 => self.send(0xC3, &[]),
+            0x10 => self.hand_over(),
             _ => {}
         }
     }
@@ -97,7 +102,7 @@ impl Maker {
     /// Length bytes around and far above 64, at times with a wrong sum too.
     pub fn long_message(&mut self) {
         let command = match self.rng.below(5) {
-            0 => *self.rng.pick(&[0x10, 0x7F, 0xBF, 0x00]),
+            0 => *self.rng.pick(&[0x11, 0x7F, 0xBF, 0x00]),
             _ => *self.rng.pick(&STANDARD),
         };
         let count = *self.rng.pick(&[0, 63, 64, 64, 65, 65, 66, 128, 255]);
@@ -108,6 +113,9 @@ impl Maker {
             all[last] = self.rng.byte();
         }
         self.on_wire(&stuffed(&all));
+        if command == 0x10 {
+            self.hand_over();
+        }
     }
 
     /// Data of a length that a block's fields fill where they can: at 64 and

@@ -46,11 +46,12 @@ impl Maker {
             let (piece, after) = rest.split_at(count);
             self.bytes(piece);
             rest = after;
-            match self.rng.below(5) {
+            match self.rng.below(6) {
                 0 => self.ticks(1),
                 1 => self.some_ticks(),
                 2 => self.some_poke(),
                 3 => self.move_trigger(),
+                4 => self.application_call(),
                 _ => {}
             }
         }

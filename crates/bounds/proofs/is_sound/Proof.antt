@@ -1,9 +1,12 @@
--- Receiver, scope, recorder in turn.
-use mathlib.Core.Path.{sym, ap, _∙_}
+-- Receiver, scope, recorder, application command in turn.
+use mathlib.Core.Path.{_≡_, sym, ap, _∙_}
+use mathlib.Core.Bool.{true}
 use borrow.Author.Tests.{not-true, not-false}
 use borrow.Author.Needs.{needs}
-use Rattle.state.proofs.Parts.{receiver-outside, scope-outside, recorder-decides}
+use Rattle.state.specs.State.{Target}
+use Rattle.state.proofs.Parts.{receiver-outside, scope-outside, recorder-outside, application-decides}
 use Rattle.link.specs.Bounds as link
+use Rattle.scope.specs.State as scope
 use Rattle.blocks.specs.Layout.{decoded}
 use Rattle.bounds.proofs.is_sound.Statement.{statement}
 use Rattle.bounds.proofs.is_sound.Tie as tie
@@ -14,31 +17,52 @@ receiver-in-requires c κs = search needs
 is-sound-requires : tie.Need-is-sound-requires
 is-sound-requires c κs = search needs
 
+-- the state that is looked at
+abbrev state : tie.After-is-sound → Target
+state r = decoded (r .before .before .before .args .block .now)
+
 returns : tie.Need-returns
 returns c =
-    let args = c .before .before .before .before .args in
-    receiver-outside (decoded (args .block .now)) (sym (ap link.sound (c .before .before .receiver-in .ensures)) ∙ sym (c .before .is-sound .ensures) ∙ not-true _ (c .if1 .taken))
+    let r = c .before in
+    receiver-outside (state r) (sym (ap link.sound (r .before .receiver-in .ensures)) ∙ sym (r .is-sound .ensures) ∙ not-true _ (c .if1 .taken))
+
+-- the receiver is within its bounds
+receiver-inside : (e : tie.Else1) → link.sound (state (e .before) .receiver) ≡ true
+receiver-inside e =
+    let r = e .before in
+    sym (ap link.sound (r .before .receiver-in .ensures)) ∙ sym (r .is-sound .ensures) ∙ not-false _ (e .if1 .left)
 
 is-scope-sound-requires : tie.Need-is-scope-sound-requires
 is-scope-sound-requires c κs = search needs
 
 returns-2 : tie.Need-returns-2
 returns-2 c =
-    let args = c .before .before .before .before .before .before .args in
-    let receiver-in = c .before .before .before .before .receiver-in in
-    let is-sound = c .before .before .before .is-sound in
-    scope-outside (decoded (args .block .now)) (sym (ap link.sound (receiver-in .ensures)) ∙ sym (is-sound .ensures) ∙ not-false _ (c .before .before .if1 .left)) (sym (c .before .is-scope-sound .ensures) ∙ not-true _ (c .if2 .taken))
+    let e = c .before .before in
+    scope-outside (state (e .before)) (receiver-inside e) (sym (c .before .is-scope-sound .ensures) ∙ not-true _ (c .if2 .taken))
+
+-- and so is the scope
+scope-inside : (f : tie.Else2) → scope.sound (state (f .before .before .before) .instruments .scope) ≡ true
+scope-inside f = sym (f .before .is-scope-sound .ensures) ∙ not-false _ (f .if2 .left)
 
 is-recorder-sound-requires : tie.Need-is-recorder-sound-requires
 is-recorder-sound-requires c κs = search needs
 
 returns-3 : tie.Need-returns-3
 returns-3 c =
-    let args = c .before .before .before .before .before .before .before .args in
-    let receiver-in = c .before .before .before .before .before .receiver-in in
-    let is-sound = c .before .before .before .before .is-sound in
-    let if1 = c .before .before .before .if1 in
-    c .is-recorder-sound .ensures ∙ recorder-decides (decoded (args .block .now)) (sym (ap link.sound (receiver-in .ensures)) ∙ sym (is-sound .ensures) ∙ not-false _ (if1 .left)) (sym (c .before .before .is-scope-sound .ensures) ∙ not-false _ (c .before .if2 .left))
+    let f = c .before .before in
+    let e = f .before .before in
+    recorder-outside (state (e .before)) (receiver-inside e) (scope-inside f) (sym (c .before .is-recorder-sound .ensures) ∙ not-true _ (c .if3 .taken))
+
+is-application-sound-requires : tie.Need-is-application-sound-requires
+is-application-sound-requires c κs = search needs
+
+returns-4 : tie.Need-returns-4
+returns-4 c =
+    let k = c .before in
+    let f = k .before .before in
+    let e = f .before .before in
+    c .is-application-sound .ensures
+    ∙ application-decides (state (e .before)) (receiver-inside e) (scope-inside f) (sym (k .before .is-recorder-sound .ensures) ∙ not-false _ (k .if3 .left))
 
 pub is-sound-spec : {M : Type 1} → statement M
 is-sound-spec =
@@ -50,4 +74,6 @@ is-sound-spec =
     is-scope-sound-requires
     returns-2
     is-recorder-sound-requires
-    returns-3)
+    returns-3
+    is-application-sound-requires
+    returns-4)

@@ -4,7 +4,7 @@ use mathlib.Core.List.{List}
 use Prim.Native.Nat.{ℕ}
 use borrow.Author.Needs.{needs}
 use Rattle.document.specs.declared.Operation.{Operation}
-use Rattle.document.specs.declared.Operation.the-variants.{Unserved, Describe, DescribeBriefly, Read, Write, WriteMasked, SetUpScope, ReadScope, SetUpRecorder, Start, Stop, Status, QueryBuffer}
+use Rattle.document.specs.declared.Operation.the-variants.{Unserved, Describe, DescribeBriefly, Read, Write, WriteMasked, SetUpScope, ReadScope, SetUpRecorder, Start, Stop, Status, QueryBuffer, SendCommand, CommandResult}
 use Rattle.outcomes.specs.Changes.{changeOf}
 use Rattle.fields.specs.Blocks.{OwnFits}
 use Rattle.fields.specs.Framed.{partsOf}
@@ -158,6 +158,18 @@ enum-told-13 c = search needs
 query-buffer-requires : tie.Need-query-buffer-requires
 query-buffer-requires c κs = search needs
 
+enum-told-14 : tie.Need-enum-told-14
+enum-told-14 c = search needs
+
+send-command-requires : tie.Need-send-command-requires
+send-command-requires c κs = search needs
+
+enum-told-15 : tie.Need-enum-told-15
+enum-told-15 c = search needs
+
+command-result-requires : tie.Need-command-result-requires
+command-result-requires c κs = search needs
+
 returns : tie.Need-returns
 returns c =
     let t = c .before in
@@ -304,6 +316,29 @@ returns-13 c =
     let q = asked (t .before .before) in
     replied q QueryBuffer (t .enum-told13 .given .1) refl (d .query-buffer .ensures _ _)
 
+same-length-20 : tie.Need-same-length-20
+same-length-20 c = search needs
+
+returns-14 : tie.Need-returns-14
+returns-14 c =
+    let d = c .before .before in
+    let t = d .before .before in
+    let q = asked (t .before .before) in
+    known q SendCommand (t .enum-told14 .given .1) (d .send-command .ensures _ _ (q .service))
+
+same-length-21 : tie.Need-same-length-21
+same-length-21 c = search needs
+
+same-length-22 : tie.Need-same-length-22
+same-length-22 c = search needs
+
+returns-15 : tie.Need-returns-15
+returns-15 c =
+    let d = c .before .before in
+    let t = d .before .before .before in
+    let q = asked (t .before .before) in
+    replied q CommandResult (t .enum-told15 .given .1) refl (d .command-result .ensures _ (q .service) _)
+
 pub serve-spec : {M : Type 1} → statement M
 serve-spec =
     tie.close
@@ -345,6 +380,10 @@ serve-spec =
     status-requires
     enum-told-13
     query-buffer-requires
+    enum-told-14
+    send-command-requires
+    enum-told-15
+    command-result-requires
     returns
     same-length
     returns-2
@@ -376,4 +415,9 @@ serve-spec =
     returns-12
     same-length-18
     same-length-19
-    returns-13)
+    returns-13
+    same-length-20
+    returns-14
+    same-length-21
+    same-length-22
+    returns-15)

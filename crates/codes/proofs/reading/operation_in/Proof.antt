@@ -43,7 +43,13 @@ returns-12 : tie.Need-returns-12
 returns-12 c = rw (c .match .keys12)
 
 returns-13 : tie.Need-returns-13
-returns-13 c = beyond operations Unserved (c .before .args .entry % 64) (c .match .rest)
+returns-13 c = rw (c .match .keys13)
+
+returns-14 : tie.Need-returns-14
+returns-14 c = rw (c .match .keys14)
+
+returns-15 : tie.Need-returns-15
+returns-15 c = beyond operations Unserved (c .before .args .entry % 64) (c .match .rest)
 
 pub operation-in-spec : {M : Type 1} → statement M
 operation-in-spec =
@@ -61,4 +67,6 @@ operation-in-spec =
     returns-10
     returns-11
     returns-12
-    returns-13)
+    returns-13
+    returns-14
+    returns-15)

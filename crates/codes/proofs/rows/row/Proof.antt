@@ -141,7 +141,15 @@ returns-33 c = rw (c .match .keys33)
 
 returns-34 : tie.Need-returns-34
 unfolding entryOf kindOf serviceOf
-returns-34 c = beyond rows lastRow (c .before .args .number) (c .match .rest)
+returns-34 c = rw (c .match .keys34)
+
+returns-35 : tie.Need-returns-35
+unfolding entryOf kindOf serviceOf
+returns-35 c = rw (c .match .keys35)
+
+returns-36 : tie.Need-returns-36
+unfolding entryOf kindOf serviceOf
+returns-36 c = beyond rows lastRow (c .before .args .number) (c .match .rest)
 
 pub row-spec : {M : Type 1} → statement M
 row-spec =
@@ -180,4 +188,6 @@ row-spec =
     returns-31
     returns-32
     returns-33
-    returns-34)
+    returns-34
+    returns-35
+    returns-36)

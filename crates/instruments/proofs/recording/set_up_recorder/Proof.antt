@@ -15,7 +15,7 @@ use Rattle.outcomes.specs.Known.{knownAs}
 use Rattle.state.specs.State.{gateOf}
 use Rattle.target.specs.After.{instrumentsAfter}
 use Rattle.blocks.specs.Places.{scopePlace}
-use Rattle.blocks.specs.Layout.{dataTo, decodedScope, decodedRecorder, decodedInstruments, encodedInstruments}
+use Rattle.blocks.specs.Layout.{dataTo, decodedScope, decodedRecorder, decodedApplication, decodedInstruments, encodedInstruments}
 use Rattle.instruments.proofs.Statuses.{alone, recorder-set-up}
 use Rattle.instruments.proofs.Changing.{operates, same-block, recorder-refused}
 use Rattle.instruments.proofs.recording.set_up_recorder.Statement.{statement}
@@ -66,13 +66,13 @@ module _ (d : tie.After-set-up) where
   kept : (d .set-up .result .status ≡ done → ⊥) → block ≡ sets block scopePlace (encodedInstruments (instrumentsAfter SetUpRecorder (decodedInstruments block) service told))
   kept wrong =
       let same = recorder-refused (decodedRecorder block) (service .ex) told (λ e. wrong (status ∙ e)) in
-      same-block block (begun .pre .0) (λ i. looked .before .before .slice-known .given i .fits) _ (λ i. record { scope = decodedScope block; recorder = same i })
+      same-block block (begun .pre .0) (λ i. looked .before .before .slice-known .given i .fits) _ (λ i. record { scope = decodedScope block; recorder = same i; application = decodedApplication block })
 
-  stored : (after : List ℕ) → after ≡ sets block scopePlace (encodedInstruments (record { scope = decodedScope block; recorder = d .set-up .result .next }))
+  stored : (after : List ℕ) → after ≡ sets block scopePlace (encodedInstruments (record { scope = decodedScope block; recorder = d .set-up .result .next; application = decodedApplication block }))
       → after ≡ sets block scopePlace (encodedInstruments (instrumentsAfter SetUpRecorder (decodedInstruments block) service told))
   stored after e =
       let next = d .set-up .ensures .next ∙ ap (λ (q : Recorder). setUpNext q (service .ex) told) is in
-      e ∙ (λ i. sets block scopePlace (encodedInstruments (record { scope = decodedScope block; recorder = next i })))
+      e ∙ (λ i. sets block scopePlace (encodedInstruments (record { scope = decodedScope block; recorder = next i; application = decodedApplication block })))
 
 alone-requires : tie.Need-alone-requires
 alone-requires c κs = search needs

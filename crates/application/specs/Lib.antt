@@ -1,0 +1,2 @@
+-- The application command in the target.
+pub mod State

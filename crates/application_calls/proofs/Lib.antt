@@ -1,0 +1,2 @@
+-- A collection and a report, refused and taken.
+pub mod Calls

@@ -1,0 +1,2 @@
+-- What the calls of the gate's own program promise.
+pub mod Promises

@@ -1,0 +1,2 @@
+-- What is left in the block.
+pub mod Stored

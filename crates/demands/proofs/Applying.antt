@@ -1,0 +1,94 @@
+-- Application commands along a run: what is handed out, and what is said while one is pending.
+use mathlib.Core.Path.{_≡_, refl, sym, ap, subst, _∙_}
+use mathlib.Core.Bool.{true}
+use mathlib.Core.List.{List, [], _∷_, _++_, map, map-append, append-nil, append-assoc}
+use Prim.Native.Nat.{ℕ, _<_}
+use Rattle.document.specs.Message.{Message, finishedBy}
+use Rattle.document.specs.Answer.{Answer, answerOnWire}
+use Rattle.document.specs.Recorder.{tickedMemory}
+use Rattle.document.specs.Application.{isPending}
+use Rattle.document.specs.Application.Application.{waiting}
+use Rattle.document.specs.Gate.{Gate, Outcome, says}
+use Rattle.document.specs.Commands.{answered}
+use Rattle.document.specs.Asides.{Aside}
+use Rattle.document.specs.Asides.Aside.{tick, writes, collects, reports}
+use Rattle.document.specs.Happenings.{Happening, Since, told, after, afterAll}
+use Rattle.document.specs.Happenings.Happening.{byte, aside}
+use Rattle.recorder.specs.State.{recorderOf}
+use Rattle.application.specs.State.{Command}
+use Rattle.state.specs.State.{Target}
+use Rattle.state.proofs.Keeps.{memory-ticked}
+use Rattle.blocks.specs.Layout.{decoded, encoded}
+use Rattle.happenings.specs.Bytes.{BesideIsBytes, IsBytes, AreBytes}
+use Rattle.happenings.specs.Applying.{sends, waitingIn, handedBeside, handedAt, handedOut, AllUnreported}
+use Rattle.happenings.proofs.Applying.{application-after, between}
+use Rattle.demands.specs.House.{House, gateIn}
+use Rattle.demands.specs.Run.{Beside, Step, Run}
+use Rattle.demands.specs.Run.Run.{ends, happens, refuses}
+use Rattle.demands.specs.Stands.{Stands}
+use Rattle.demands.specs.Applying.{OnlySaid}
+use Rattle.demands.proofs.Served.{refused-kept, step-byte, step-tick, step-collect, step-report}
+use Rattle.demands.proofs.Runs.{Reached, reached-step}
+
+-- ---- what is handed out
+
+module _ (h : House) (s : Since) (r : Reached h s) where
+  beside-hands : (a : Aside) (next : House) → Beside h a next → next .commands ≡ h .commands ++ handedBeside (s .gate) a
+  beside-hands tick next step =
+      let same = memory-ticked (recorderOf (decoded (h .block) .instruments .recorder)) (h .memory) (r .within .memory-part) .size ∙ sym (r .within .memory-part .size) in
+      ap (λ (q : House). q .commands) (step-tick h (r .long) (r .within) next (step .0) (step .1) (step .2) same) ∙ sym (append-nil (h .commands))
+  beside-hands (writes address bytes) next step = ap (λ (q : House). q .commands) step ∙ sym (append-nil (h .commands))
+  beside-hands collects next step =
+      ap (λ (q : House). q .commands) (step-collect h (r .long) (r .within) next (step .0) (step .1) (step .2))
+      ∙ ap (λ (g : Gate). h .commands ++ waitingIn (g .application)) (r .stands .gate)
+  beside-hands (reports reported) next step =
+      ap (λ (q : House). q .commands) (step-report h (r .long) (r .within) reported next (step .0) (step .1) (step .2)) ∙ sym (append-nil (h .commands))
+
+  step-hands : (e : Happening) (next : House) → IsBytes e → Step h e next → next .commands ≡ h .commands ++ handedAt s e
+  step-hands (byte b) next small step =
+      ap (λ (q : House). q .commands) (step-byte h (r .long) (r .within) b small next (step .0) (step .1) (step .2)) ∙ sym (append-nil (h .commands))
+  step-hands (aside a) next are step = beside-hands a next step
+
+pub run-hands : (h last : House) (hs : List Happening) → Run h hs last → (s : Since) → AreBytes hs → Reached h s
+    → last .commands ≡ h .commands ++ handedOut s hs
+run-hands h last hs (ends _) s are r = sym (append-nil (h .commands))
+run-hands h last hs (happens _ next _ e es step run) s are r =
+    run-hands next last es run (after s e) (are .1) (reached-step h s r e next (are .0) step)
+    ∙ ap (λ (l : List (List ℕ)). l ++ handedOut (after s e) es) (step-hands h s r e next (are .0) step)
+    ∙ append-assoc (h .commands) (handedAt s e) (handedOut (after s e) es)
+run-hands h last hs (refuses _ next _ _ refused run) s are r =
+    run-hands next last hs run s are (subst (λ (q : House). Reached q s) (sym (refused-kept h next refused)) r)
+    ∙ ap (λ (q : House). q .commands ++ handedOut s hs) (refused-kept h next refused)
+
+-- ---- what is said
+
+-- the byte that finishes a message, of which this is what is said
+module _ (h last : House) (s : Since) (now : Stands h s) (b : ℕ) (end : Stands last (after s (byte b))) (m : Message) (more : List Message)
+    (finished : finishedBy (s .bytes) b ≡ m ∷ more) where
+  abbrev grown : Since
+  grown = record { bytes = s .bytes ++ (b ∷ []); gate = s .gate; answers = s .answers }
+
+  gate-then : gateIn last ≡ answered (s .gate) m .gate
+  gate-then = end .gate ∙ ap (λ (ms : List Message). told grown ms .gate) finished
+
+  answers-then : last .answers ≡ h .answers ++ (answerOnWire (answered (s .gate) m .answer) ∷ [])
+  answers-then =
+      end .answers
+      ∙ ap (λ (ms : List Message). map answerOnWire (told grown ms .answers)) finished
+      ∙ map-append answerOnWire (s .answers) (answered (s .gate) m .answer ∷ [])
+      ∙ ap (λ (l : List (List ℕ)). l ++ (answerOnWire (answered (s .gate) m .answer) ∷ [])) (sym (now .answers))
+
+  pub only-said : (status : ℕ) (body : List ℕ) → answered (gateIn h) m ≡ says (gateIn h) status body → OnlySaid (record { status = status; body = body }) h last
+  only-said status body is =
+      let so : answered (s .gate) m ≡ says (gateIn h) status body = ap (λ (g : Gate). answered g m) (sym (now .gate)) ∙ is in
+      record {
+        answers = answers-then ∙ ap (λ (o : Outcome). h .answers ++ (answerOnWire (o .answer) ∷ [])) so;
+        gate = gate-then ∙ ap (λ (o : Outcome). o .gate) so;
+      }
+
+  -- an accepted 0x10: what waits then are its data
+  pub sent-waits : sends (gateIn h) m ≡ true → gateIn last .application ≡ waiting (m .body)
+  sent-waits send =
+      ap (λ (g : Gate). g .application) gate-then
+      ∙ application-after (s .gate) m
+      ∙ rw (ap (λ (g : Gate). sends g m) (sym (now .gate)) ∙ send) refl

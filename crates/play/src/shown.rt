@@ -1,0 +1,35 @@
+// What a call did, as a line of the output shows it.
+use line::Written;
+use script::output::put;
+use script::output::put_bytes;
+use script::output::put_decimal;
+
+// Every lent buffer is filled so before a call, so that what a call leaves can be seen.
+pub const FILLING: u8 = 0xEE;
+
+fn put_number(letter: u8, refusal: u8, out: &mut [u8; 65536], at: usize) -> usize {
+    let named = put(letter, out, at);
+    let parted = put(b' ', out, named);
+    put_decimal(refusal as u64, out, parted)
+}
+
+// The number alone.
+pub fn put_refusal(letter: u8, refusal: u8, out: &mut [u8; 65536], at: usize) -> usize {
+    let numbered = put_number(letter, refusal, out, at);
+    put(b'\n', out, numbered)
+}
+
+// The number, how many bytes were written, and the whole lent buffer.
+pub fn put_written(
+    letter: u8,
+    written: Written,
+    lent: &[u8],
+    out: &mut [u8; 65536],
+    at: usize,
+) -> usize {
+    let numbered = put_number(letter, written.refusal, out, at);
+    let parted = put(b' ', out, numbered);
+    let counted = put_decimal(written.length as u64, out, parted);
+    let shown = put_bytes(lent, out, counted);
+    put(b'\n', out, shown)
+}
