@@ -1,12 +1,11 @@
 -- From a start on the trigger comes at the first set at or beyond the threshold (2026-02): an edge needs a set that was not
 -- there, and every earlier one was not.
 use mathlib.Core.Path.{_≡_, refl, sym, ap, _∙_}
-use mathlib.Core.Bool.{Bool, true, false, cond, not, _&&_}
+use mathlib.Core.Bool.{Bool, true, false, _&&_}
 use mathlib.Core.List.{List, [], _∷_, map}
-use Prim.Native.Nat.{ℕ, _<_}
-use lib.ListN.{take}
-use lib.Dec.{eqb}
-use borrow.Author.Tests.{eq-eqb, eqb-true, ne-eqb}
+use Prim.Native.Nat.{ℕ, suc, _*_}
+use lib.Dec.{eqb, ltb}
+use borrow.Author.Tests.{eqb-true, ne-eqb}
 use native.Mathlib.Omega.{arith}
 use Rattle.document.specs.Plan.{Plan}
 use Rattle.document.specs.Trigger.{triggerValue, fires, isBeyond}
@@ -15,10 +14,10 @@ use Rattle.document.specs.Run.Watch.{unprimed, previous, triggered}
 use Rattle.document.specs.Sets.{every, untilStop, fromFirst, setsTaken}
 use Rattle.document.proofs.Cases.{split, neither, both}
 use Rattle.document.proofs.Levels.{edge-of-levels}
-use Rattle.history.specs.History.{Event, Recording, begun, stepped, after, takesNext, beyondIn, NoneBeyond, untilBeyond, TriggersNext}
+use Rattle.history.specs.History.{Event, Recording, begun, stepped, after, takesNext, beyondIn, NoneBeyond, untilBeyond, TriggersNext, ticks, Unstopped}
 use Rattle.history.specs.History.Event.{tick, others, stop}
 use Rattle.history.proofs.Ticks.{by-case, stopped-run, waits-run, takes-run}
-use Rattle.history.proofs.Stop.{hasTriggered}
+use Rattle.history.proofs.Stop.{hasTriggered, stops}
 
 module _ (p : Plan) where
   -- behind a set that was not there, an edge is a set that is
@@ -163,3 +162,8 @@ module _ (p : Plan) where
           due = eqb-true (now-at .run .wait) 0 (two .1);
           comes-now = comes-beyond (now-at .run .watch) (triggerValue (p .trigger) (now-at .memory)) short-now (none-triggers es (begun m) tt refl n) ∙ b;
         }
+
+  -- "post-trigger × (time divider + 1) ticks after the trigger", where the first set is there
+  pub stops-from-first : (m : List ℕ) (es : List Event) → beyondIn p m ≡ true → Unstopped es
+      → after p (begun m) (tick ∷ es) .run .running ≡ ltb (ticks es) (p .postTrigger * suc (p .divider))
+  stops-from-first m es b u = stops p (begun m) es (first-triggers m [] refl b tt) u

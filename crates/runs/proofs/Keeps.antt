@@ -10,7 +10,6 @@ use Rattle.document.specs.Plan.{Plan}
 use Rattle.document.specs.Trigger.{triggerValue, fires, isBeyond}
 use Rattle.document.specs.Run.{Watch, Run, started, stopped, lookedAt, watched, goesOn, ranTick}
 use Rattle.document.specs.Run.Watch.{unprimed, previous, triggered}
-use Rattle.document.proofs.Cases.{split}
 use Rattle.history.specs.History.{CountsFit, setsLeft}
 use Rattle.history.proofs.Ticks.{by-case, stopped-run, waits-run, takes-run}
 use Rattle.history.proofs.Counts.{started-fits, stopped-fits, tick-fits}
