@@ -13,7 +13,8 @@
     ROW(LOG_INSIDE, 27, 1, "1 while a log is in the gate")                                       \
     ROW(LOGS, 28, 4, "logs that have come since the start")                                      \
     ROW(ALARMS, 32, 4, "alarms since the start")                                                 \
-    ROW(CUT_COIL, 36, 1, "number of a coil whose wire is cut, 0 for none; yours to write")
+    ROW(CUT_COIL, 36, 1, "number of a coil whose wire is cut, 0 for none; yours to write")       \
+    ROW(BELT_STOPPED, 37, 1, "1 stops the belt, so that a log stays where it is; yours to write")
 
 #define GATE_ADDRESS(name, address, bytes, what) name = address,
 enum { GATE_MAP(GATE_ADDRESS) };

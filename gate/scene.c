@@ -66,14 +66,20 @@ void scene_begin(struct scene *s, uint64_t seed, uint8_t *memory)
     put_number(memory + THRESHOLD, 2, THRESHOLD_AT_START);
 }
 
-void scene_tick(struct scene *s, uint8_t *memory)
+static void move_belt(struct scene *s, uint8_t *memory)
 {
-    uint32_t highest = 0;
     s->at++;
     if (s->at >= leaves_at(s) + s->gap) {
         next_log(s);
         put_number(memory + LOGS, 4, number_at(memory + LOGS, 4) + 1);
     }
+}
+
+void scene_tick(struct scene *s, uint8_t *memory)
+{
+    uint32_t highest = 0;
+    if (memory[BELT_STOPPED] == 0)
+        move_belt(s, memory);
     for (uint32_t coil = 0; coil < COILS; coil++) {
         uint32_t live = reading(s, coil), value = is_cut(memory, coil) ? 0 : live;
         put_number(memory + COIL_1 + 2 * coil, 2, value);

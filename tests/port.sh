@@ -3,6 +3,8 @@ build virtual_gate gate/*.c "$archive"
 build port_test tests/port_test.c "$archive"
 build scene_test tests/scene_test.c gate/scene.c gate/self_test.c
 $RUN_X86 $built/scene_test || fail "the scene"
+build gate_test tests/gate_test.c gate/gate.c gate/scene.c gate/self_test.c "$archive"
+$RUN_X86 $built/gate_test || fail "the nail under the coil"
 
 # It ends by itself after a minute of ticks, whatever becomes of this script.
 : >$built/gate.out

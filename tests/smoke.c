@@ -236,24 +236,28 @@ static void test_instruments(void)
     EXPECT(status_of(LOG_GATE_RECORDER_STATUS, "") == LOG_GATE_RECORDER_RUNS);
 }
 
-/* The edges of a trigger of one byte, threshold 0x80: mode, sign, the values at two sets, and whether it stops then. */
+/* A trigger of one byte, threshold 0x80: mode, sign, the values at two sets, and the set it stops with, 0 for none. */
 static void test_edges(void)
 {
     static const struct {
-        uint8_t mode, sign, from, to, stops;
-    } edges[] = {{1, 0, 0x7F, 0x80, 1}, {1, 0, 0x80, 0x81, 0}, {1, 0, 0x7E, 0x7F, 0}, {2, 0, 0x81, 0x80, 1},
-                 {2, 0, 0x80, 0x7F, 0}, {2, 0, 0x82, 0x81, 0}, {2, 1, 0x7F, 0x80, 1}, {2, 1, 0x81, 0x80, 1},
-                 {1, 1, 0x7F, 0x80, 0}, {1, 1, 0x80, 0x7F, 0}, {0, 0, 0x7F, 0x80, 0}, {0, 0, 0x81, 0x80, 0}};
+        uint8_t mode, sign, value[2], stops_with;
+    } edges[] = {{1, 0, {0x7F, 0x80}, 2}, {1, 0, {0x80, 0x81}, 1}, {1, 0, {0x7E, 0x7F}, 0}, {1, 0, {0x81, 0x7F}, 1},
+                 {2, 0, {0x81, 0x80}, 2}, {2, 0, {0x80, 0x7F}, 1}, {2, 0, {0x82, 0x81}, 0}, {2, 0, {0x7F, 0x81}, 1},
+                 {2, 1, {0x7F, 0x80}, 2}, {2, 1, {0x81, 0x80}, 2}, {2, 1, {0x80, 0x7F}, 1}, {1, 1, {0x7F, 0x80}, 1},
+                 {1, 1, {0x80, 0x7F}, 1}, {0, 0, {0x7F, 0x80}, 0}, {0, 0, {0x81, 0x80}, 0}};
     for (size_t i = 0; i < sizeof edges / sizeof edges[0]; i++) {
         char data[64];
+        uint8_t stopped_with = 0;
         reset();
         sprintf(data, "%02X 02 00 00 00 00 00 10 00 01 %02X 80 00 00 00 01 01 10 00", edges[i].mode, edges[i].sign);
         EXPECT(status_of(LOG_GATE_SET_UP_RECORDER, data) == LOG_GATE_DONE);
-        gate.memory[16] = edges[i].from;
-        tick();
-        gate.memory[16] = edges[i].to;
-        tick();
-        EXPECT(status_of(LOG_GATE_RECORDER_STATUS, "") == (edges[i].stops ? LOG_GATE_RECORDER_STOPPED : LOG_GATE_RECORDER_RUNS));
+        for (uint8_t set = 1; set <= 2; set++) {
+            gate.memory[16] = edges[i].value[set - 1];
+            tick();
+            if (stopped_with == 0 && status_of(LOG_GATE_RECORDER_STATUS, "") == LOG_GATE_RECORDER_STOPPED)
+                stopped_with = set;
+        }
+        EXPECT(stopped_with == edges[i].stops_with);
     }
 }
 

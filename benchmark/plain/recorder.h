@@ -109,14 +109,19 @@ static int64_t valued(const struct plan *p, uint32_t number)
     return p->sign && number >= half ? number - 2 * half : number;
 }
 
-static bool trigger_comes(const struct plan *p, uint32_t before, uint32_t now)
+/* At or above the threshold (rising), at or below it (falling). */
+static bool is_beyond(const struct plan *p, uint32_t now)
 {
     if (p->mode == NO_TRIGGER)
         return false;
     int64_t threshold = valued(p, p->threshold);
-    if (p->mode == RISING)
-        return valued(p, before) < threshold && valued(p, now) >= threshold;
-    return valued(p, before) > threshold && valued(p, now) <= threshold;
+    return p->mode == RISING ? valued(p, now) >= threshold : valued(p, now) <= threshold;
+}
+
+/* The first set after a start is looked at for itself, a later one beside the set before it. */
+static bool trigger_comes(const struct plan *p, const struct run *r, uint32_t now)
+{
+    return is_beyond(p, now) && (r->watch == UNPRIMED || !is_beyond(p, r->value));
 }
 
 static void count_down(struct run *r, uint32_t left)
@@ -131,7 +136,7 @@ static void watch_trigger(const struct plan *p, struct run *r, uint32_t now)
 {
     if (r->watch == TRIGGERED)
         count_down(r, r->value - 1);
-    else if (r->watch == PREVIOUS && trigger_comes(p, r->value, now))
+    else if (trigger_comes(p, r, now))
         count_down(r, p->post_trigger);
     else {
         r->watch = PREVIOUS;

@@ -176,11 +176,11 @@ impl Recorder {
         self.list[from..].iter().find_map(|stretch| {
             let number = self.due(stretch.first);
             let inside = number < self.due(stretch.end());
-            // "The first set after a start only supplies the previous value."
-            let fires = inside && number > 0 && {
-                let previous = self.stretch_of(number - 1).value;
-                trigger.comes(previous, stretch.value)
-            };
+            let fires = inside
+                && match number {
+                    0 => trigger.comes_first(stretch.value),
+                    _ => trigger.comes(self.stretch_of(number - 1).value, stretch.value),
+                };
             fires.then_some(number)
         })
     }

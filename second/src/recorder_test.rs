@@ -51,6 +51,8 @@ impl Told {
         match (previous, self.setup.mode) {
             (Some(previous), 1) => previous < threshold && this >= threshold,
             (Some(previous), 2) => previous > threshold && this <= threshold,
+            (None, 1) => this >= threshold,
+            (None, 2) => this <= threshold,
             _ => false,
         }
     }

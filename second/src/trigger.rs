@@ -39,6 +39,16 @@ impl Trigger {
             previous < self.threshold && this >= self.threshold
         }
     }
+
+    /// "the first set after a start fires a rising trigger when its value is at
+    /// or above the threshold, and a falling one when at or below" (2026-02).
+    pub fn comes_first(&self, first: i64) -> bool {
+        if self.falling {
+            first <= self.threshold
+        } else {
+            first >= self.threshold
+        }
+    }
 }
 
 /// "Sign 1 reads both as two's complement of the trigger size, sign 0 as
@@ -81,5 +91,9 @@ mod tests {
         assert!(!trigger(false).comes(5, 6));
         assert!(trigger(true).comes(6, 5));
         assert!(!trigger(true).comes(5, 4));
+        assert!(trigger(false).comes_first(5) && trigger(false).comes_first(6));
+        assert!(!trigger(false).comes_first(4));
+        assert!(trigger(true).comes_first(5) && trigger(true).comes_first(4));
+        assert!(!trigger(true).comes_first(6));
     }
 }

@@ -47,7 +47,6 @@ use Rattle.happenings.specs.Applying.{sends, sentOf, waitingIn, unrefusedSoFar,
 use Rattle.happenings.proofs.Applying.{while-pending, between, handed-out-from-reset}
 use Rattle.tick_call.specs.Promises.{TickTaken}
 use Rattle.application_calls.specs.Promises.{CollectDone, ReportDone}
-use Rattle.target.specs.Turn.{Turn, turn}
 use Rattle.byte_call.specs.declared.Taken.{Taken}
 use Rattle.byte_call.specs.Promises.{ByteTaken}
 use Rattle.reader.specs.declared.calls.ReadByte.{ReadByte}
@@ -60,7 +59,7 @@ use Rattle.demands.specs.Sent.{Sent}
 use Rattle.demands.specs.Stands.{blank, Stands}
 use Rattle.demands.specs.Fresh.{AnsweredFresh, NothingByHalf}
 use Rattle.demands.specs.Recorded.{Recorded}
-use Rattle.demands.specs.Recorder.{Begun, Goes, OnlyItsPlace}
+use Rattle.demands.specs.Recorder.{Begun, Goes, FiresAtFirst, OnlyItsPlace}
 use Rattle.demands.specs.Readings.{ByRead, Readings, Reads}
 use Rattle.demands.proofs.Refused as calls
 use Rattle.demands.proofs.EndsRefused as both-ends
@@ -71,7 +70,7 @@ use Rattle.demands.proofs.Fresh.{answered-fresh, by-half}
 use Rattle.demands.proofs.Recorded.{recorded}
 use Rattle.demands.specs.Applying.{OnlyCommand, OnlySaid}
 use Rattle.demands.proofs.Applying.{run-hands, only-said, sent-waits}
-use Rattle.demands.proofs.Recorder.{start-begun, tick-touches, run-stops}
+use Rattle.demands.proofs.Recorder.{start-begun, tick-touches, run-fires, run-stops}
 use Rattle.demands.proofs.Readings as readings
 
 -- ---- Demand 1: "The line may bring anything at any moment without a fault. No entry relies on its caller. Each refusal has one
@@ -210,6 +209,13 @@ module _ (block memory : List ℕ) (r : ℕ) (after : List ℕ) (long : stateLen
         let end = reached-run h last hs on reached more there in
         recorded h last reached hs (there .stands) (end .stands) (there .within .memory-part .size) p
         (plan-fits h reached there p started just) just quiet
+
+    -- from that start on, the trigger comes at the first set at or beyond the threshold (2026-02)
+    pub recorder-fires : AllUnstarted (afterAll (since (gate memory)) first) hs → Run h hs last
+        → FiresAtFirst p (h .memory) (events (afterAll (since (gate memory)) first) hs) last
+    recorder-fires quiet on =
+        run-fires h last reached (there .stands) p started just (there .within .memory-part .size) hs quiet
+        (reached-run h last hs on reached more there .stands) refl
 
   -- "A tick changes only that place."
   module _ (p : Plan) (run-now : DocumentRun) (has : gateIn h .recorder ≡ planned p run-now) where

@@ -1,5 +1,5 @@
 -- The recorder of a house along a run: an accepted start, a tick, and the ticks behind a trigger.
-use mathlib.Core.Path.{_≡_, sym, ap, _∙_}
+use mathlib.Core.Path.{_≡_, sym, ap, _∙_, subst}
 use mathlib.Core.Bool.{true}
 use mathlib.Core.List.{List, [], _∷_, _++_}
 use Prim.Native.Nat.{ℕ, suc, _+_, _*_}
@@ -9,7 +9,7 @@ use Rattle.document.specs.Areas.{memoryEnd}
 use Rattle.document.specs.Message.{Message, finishedBy}
 use Rattle.document.specs.Variables.{setSize}
 use Rattle.document.specs.Plan.{Plan}
-use Rattle.document.specs.Run.{Run as DocumentRun, placeBegins, memoryAfterTick}
+use Rattle.document.specs.Run.{Run as DocumentRun, started, placeBegins, memoryAfterTick}
 use Rattle.document.specs.Recorder.{Recorder, tickedMemory}
 use Rattle.document.specs.Recorder.Recorder.{planned}
 use Rattle.document.specs.Gate.{Gate}
@@ -18,9 +18,11 @@ use Rattle.document.specs.Asides.{beside}
 use Rattle.document.specs.Asides.Aside.{tick}
 use Rattle.document.specs.Happenings.{Happening, Since, told, after, afterAll}
 use Rattle.document.specs.Happenings.Happening.{byte, aside}
-use Rattle.history.specs.History.{PlanFits, Recording, TriggersNext, Unstopped}
+use Rattle.history.specs.History as history
+use Rattle.history.specs.History.{PlanFits, Recording, begun, takesNext, beyondIn, NoneBeyond, TriggersNext, Unstopped}
 use Rattle.history.proofs.Ticks.{tick-before, tick-behind}
 use Rattle.history.proofs.Stop.{stops}
+use Rattle.history.proofs.Beyond.{trigger-at-first, first-triggers}
 use Rattle.outcomes.specs.Starts.{starts}
 use Rattle.outcomes.proofs.Recording.{start-begins}
 use Rattle.happenings.specs.Recording.{events, ticksOf, AllUnstarted}
@@ -28,7 +30,7 @@ use Rattle.happenings.proofs.Ticks.{ticks-counted}
 use Rattle.happenings.proofs.Follows.{followed-all}
 use Rattle.demands.specs.House.{House, gateIn}
 use Rattle.demands.specs.Stands.{Stands}
-use Rattle.demands.specs.Recorder.{Begun, Goes, OnlyItsPlace}
+use Rattle.demands.specs.Recorder.{Begun, Goes, FiresAtFirst, OnlyItsPlace}
 
 module _ (h last : House) (s : Since) (now : Stands h s) where
   -- the byte that finishes an accepted start
@@ -57,6 +59,35 @@ module _ (h last : House) (s : Since) (now : Stands h s) where
           application = ap (λ (g : Gate). g .application) same;
           answers = end .answers ∙ sym (now .answers);
         }
+
+    -- since an accepted start the trigger comes at the first set at or beyond the threshold
+    module _ (size : length (h .memory) ≡ memoryEnd) (hs : List Happening) (quiet : AllUnstarted s hs) (end : Stands last (afterAll s hs)) where
+      pub run-fires : r ≡ started → FiresAtFirst p (h .memory) (events s hs) last
+      run-fires begins =
+          let same-memory : s .gate .memory ≡ h .memory = ap (λ (q : Gate). q .memory) (sym (now .gate)) in
+          let follows =
+          followed-all p hs s (begun (h .memory))
+          (record {
+            recorder = ap (λ (q : Gate). q .recorder) (sym (now .gate)) ∙ has ∙ ap (planned p) begins;
+            memory = same-memory;
+            size = ap length same-memory ∙ size;
+          })
+          quiet
+          .follows in
+          let then : Recording = history.after p (begun (h .memory)) (events s hs) in
+          let memory : then .memory ≡ last .memory = sym (ap (λ (q : Gate). q .memory) (end .gate) ∙ follows .memory) in
+          record {
+            run = then .run;
+            recorder = ap (λ (q : Gate). q .recorder) (end .gate) ∙ follows .recorder;
+            only-there =
+                subst
+                (λ (m : List ℕ). TriggersNext p (record { run = then .run; memory = m }) → (beyondIn p m ≡ true) × NoneBeyond p (begun (h .memory)) (events s hs))
+                memory (trigger-at-first p (h .memory) (events s hs));
+            there =
+                subst
+                (λ (m : List ℕ). takesNext (record { run = then .run; memory = m }) ≡ true → beyondIn p m ≡ true → NoneBeyond p (begun (h .memory)) (events s hs) → TriggersNext p (record { run = then .run; memory = m }))
+                memory (first-triggers p (h .memory) (events s hs));
+          }
 
     -- the trigger comes at the next tick, and behind that tick these happen
     module _ (size : length (h .memory) ≡ memoryEnd) (hs : List Happening) (quiet : AllUnstarted s (aside tick ∷ hs)) (end : Stands last (afterAll s (aside tick ∷ hs))) where

@@ -8,7 +8,7 @@ use Rattle.document.specs.AnswerWriter.{answerRefusal, answerWritten, an
 use Rattle.document.specs.CommandWriter.{commandRefusal, commandWritten, commandBuffer}
 use Rattle.document.specs.AnswerReader.{readRoomRefusal, brought}
 use Rattle.document.specs.Plan.{planIn}
-use Rattle.document.specs.Trigger.{fires}
+use Rattle.document.specs.Trigger.{fires, isBeyond}
 use Rattle.document.specs.Sets.{setsTaken}
 use Rattle.document.specs.CallRows.{Line, callRows, answerRows, commandRows, statusRows}
 use Rattle.document.specs.ReaderRows.{readerRows}
@@ -32,7 +32,7 @@ pub buffer-answers-hold : bufferAnswers ≡ (hex "0030 0201" ∷ hex "00300000 0
 buffer-answers-hold = lists-eq bufferAnswers (hex "0030 0201" ∷ hex "00300000 0201" ∷ []) refl
 
 pub histories-hold : map taken histories ≡ map written histories
-unfolding histories setsTaken fires
+unfolding histories setsTaken fires isBeyond
 histories-hold = holds-eq (map taken histories) (map written histories) refl
 
 pub lasts-hold : lasts ≡ (hex "20" ∷ hex "30" ∷ [])

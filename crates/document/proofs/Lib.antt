@@ -2,6 +2,7 @@ pub mod Areas
 pub mod Bytes
 pub mod Calls
 pub mod Cases
+pub mod Levels
 pub mod Order
 pub mod Pairs
 pub mod Places

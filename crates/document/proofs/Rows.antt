@@ -9,7 +9,7 @@ use Rattle.document.specs.Services.{serviceOf}
 use Rattle.document.specs.Message.{heard, finishedBy}
 use Rattle.document.specs.Answer.{answerOnWire}
 use Rattle.document.specs.Plan.{planIn}
-use Rattle.document.specs.Trigger.{fires}
+use Rattle.document.specs.Trigger.{fires, isBeyond}
 use Rattle.document.specs.Run.{ranTick, memoryAfterTick}
 use Rattle.document.specs.Permission.{mayBeWritten}
 use Rattle.document.specs.Refusals.{refusal}
@@ -25,6 +25,7 @@ use Rattle.document.specs.SetupRows.{setupRows}
 use Rattle.document.specs.RecorderRows.{recorderRows}
 use Rattle.document.specs.TriggerRows.{triggerRows}
 use Rattle.document.specs.EdgeRows.{Edge, firesAt, edges, complements, complementsWritten}
+use Rattle.document.specs.LevelRows.{Level, firesFirst, levels}
 
 -- ---- the test
 
@@ -97,12 +98,16 @@ unfolding lineRows readRows writeRows scopeRows setupRows recorderRows triggerRo
 said = map saidBy lineRows ++ map saidBy rows
 
 pub rows-hold : given ≡ said
-unfolding lineRows readRows writeRows scopeRows setupRows recorderRows triggerRows applicationRows answerOnWire heard finishedBy serviceOf mayBeWritten refusal answered planIn fires ranTick memoryAfterTick beside
+unfolding lineRows readRows writeRows scopeRows setupRows recorderRows triggerRows applicationRows answerOnWire heard finishedBy serviceOf mayBeWritten refusal answered planIn fires isBeyond ranTick memoryAfterTick beside
 rows-hold = holds-eq given said refl
 
 pub edges-hold : map firesAt edges ≡ map (λ (e : Edge). e .fires) edges
 unfolding edges fires
 edges-hold = refl
+
+pub levels-hold : map firesFirst levels ≡ map (λ (l : Level). l .fires) levels
+unfolding levels isBeyond
+levels-hold = refl
 
 pub complements-hold : complements ≡ complementsWritten
 complements-hold = refl

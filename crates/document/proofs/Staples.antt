@@ -5,7 +5,7 @@ use Rattle.document.specs.Services.{serviceOf}
 use Rattle.document.specs.Message.{heard, finishedBy}
 use Rattle.document.specs.Answer.{answerOnWire}
 use Rattle.document.specs.Plan.{planIn}
-use Rattle.document.specs.Trigger.{fires}
+use Rattle.document.specs.Trigger.{fires, isBeyond}
 use Rattle.document.specs.Run.{ranTick, memoryAfterTick}
 use Rattle.document.specs.Permission.{mayBeWritten}
 use Rattle.document.specs.Refusals.{refusal}
@@ -19,5 +19,5 @@ unfolding staples orders notServedCases
 table = staples ++ orders ++ notServedCases
 
 pub staples-hold : map shown table ≡ map (λ (c : Case). c .shows) table
-unfolding staples orders notServedCases answerOnWire heard finishedBy serviceOf mayBeWritten refusal answered planIn fires ranTick memoryAfterTick beside
+unfolding staples orders notServedCases answerOnWire heard finishedBy serviceOf mayBeWritten refusal answered planIn fires isBeyond ranTick memoryAfterTick beside
 staples-hold = refl

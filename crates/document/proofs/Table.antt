@@ -5,9 +5,10 @@ use Rattle.document.specs.Staples.{Case, shown}
 use Rattle.document.specs.Rows.{saidBy, stepByStep}
 use Rattle.document.specs.RefusalPairs.{pairRows, faultyMessages}
 use Rattle.document.specs.EdgeRows.{Edge, edges, firesAt}
+use Rattle.document.specs.LevelRows.{Level, levels, firesFirst}
 use Rattle.document.specs.KindRows.{kindRows, kindsFrom, kindsIn}
 use Rattle.document.proofs.Staples.{table, staples-hold}
-use Rattle.document.proofs.Rows.{given, said, rows-hold, edges-hold}
+use Rattle.document.proofs.Rows.{given, said, rows-hold, edges-hold, levels-hold}
 use Rattle.document.proofs.Pairs.{pairs-hold, kinds-hold}
 
 pub table-holds :
@@ -15,5 +16,6 @@ pub table-holds :
     × (given ≡ said)
     × (map stepByStep (pairRows faultyMessages) ≡ map saidBy (pairRows faultyMessages))
     × (map firesAt edges ≡ map (λ (e : Edge). e .fires) edges)
+    × (map firesFirst levels ≡ map (λ (l : Level). l .fires) levels)
     × (kindsFrom 0 kindRows ≡ kindsIn kindRows)
-table-holds = (staples-hold, rows-hold, pairs-hold, edges-hold, kinds-hold)
+table-holds = (staples-hold, rows-hold, pairs-hold, edges-hold, levels-hold, kinds-hold)

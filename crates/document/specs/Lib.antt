@@ -53,6 +53,7 @@ pub mod ScopeRows
 pub mod SetupRows
 pub mod RecorderRows
 pub mod EdgeRows
+pub mod LevelRows
 pub mod TriggerRows
 pub mod ApplicationRows
 pub mod SetRows

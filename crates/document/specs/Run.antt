@@ -6,8 +6,8 @@ use lib.Dec.{eqb, ltb}
 use Rattle.document.specs.Areas.{bufferBegin}
 use Rattle.document.specs.Stores.{stored}
 use Rattle.document.specs.Variables.{setSize, valuesOf}
-use Rattle.document.specs.Plan.{Plan}
-use Rattle.document.specs.Trigger.{triggerValue, fires}
+use Rattle.document.specs.Plan.{Plan, Trigger}
+use Rattle.document.specs.Trigger.{triggerValue, fires, isBeyond}
 
 -- how far the trigger has come
 pub data Watch : Type 0 where
@@ -58,11 +58,20 @@ placeAfter samples place = cond (eqb (place + 1) samples) 0 (place + 1)
 abbrev pub fullAfter : ℕ → ℕ → Bool → Bool
 fullAfter samples place full = full || eqb (place + 1) samples
 
--- "Then, if no trigger has come, the trigger variable is compared. .. The first set after a start only supplies the
--- previous value."; "At a trigger, the post-trigger number of further sets is taken"
+-- "Then, if no trigger has come, the trigger variable is compared."; 2026-02: the first set for itself, and "Later sets keep
+-- 01's rule."
+abbrev pub comes : Trigger → Watch → ℕ → Bool
+comes t unprimed value = isBeyond t value
+comes t (previous before) value = fires t before value
+comes t (triggered left) value = false
+
+-- "At a trigger, the post-trigger number of further sets is taken"
+abbrev pub lookedAt : Plan → Bool → ℕ → Watch
+lookedAt p come value = cond come (triggered (p .postTrigger)) (previous value)
+
 abbrev pub watched : Plan → Watch → ℕ → Watch
-watched p unprimed value = previous value
-watched p (previous before) value = cond (fires (p .trigger) before value) (triggered (p .postTrigger)) (previous value)
+watched p unprimed value = lookedAt p (comes (p .trigger) unprimed value) value
+watched p (previous before) value = lookedAt p (comes (p .trigger) (previous before) value) value
 watched p (triggered left) value = triggered (left - 1)
 
 -- "the recorder stops with the last. With 0 it stops at that tick."

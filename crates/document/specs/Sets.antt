@@ -6,7 +6,7 @@ use lib.ListN.{length, take, drop}
 use Rattle.document.specs.Areas.{bytesAt}
 use Rattle.document.specs.Variables.{setSize}
 use Rattle.document.specs.Plan.{Plan}
-use Rattle.document.specs.Trigger.{triggerValue, fires}
+use Rattle.document.specs.Trigger.{triggerValue, fires, isBeyond}
 use Rattle.document.specs.Run.{placeBegins, placeAfter, setOf}
 
 -- "After a start the first tick takes a set, then every (time divider + 1)th.": `wait` ticks pass before the next set
@@ -23,10 +23,13 @@ untilStop p before (m ∷ ms) =
     (take (p .postTrigger) ms)
     (untilStop p (triggerValue (p .trigger) m) ms)
 
--- "The first set after a start only supplies the previous value."
+-- 2026-02: the first set after a start fires where it is at or beyond the threshold; "Later sets keep 01's rule."
 abbrev pub fromFirst : Plan → List (List ℕ) → List (List ℕ)
 fromFirst p [] = []
-fromFirst p (m ∷ ms) = m ∷ untilStop p (triggerValue (p .trigger) m) ms
+fromFirst p (m ∷ ms) =
+    m ∷ cond (isBeyond (p .trigger) (triggerValue (p .trigger) m))
+    (take (p .postTrigger) ms)
+    (untilStop p (triggerValue (p .trigger) m) ms)
 
 -- the sets taken, oldest first
 unfoldable pub setsTaken : Plan → List (List ℕ) → List (List ℕ)

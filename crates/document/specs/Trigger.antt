@@ -1,5 +1,5 @@
 -- The trigger: "Rising: the value at the previous set was below the threshold, this one is at or above it. Falling:
--- previous above, this one at or below."
+-- previous above, this one at or below." The first set after a start has no previous one; 2026-02 says when it fires.
 use mathlib.Core.Bool.{Bool, false, cond, _&&_}
 use mathlib.Core.List.{List}
 use Prim.Native.Nat.{ℕ}
@@ -29,3 +29,10 @@ unfoldable pub fires : Trigger → ℕ → ℕ → Bool
 fires t previous this =
     cond (eqb (t .mode) 1) (rises (compared t (t .threshold)) (compared t previous) (compared t this))
     (cond (eqb (t .mode) 2) (falls (compared t (t .threshold)) (compared t previous) (compared t this)) false)
+
+-- 2026-02: "the first set after a start fires a rising trigger when its value is at or above the threshold, and a falling one
+-- when at or below"
+unfoldable pub isBeyond : Trigger → ℕ → Bool
+isBeyond t this =
+    cond (eqb (t .mode) 1) (leZ (compared t (t .threshold)) (compared t this))
+    (cond (eqb (t .mode) 2) (leZ (compared t this) (compared t (t .threshold))) false)

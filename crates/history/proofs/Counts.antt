@@ -1,13 +1,14 @@
 -- The counts of a run never leave what the plan's fields hold, however long it runs.
 use mathlib.Core.Path.{refl}
+use mathlib.Core.Bool.{Bool, true, false}
 use mathlib.Core.List.{List, [], _∷_}
 use Prim.Native.Nat.{ℕ, _+_, _<_, _≤_}
 use native.Mathlib.Omega.{arith}
 use lib.Dec.{eqb}
 use borrow.Author.Tests.{eqb-false}
 use Rattle.document.specs.Plan.{Plan}
-use Rattle.document.specs.Trigger.{triggerValue, fires}
-use Rattle.document.specs.Run.{Watch, Run, started, stopped, placeAfter, watched, ranTick}
+use Rattle.document.specs.Trigger.{triggerValue, fires, isBeyond}
+use Rattle.document.specs.Run.{Watch, Run, started, stopped, placeAfter, lookedAt, watched, ranTick}
 use Rattle.document.specs.Run.Watch.{unprimed, previous, triggered}
 use Rattle.history.specs.History.{PlanFits, CountsFit, setsLeft, Event, Recording, begun, stepped, after}
 use Rattle.history.specs.History.Event.{tick, others, stop}
@@ -20,9 +21,13 @@ place-fits n i h =
     (λ t. rw t (omega arith))
     (λ f. rw f (omega (arith, eqb-false (i + 1) n f)))
 
+looked-fits : (p : Plan) (come : Bool) (v : ℕ) → setsLeft (lookedAt p come v) ≤ p .postTrigger
+looked-fits p true v = omega arith
+looked-fits p false v = omega arith
+
 left-fits : (p : Plan) (w : Watch) (v : ℕ) → setsLeft w ≤ p .postTrigger → setsLeft (watched p w v) ≤ p .postTrigger
-left-fits p unprimed v h = omega arith
-left-fits p (previous before) v h = split (fires (p .trigger) before v) (λ t. rw t (omega arith)) (λ f. rw f (omega arith))
+left-fits p unprimed v h = looked-fits p (isBeyond (p .trigger) v) v
+left-fits p (previous before) v h = looked-fits p (fires (p .trigger) before v) v
 left-fits p (triggered left) v h = omega arith
 
 pub started-fits : (p : Plan) → PlanFits p → CountsFit p started

@@ -6,7 +6,7 @@ use Prim.Native.Nat.{ℕ}
 use native.Mathlib.Omega.{arith}
 use lib.ListN.{replicate, set}
 use Rattle.document.specs.Plan.{Plan}
-use Rattle.document.specs.Trigger.{fires}
+use Rattle.document.specs.Trigger.{fires, isBeyond}
 use Rattle.document.specs.Run.{startIndex, ranTick, memoryAfterTick}
 use Rattle.document.specs.Sets.{setsTaken, readRound}
 use Rattle.history.specs.History.{PlanFits, Event, begun, after, memoriesLeft}
@@ -40,14 +40,14 @@ pub plan-fits : PlanFits plan
 plan-fits = record { samples = omega arith; room = omega arith; variables = refl; trigger = refl }
 
 pub sets-are : setsTaken plan (memoriesLeft zeros events) ≡ (3 ∷ 1 ∷ []) ∷ (4 ∷ 2 ∷ []) ∷ (7 ∷ 9 ∷ []) ∷ (7 ∷ 9 ∷ []) ∷ []
-unfolding setsTaken fires
+unfolding setsTaken fires isBeyond
 sets-are = refl
 
 pub ring-reads : readRound plan (after plan (begun zeros) events .memory) (startIndex (after plan (begun zeros) events .run)) 2
     ≡ (7 ∷ 9 ∷ []) ∷ (7 ∷ 9 ∷ []) ∷ []
-unfolding ranTick memoryAfterTick fires
+unfolding ranTick memoryAfterTick fires isBeyond
 ring-reads = refl
 
 pub stops-then : after plan (begun zeros) events .run .running ≡ false
-unfolding ranTick memoryAfterTick fires
+unfolding ranTick memoryAfterTick fires isBeyond
 stops-then = refl

@@ -9,5 +9,6 @@ pub mod Sets
 pub mod History
 pub mod Stop
 pub mod Untriggered
+pub mod Beyond
 pub mod Accepted
 pub mod Example

@@ -11,8 +11,8 @@ use lib.Seq.{take-nil}
 use borrow.Author.Tests.{ltb-true, ltb-false}
 use Rattle.document.specs.Areas.{recordedEnd}
 use Rattle.document.specs.Plan.{Plan}
-use Rattle.document.specs.Trigger.{triggerValue, fires}
-use Rattle.document.specs.Run.{Watch, Run, placeBegins, setOf, watched, goesOn, setTaken, memoryAfterTick}
+use Rattle.document.specs.Trigger.{triggerValue, fires, isBeyond}
+use Rattle.document.specs.Run.{Watch, Run, placeBegins, setOf, lookedAt, watched, goesOn, setTaken, memoryAfterTick}
 use Rattle.document.specs.Run.Watch.{unprimed, previous, triggered}
 use Rattle.document.specs.Sets.{every, untilStop, fromFirst, setsTaken}
 use Rattle.history.specs.History.{PlanFits, CountsFit, Event, Recording, begun, stepped, taken, memoriesLeft, memoriesFound}
@@ -52,15 +52,19 @@ module _ (p : Plan) where
   wanted-none (previous before) = refl
   wanted-none (triggered left) = take-nil left
 
+  -- a set at which the trigger comes, or does not
+  looked-takes : (come : Bool) (m : List ℕ) (ms : List (List ℕ))
+      → m ∷ cond come (take (p .postTrigger) ms) (untilStop p (triggerValue (p .trigger) m) ms)
+      ≡ m ∷ cond (goesOn (lookedAt p come (triggerValue (p .trigger) m))) (wanted (lookedAt p come (triggerValue (p .trigger) m)) ms) []
+  looked-takes true m ms = ap (λ (l : List (List ℕ)). m ∷ l) (cut (p .postTrigger) ms)
+  looked-takes false m ms = refl
+
   -- a set is taken, and then what the next watch wants
   wanted-takes : (w : Watch) (m : List ℕ) (ms : List (List ℕ)) → goesOn w ≡ true
       → wanted w (m ∷ ms)
       ≡ m ∷ cond (goesOn (watched p w (triggerValue (p .trigger) m))) (wanted (watched p w (triggerValue (p .trigger) m)) ms) []
-  wanted-takes unprimed m ms g = refl
-  wanted-takes (previous before) m ms g =
-      split (fires (p .trigger) before (triggerValue (p .trigger) m))
-      (λ t. rw t (ap (λ (l : List (List ℕ)). m ∷ l) (cut (p .postTrigger) ms)))
-      (λ f. rw f)
+  wanted-takes unprimed m ms g = looked-takes (isBeyond (p .trigger) (triggerValue (p .trigger) m)) m ms
+  wanted-takes (previous before) m ms g = looked-takes (fires (p .trigger) before (triggerValue (p .trigger) m)) m ms
   wanted-takes (triggered left) m ms g =
       let e : left ≡ suc (left - 1) = omega (arith, ltb-true 0 left g) in
       ap (λ (k : ℕ). take k (m ∷ ms)) e ∙ ap (λ (l : List (List ℕ)). m ∷ l) (cut (left - 1) ms)

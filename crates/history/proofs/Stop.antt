@@ -10,8 +10,8 @@ use lib.Dec.{ltb}
 use lib.ListN.{length, length-append}
 use borrow.Author.Tests.{ltb-true, ltb-false, lt-ltb, le-ltb}
 use Rattle.document.specs.Plan.{Plan}
-use Rattle.document.specs.Trigger.{triggerValue, fires}
-use Rattle.document.specs.Run.{Watch, Run, setOf, watched, goesOn, setTaken, waited, ranTick}
+use Rattle.document.specs.Trigger.{triggerValue}
+use Rattle.document.specs.Run.{Watch, Run, setOf, comes, watched, goesOn, setTaken, waited, ranTick}
 use Rattle.document.specs.Run.Watch.{unprimed, previous, triggered}
 use Rattle.history.specs.History.{Event, Recording, stepped, after, takenAt, taken, ticks, Unstopped, TriggersNext, setsLeft}
 use Rattle.history.specs.History.Event.{tick, others, stop}
@@ -127,11 +127,14 @@ module _ (p : Plan) where
     all : due r ≡ p .postTrigger * suc (p .divider)
     left : setsLeft (r .watch) ≡ p .postTrigger
 
-  fired-set : (r : Run) (m : List ℕ) (before : ℕ) → r .watch ≡ previous before
-      → fires (p .trigger) before (triggerValue (p .trigger) m) ≡ true → Fired (setTaken p r m)
-  fired-set r m before w t =
-      let e : watched p (r .watch) (triggerValue (p .trigger) m) ≡ triggered (p .postTrigger) =
-      ap (λ (x : Watch). watched p x (triggerValue (p .trigger) m)) w ∙ rw t in
+  came-at : (w : Watch) (x : ℕ) → comes (p .trigger) w x ≡ true → watched p w x ≡ triggered (p .postTrigger)
+  came-at unprimed x t = rw t
+  came-at (previous before) x t = rw t
+  came-at (triggered left) x t = neither t
+
+  fired-set : (r : Run) (m : List ℕ) → comes (p .trigger) (r .watch) (triggerValue (p .trigger) m) ≡ true → Fired (setTaken p r m)
+  fired-set r m t =
+      let e = came-at (r .watch) (triggerValue (p .trigger) m) t in
       record {
         counting = record { came = rw e; runs = refl };
         all = rw e (due-all (p .divider) (p .postTrigger));
@@ -140,7 +143,7 @@ module _ (p : Plan) where
 
   fired-tick : (g : Recording) → TriggersNext p g → Fired (stepped p g tick .run)
   fired-tick g t =
-      rw (takes-run p (g .run) (g .memory) (t .running) (t .due)) (fired-set (g .run) (g .memory) (t .value) (t .before) (t .now-fires))
+      rw (takes-run p (g .run) (g .memory) (t .running) (t .due)) (fired-set (g .run) (g .memory) (t .comes-now))
 
   -- it runs while ticks are due
   runs-due : (r : Run) → Counting r → r .running ≡ ltb 0 (due r)

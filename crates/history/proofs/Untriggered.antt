@@ -5,8 +5,8 @@ use mathlib.Core.List.{List, [], _∷_}
 use Prim.Native.Nat.{ℕ, suc, _*_}
 use borrow.Author.Tests.{ltb-false}
 use Rattle.document.specs.Plan.{Plan}
-use Rattle.document.specs.Trigger.{triggerValue, fires}
-use Rattle.document.specs.Run.{Watch, Run, watched, goesOn}
+use Rattle.document.specs.Trigger.{triggerValue, fires, isBeyond}
+use Rattle.document.specs.Run.{Watch, Run, comes, watched, goesOn}
 use Rattle.document.specs.Run.Watch.{unprimed, previous, triggered}
 use Rattle.history.specs.History.{Event, Recording, begun, stepped, after, ticks, Unstopped, TriggersNext, StoppedByTrigger}
 use Rattle.history.specs.History.Event.{tick, others, stop}
@@ -21,12 +21,11 @@ record Watching (r : Run) : Type 0 where
 
 -- by whether the trigger comes at a set
 by-set : {P : Type 0} (p : Plan) (w : Watch) (x : ℕ) → hasTriggered w ≡ false
-    → ((before : ℕ) → w ≡ previous before → fires (p .trigger) before x ≡ true → P)
+    → (comes (p .trigger) w x ≡ true → P)
     → (goesOn (watched p w x) ≡ true → hasTriggered (watched p w x) ≡ false → P) → P
-by-set p unprimed x c comes comes-not = comes-not refl refl
-by-set p (previous before) x c comes comes-not =
-    split (fires (p .trigger) before x) (λ t. comes before refl t) (λ f. comes-not (rw f) (rw f))
-by-set p (triggered left) x c comes comes-not = neither (sym c)
+by-set p unprimed x c come come-not = split (isBeyond (p .trigger) x) come (λ f. come-not (rw f) (rw f))
+by-set p (previous before) x c come come-not = split (fires (p .trigger) before x) come (λ f. come-not (rw f) (rw f))
+by-set p (triggered left) x c come come-not = neither (sym c)
 
 module _ (p : Plan) where
   -- one event more in front
@@ -51,8 +50,8 @@ module _ (p : Plan) where
       (stopped-from es (stepped p g tick)
       (rw (waits-run p (g .run) (g .memory) r z) (record { running = w .running; calm = w .calm })) u e))
       (λ r z. by-set p (g .run .watch) (triggerValue (p .trigger) (g .memory)) (w .calm)
-      (λ before b t.
-      let n : TriggersNext p g = record { running = r; due = z; value = before; before = b; now-fires = t } in
+      (λ t.
+      let n : TriggersNext p g = record { running = r; due = z; comes-now = t } in
       record {
         earlier = [];
         later = es;
@@ -72,9 +71,11 @@ module _ (p : Plan) where
       → StoppedByTrigger p (begun m) es
   stops-by-trigger m es u e = stopped-from es (begun m) (record { running = refl; calm = refl }) u e
 
-  no-mode : (x y : ℕ) → p .trigger .mode ≡ 0 → fires (p .trigger) x y ≡ false
-  unfolding fires
-  no-mode x y e = rw e
+  no-mode : (w : Watch) (x : ℕ) → p .trigger .mode ≡ 0 → comes (p .trigger) w x ≡ false
+  unfolding fires isBeyond
+  no-mode unprimed x e = rw e
+  no-mode (previous before) x e = rw e
+  no-mode (triggered left) x e = refl
 
   -- with mode 0 it never stops by itself
   pub mode-0-runs : (m : List ℕ) (es : List Event) → p .trigger .mode ≡ 0 → Unstopped es → after p (begun m) es .run .running ≡ true
@@ -82,4 +83,5 @@ module _ (p : Plan) where
       split (after p (begun m) es .run .running)
       (λ t. t)
       (λ f. let s = stops-by-trigger m es u f in
-      neither (sym (no-mode (s .came .value) (triggerValue (p .trigger) (after p (begun m) (s .earlier) .memory)) z) ∙ s .came .now-fires))
+      let g = after p (begun m) (s .earlier) in
+      neither (sym (no-mode (g .run .watch) (triggerValue (p .trigger) (g .memory)) z) ∙ s .came .comes-now))

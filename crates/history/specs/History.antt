@@ -1,15 +1,15 @@
 -- What a plan grants, what happens to a recorder since a start, and what it takes: the words of the theorems.
 use mathlib.Core.Path.{_≡_}
-use mathlib.Core.Bool.{true, cond, _&&_}
+use mathlib.Core.Bool.{Bool, true, false, cond, _&&_}
 use mathlib.Core.List.{List, [], _∷_, _++_}
 use Prim.Native.Nat.{ℕ, zero, suc, _*_, _<_, _≤_}
-use lib.ListN.{length, drop}
+use lib.ListN.{length, take, drop}
 use lib.Dec.{eqb}
 use Rattle.document.specs.Areas.{bufferBegin, memoryEnd, mayBeRecorded}
 use Rattle.document.specs.Variables.{setSize, allMay}
 use Rattle.document.specs.Plan.{Plan}
-use Rattle.document.specs.Trigger.{triggerValue, fires}
-use Rattle.document.specs.Run.{Watch, Run, started, stopped, setOf, placeAfter, goesOn, ranTick, memoryAfterTick}
+use Rattle.document.specs.Trigger.{triggerValue, isBeyond}
+use Rattle.document.specs.Run.{Watch, Run, started, stopped, setOf, placeAfter, comes, goesOn, ranTick, memoryAfterTick}
 use Rattle.document.specs.Run.Watch.{unprimed, previous, triggered}
 
 -- what an accepted setup grants: not "0 samples; samples times set size above 4,096", and "Recorded variables and trigger
@@ -61,9 +61,13 @@ AllLeaveBuffer p g (e ∷ es) = LeavesBuffer g e × AllLeaveBuffer p (stepped p 
 
 -- ---- what is taken
 
+-- the next tick takes a set
+abbrev pub takesNext : Recording → Bool
+takesNext g = g .run .running && eqb (g .run .wait) 0
+
 -- the set that an event takes, if it takes one
 abbrev pub takenAt : Plan → Recording → Event → List (List ℕ)
-takenAt p g tick = cond (g .run .running && eqb (g .run .wait) 0) (setOf p (g .memory) ∷ []) []
+takenAt p g tick = cond (takesNext g) (setOf p (g .memory) ∷ []) []
 takenAt p g (others memory) = []
 takenAt p g stop = []
 
@@ -90,6 +94,30 @@ memoriesFound p g (stop ∷ es) = []
 abbrev pub placeOfSet : ℕ → ℕ → ℕ
 placeOfSet samples zero = 0
 placeOfSet samples (suc k) = placeAfter samples (placeOfSet samples k)
+
+-- ---- when the trigger comes
+
+-- the trigger variable is at or beyond the threshold
+abbrev pub beyondIn : Plan → List ℕ → Bool
+beyondIn p memory = isBeyond (p .trigger) (triggerValue (p .trigger) memory)
+
+-- at none of the sets that these events take
+abbrev pub NoneBeyond : Plan → Recording → List Event → Type 0
+NoneBeyond p g [] = Unit {0}
+NoneBeyond p g (tick ∷ es) = (takesNext g ≡ true → beyondIn p (g .memory) ≡ false) × NoneBeyond p (stepped p g tick) es
+NoneBeyond p g (others memory ∷ es) = NoneBeyond p (stepped p g (others memory)) es
+NoneBeyond p g (stop ∷ es) = NoneBeyond p (stepped p g stop) es
+
+-- the sets up to the first there, and post-trigger further ones
+abbrev pub untilBeyond : Plan → List (List ℕ) → List (List ℕ)
+untilBeyond p [] = []
+untilBeyond p (m ∷ ms) = m ∷ cond (beyondIn p m) (take (p .postTrigger) ms) (untilBeyond p ms)
+
+-- the trigger comes at the next tick
+pub record TriggersNext (p : Plan) (g : Recording) : Type 0 where
+  pub running : g .run .running ≡ true
+  pub due : g .run .wait ≡ 0
+  pub comes-now : comes (p .trigger) (g .run .watch) (triggerValue (p .trigger) (g .memory)) ≡ true
 
 -- ---- when it stops
 
@@ -118,14 +146,6 @@ Unstopped [] = Unit {0}
 Unstopped (tick ∷ es) = Unstopped es
 Unstopped (others memory ∷ es) = Unstopped es
 Unstopped (stop ∷ es) = ⊥
-
--- the trigger comes at the next tick
-pub record TriggersNext (p : Plan) (g : Recording) : Type 0 where
-  pub running : g .run .running ≡ true
-  pub due : g .run .wait ≡ 0
-  pub value : ℕ
-  pub before : g .run .watch ≡ previous value
-  pub now-fires : fires (p .trigger) value (triggerValue (p .trigger) (g .memory)) ≡ true
 
 -- among these events a trigger came at a tick, and all that follows a trigger is over
 pub record StoppedByTrigger (p : Plan) (g : Recording) (es : List Event) : Type 0 where

@@ -2,12 +2,13 @@
 use mathlib.Core.Path.{_≡_, sym}
 use mathlib.Core.Bool.{Bool, true, false, _&&_, _||_}
 use Prim.Native.Nat.{ℕ, _*_, _^_, _<_, _≤_}
+use native.Mathlib.Omega.{arith}
 use lib.Dec.{eqb, ltb, leb}
-use borrow.Author.Tests.{eqb-true, ltb-true, leb-true, ne-eqb}
+use borrow.Author.Tests.{eqb-true, ltb-true, leb-true, leb-false, ne-eqb}
 use Rattle.plans.specs.declared.plan.Plan.{Plan as PlanState}
 use Rattle.runs.specs.declared.run.Run.{Run as RunState}
 use Rattle.runs.specs.Bounds.{watchSound, runSound}
-use Rattle.document.proofs.Cases.{neither, both}
+use Rattle.document.proofs.Cases.{split, neither, both}
 
 -- of a choice whose first does not hold
 second-of : (a b : Bool) → a ≡ false → a || b ≡ true → b ≡ true
@@ -63,3 +64,10 @@ module _ (size post running watch value : ℕ) (s : watchSound size post running
 
     pub left-some : running ≡ 1 → 1 ≤ value
     left-some e = ltb-true 0 value (second-of (eqb running 0) (ltb 0 value) (rw e) (parts .1))
+
+  -- not triggered: unprimed or previous
+  pub awaits : (watch ≡ 2 → ⊥) → watch ≤ 1
+  awaits n =
+      split (leb watch 1)
+      (λ t. leb-true watch 1 t)
+      (λ f. let h : 1 < watch = leb-false watch 1 f in absurd (n (watch-two (λ e. omega arith) (λ e. omega arith))))

@@ -7,10 +7,9 @@ use native.Mathlib.Omega.{arith}
 use lib.Dec.{leb}
 use borrow.Author.Tests.{lt-ltb, le-leb, eqb-true}
 use Rattle.document.specs.Plan.{Plan}
-use Rattle.document.specs.Trigger.{triggerValue, fires}
-use Rattle.document.specs.Run.{Watch, Run, started, stopped, watched, goesOn, ranTick}
+use Rattle.document.specs.Trigger.{triggerValue, fires, isBeyond}
+use Rattle.document.specs.Run.{Watch, Run, started, stopped, lookedAt, watched, goesOn, ranTick}
 use Rattle.document.specs.Run.Watch.{unprimed, previous, triggered}
-use Rattle.document.proofs.Cases.{split}
 use Rattle.history.specs.History.{CountsFit, setsLeft}
 use Rattle.history.proofs.Ticks.{by-case, stopped-run, waits-run, takes-run}
 use Rattle.history.proofs.Counts.{started-fits, stopped-fits, tick-fits}
@@ -92,9 +91,13 @@ pub started-run-sound : (p : PlanState) → planSound p ≡ true → runSound p 
 started-run-sound p s = run-sound p started (started-fits (planOf p) (sound-fits p s)) tt
 
 -- a value of the trigger's size leaves one
+value-looked : (p : Plan) (size : ℕ) (come : Bool) (x : ℕ) → x < 2 ^ (8 * size) → ValueFits size (lookedAt p come x)
+value-looked p size true x h = tt
+value-looked p size false x h = h
+
 value-watched : (p : Plan) (size : ℕ) (w : Watch) (x : ℕ) → x < 2 ^ (8 * size) → ValueFits size w → ValueFits size (watched p w x)
-value-watched p size unprimed x h v = h
-value-watched p size (previous before) x h v = split (fires (p .trigger) before x) (λ t. rw t tt) (λ f. rw f h)
+value-watched p size unprimed x h v = value-looked p size (isBeyond (p .trigger) x) x h
+value-watched p size (previous before) x h v = value-looked p size (fires (p .trigger) before x) x h
 value-watched p size (triggered left) x h v = tt
 
 pub ticked-run-sound : (p : PlanState) (r : RunState) (m : List ℕ) → runSound p r ≡ true

@@ -5,7 +5,7 @@ ghost use mathlib.Core.List.{List};
 ghost use Prim.Native.Nat.{ℕ, _+_, _*_, _^_, _≤_, _<_};
 ghost use lib.Dec.{ltb};
 ghost use Rattle.document.specs.Trigger.{triggerValue};
-ghost use Rattle.document.specs.Run.{placeAfter, fullAfter, watched, setTaken};
+ghost use Rattle.document.specs.Run.{placeAfter, fullAfter, comes, watched, setTaken};
 ghost use Rattle.plans.specs.State.{triggerOf, planOf};
 ghost use Rattle.runs.specs.State.{isSet, flagOf, watchOf, watching, runOf, runKept};
 ghost use Rattle.plans.specs.Bounds.{planSound};
@@ -16,6 +16,7 @@ use crate::run::TRIGGERED;
 use crate::run::UNPRIMED;
 use plans::Plan;
 use triggers::comes;
+use triggers::is_beyond;
 use widths::u32_of_u16;
 use widths::usize_of_u8;
 
@@ -56,29 +57,37 @@ impl Run {
         self
     }
 
+    // Whether the trigger, which is awaited, comes at a set with this value: the first set is looked at for itself.
+    fn does_come(self, plan: Plan, value: u32) -> bool
+        requires { ⌜ (planSound plan ≡ true) × (watchSound (plan .size) (plan .«post_trigger») (self .running) (self .watch) (self .value) ≡ true) × (self .watch ≡ 2 → ⊥) × (value < 2 ^ (8 * plan .size)) ⌝ }
+        ensures { λ r. ⌜ r ≡ comes (triggerOf plan) (watchOf (self .watch) (self .value)) value ⌝ }
+    {
+        let size = usize_of_u8(plan.size);
+        if self.watch == UNPRIMED {
+            return is_beyond(plan.mode, plan.sign, size, plan.threshold, value);
+        }
+        comes(
+            plan.mode,
+            plan.sign,
+            size,
+            plan.threshold,
+            self.value,
+            value,
+        )
+    }
+
     // The trigger variable held `value` at the set just taken.
     fn watch_on(self, plan: Plan, value: u32) -> Run
         requires { ⌜ (planSound plan ≡ true) × (watchSound (plan .size) (plan .«post_trigger») (self .running) (self .watch) (self .value) ≡ true) × (self .running ≡ 1) × (value < 2 ^ (8 * plan .size)) ⌝ }
         ensures { λ r. ⌜ r ≡ watching (self .full) (self .wait) (self .place) (watched (planOf plan) (watchOf (self .watch) (self .value)) value) ⌝ }
     {
-        if self.watch == UNPRIMED {
-            return self.primed(value);
+        if self.watch == TRIGGERED {
+            return self.counting(self.value - 1);
         }
-        if self.watch == PREVIOUS {
-            let size = usize_of_u8(plan.size);
-            if comes(
-                plan.mode,
-                plan.sign,
-                size,
-                plan.threshold,
-                self.value,
-                value,
-            ) {
-                return self.counting(u32_of_u16(plan.post_trigger));
-            }
-            return self.primed(value);
+        if self.does_come(plan, value) {
+            return self.counting(u32_of_u16(plan.post_trigger));
         }
-        self.counting(self.value - 1)
+        self.primed(value)
     }
 
     // A set is taken, at which the trigger variable held `value`. The tick, which calls this, has a state within its bounds.

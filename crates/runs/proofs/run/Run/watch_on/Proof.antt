@@ -1,121 +1,92 @@
--- The three watches: the first set primes, a set after the previous is looked at, one after the trigger is counted.
+-- Behind the trigger a set is counted; before it the set is looked at, and the trigger comes or is still awaited.
 use mathlib.Core.Path.{_≡_, sym, ap, _∙_}
 use mathlib.Core.Bool.{true, false}
-use Prim.Native.Nat.{ℕ}
-use Rattle.document.specs.Trigger.{fires}
+use Prim.Native.Nat.{ℕ, _≤_}
+use native.Mathlib.Omega.{arith}
 use Rattle.document.specs.Run.Watch.{triggered}
-use Rattle.plans.specs.State.{triggerOf, planOf}
+use Rattle.plans.specs.State.{planOf}
 use Rattle.runs.specs.State.{watching}
-use Rattle.plans.proofs.Granted.{plan-bounds}
-use Rattle.runs.proofs.Granted.{previous-fits, watch-two, left-some}
-use Rattle.runs.proofs.Watches.{still-running, first-set, looked-set, counted-set}
+use Rattle.runs.proofs.Granted.{awaits, left-some}
+use Rattle.runs.proofs.Watches.{still-running, looked-set, counted-set}
 use borrow.Author.Needs.{needs}
 use Rattle.runs.proofs.run.Run.watch_on.Statement.{statement}
 use Rattle.runs.proofs.run.Run.watch_on.Tie as tie
 
-abbrev start : tie.After-comes → tie.Start
-start c = c .before .before .before .before .before .before
-
-primed-requires : tie.Need-primed-requires
-primed-requires c κs = search needs
-
-returns : tie.Need-returns
-returns c =
-    let s = c .before .before .before in
-    let r = s .args .self in
-    c .primed .ensures
-    ∙ still-running (r .running) (r .full) 1 (r .wait) (r .place) (s .args .value) (s .pre .2)
-    ∙ first-set (planOf (s .args .plan)) (r .full) (r .wait) (r .place) (r .watch) (r .value) (s .args .value) (c .before .if1 .taken)
-
-usize-of-u8-requires : tie.Need-usize-of-u8-requires
-usize-of-u8-requires c κs = search needs
-
-comes-requires : tie.Need-comes-requires
-comes-requires c κs =
-    let s = c .before .before .before .before .before in
+sub-counting : tie.Need-sub-counting
+sub-counting c =
+    let t = c .before in
+    let s = t .before .before in
     let p = s .args .plan in
     let r = s .args .self in
-    let t = plan-bounds p (s .pre .0) .trigger in
-    rw (c .usize-of-u8 .ensures .0) (
-      t .sized,
-      t .small,
-      t .fitting,
-      previous-fits (p .size) (p .«post_trigger») (r .running) (r .watch) (r .value) (s .pre .1) (c .before .if2 .taken),
-      s .pre .3,
-    )
-
-came : (c : tie.After-comes) → c .comes .result ≡ fires (triggerOf (start c .args .plan)) (start c .args .self .value) (start c .args .value)
-came c =
-    let s = start c in
-    let p = s .args .plan in
-    c .comes .ensures (p .address)
-    ∙ ap (λ (n : ℕ). fires (record { mode = p .mode; address = p .address; size = n; sign = p .sign; threshold = p .threshold }) (s .args .self .value) (s .args .value)) (c .before .usize-of-u8 .ensures .0)
-
-u32-of-u16-requires : tie.Need-u32-of-u16-requires
-u32-of-u16-requires c κs = search needs
+    left-some (p .size) (p .«post_trigger») (r .running) (r .watch) (r .value) (s .pre .1)
+    (λ e. omega (arith, t .if1 .taken)) (λ e. omega (arith, t .if1 .taken)) (s .pre .2)
 
 counting-requires : tie.Need-counting-requires
 counting-requires c κs = search needs
 
-returns-2 : tie.Need-returns-2
-returns-2 c =
-    let d = c .before .before .before in
-    let s = start d in
+returns : tie.Need-returns
+returns c =
+    let t = c .before .before in
+    let s = t .before .before in
     let r = s .args .self in
     c .counting .ensures
-    ∙ ap (λ (n : ℕ). watching (r .full) (r .wait) (r .place) (triggered n)) (c .before .u32-of-u16 .ensures .0)
-    ∙ looked-set (planOf (s .args .plan)) (r .full) (r .wait) (r .place) (r .watch) (r .value) (s .args .value) true
-    (d .before .before .if2 .taken)
-    (sym (c .before .before .if3 .taken) ∙ came d)
+    ∙ counted-set (planOf (s .args .plan)) (r .full) (r .wait) (r .place) (r .watch) (r .value) (s .args .value) (t .if1 .taken)
 
-primed-requires-2 : tie.Need-primed-requires-2
-primed-requires-2 c κs = search needs
+does-come-requires : tie.Need-does-come-requires
+does-come-requires c κs = let s = c .before .before in (s .pre .0, s .pre .1, c .if1 .left, s .pre .3)
 
-returns-3 : tie.Need-returns-3
-returns-3 c =
-    let d = c .before .before in
-    let s = start d in
-    let r = s .args .self in
-    c .primed2 .ensures
-    ∙ still-running (r .running) (r .full) 1 (r .wait) (r .place) (s .args .value) (s .pre .2)
-    ∙ looked-set (planOf (s .args .plan)) (r .full) (r .wait) (r .place) (r .watch) (r .value) (s .args .value) false
-    (d .before .before .if2 .taken)
-    (sym (c .before .if3 .left) ∙ came d)
-
-sub-counting : tie.Need-sub-counting
-sub-counting c =
-    let s = c .before .before .before .before .before in
+-- the trigger is awaited
+awaited : (s : tie.Start) → (s .args .self .watch ≡ 2 → ⊥) → s .args .self .watch ≤ 1
+awaited s n =
     let p = s .args .plan in
     let r = s .args .self in
-    left-some (p .size) (p .«post_trigger») (r .running) (r .watch) (r .value) (s .pre .1)
-    (c .before .before .before .if1 .left) (c .before .if2 .left) (s .pre .2)
+    awaits (p .size) (p .«post_trigger») (r .running) (r .watch) (r .value) (s .pre .1) n
+
+u32-of-u16-requires : tie.Need-u32-of-u16-requires
+u32-of-u16-requires c κs = search needs
 
 counting-requires-2 : tie.Need-counting-requires-2
 counting-requires-2 c κs = search needs
 
-returns-4 : tie.Need-returns-4
-returns-4 c =
-    let s = c .before .before .before .before .before .before in
-    let p = s .args .plan in
+returns-2 : tie.Need-returns-2
+returns-2 c =
+    let y = c .before .before in
+    let d = y .before in
+    let n = d .before in
+    let s = n .before .before in
     let r = s .args .self in
     c .counting2 .ensures
-    ∙ counted-set (planOf p) (r .full) (r .wait) (r .place) (r .watch) (r .value) (s .args .value)
-    (watch-two (p .size) (p .«post_trigger») (r .running) (r .watch) (r .value) (s .pre .1)
-    (c .before .before .before .before .if1 .left) (c .before .before .if2 .left))
+    ∙ ap (λ (k : ℕ). watching (r .full) (r .wait) (r .place) (triggered k)) (c .before .u32-of-u16 .ensures .0)
+    ∙ looked-set (planOf (s .args .plan)) (r .full) (r .wait) (r .place) (r .watch) (r .value) (s .args .value) true
+    (awaited s (n .if1 .left))
+    (sym (y .if2 .taken) ∙ d .does-come .ensures)
+
+primed-requires : tie.Need-primed-requires
+primed-requires c κs = search needs
+
+returns-3 : tie.Need-returns-3
+returns-3 c =
+    let y = c .before in
+    let d = y .before in
+    let n = d .before in
+    let s = n .before .before in
+    let r = s .args .self in
+    c .primed .ensures
+    ∙ still-running (r .running) (r .full) 1 (r .wait) (r .place) (s .args .value) (s .pre .2)
+    ∙ looked-set (planOf (s .args .plan)) (r .full) (r .wait) (r .place) (r .watch) (r .value) (s .args .value) false
+    (awaited s (n .if1 .left))
+    (sym (y .if2 .left) ∙ d .does-come .ensures)
 
 pub watch-on-spec : {M : Type 1} → statement M
 watch-on-spec =
     tie.close
     (tie.spec
-    primed-requires
-    returns
-    usize-of-u8-requires
-    comes-requires
-    u32-of-u16-requires
-    counting-requires
-    returns-2
-    primed-requires-2
-    returns-3
     sub-counting
+    counting-requires
+    returns
+    does-come-requires
+    u32-of-u16-requires
     counting-requires-2
-    returns-4)
+    returns-2
+    primed-requires
+    returns-3)

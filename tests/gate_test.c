@@ -1,0 +1,71 @@
+/* A log stands in the virtual gate with its nail under a coil: a recorder that starts then stops with its first set (2026-02). */
+#include "../gate/gate.h"
+#include "../gate/map.h"
+#include "../gate/memory.h"
+
+#include <stdio.h>
+#include <stdlib.h>
+
+/* Milliseconds until a nail has come for sure, and from the alarm until it is well under a coil. */
+enum { A_MINUTE = 60000, WELL_UNDER = 10 };
+
+enum { RISING = 1, FALLING = 2 };
+
+static struct gate gate;
+
+static void expect(int holds, const char *what)
+{
+    if (holds)
+        return;
+    printf("gate_test: not so: %s\n", what);
+    exit(1);
+}
+
+static uint8_t status_of(uint8_t command, const uint8_t *data, size_t length)
+{
+    uint8_t wire[LOG_GATE_COMMAND_ROOM];
+    size_t sent = log_gate_write_command(command, data, length, wire, sizeof wire).length, answered = 0;
+    for (size_t i = 0; i < sent; i++)
+        answered = gate_byte(&gate, wire[i]);
+    expect(answered > 2, "every command is answered");
+    return gate.answer[1];
+}
+
+/* Where a coil reads metal, its belt stopped. */
+static unsigned coil_over_metal(void)
+{
+    for (int i = 0; gate.memory[ALARM] == 0; i++) {
+        expect(i < A_MINUTE, "a nail comes within a minute");
+        gate_tick(&gate);
+    }
+    for (int i = 0; i < WELL_UNDER; i++)
+        gate_tick(&gate);
+    gate.memory[BELT_STOPPED] = 1;
+    unsigned coil = COIL_1;
+    while (number_at(gate.memory + coil, 2) < number_at(gate.memory + THRESHOLD, 2))
+        coil += 2;
+    return coil;
+}
+
+/* The status of a recorder that watches this coil, after its first tick. */
+static uint8_t after_first_tick(unsigned coil, uint8_t mode)
+{
+    const uint8_t *threshold = gate.memory + THRESHOLD;
+    /* mode, 16 sets, no post-trigger, no divider; the trigger's address, size, sign, threshold; one variable of 2 bytes */
+    const uint8_t setup[] = {mode, 16, 0, 0, 0, 0, 0, (uint8_t)coil, 0, 2, 0, threshold[0], threshold[1], 0, 0, 1, 2, (uint8_t)coil, 0};
+    expect(status_of(LOG_GATE_SET_UP_RECORDER, setup, sizeof setup) == LOG_GATE_DONE, "the setup is accepted");
+    gate_tick(&gate);
+    uint8_t status = status_of(LOG_GATE_RECORDER_STATUS, NULL, 0);
+    status_of(LOG_GATE_STOP_RECORDER, NULL, 0);
+    return status;
+}
+
+int main(void)
+{
+    gate_begin(&gate, 1);
+    unsigned coil = coil_over_metal();
+    expect(after_first_tick(coil, RISING) == LOG_GATE_RECORDER_STOPPED, "metal under the coil fires at the first set");
+    expect(after_first_tick(coil, FALLING) == LOG_GATE_RECORDER_RUNS, "above the threshold a falling trigger waits");
+    printf("gate_test: a log stands at coil %u with its nail, and the recorder sees it\n", (coil - COIL_1) / 2 + 1);
+    return 0;
+}
