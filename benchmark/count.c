@@ -15,7 +15,7 @@
 #include <ucontext.h>
 
 static uint8_t state[LOG_GATE_STATE], memory[LOG_GATE_MEMORY], answer[LOG_GATE_ANSWER_ROOM];
-static uint8_t reader[LOG_GATE_READER], data[LOG_GATE_DATA_ROOM];
+static uint8_t reader[LOG_GATE_READER], data[LOG_GATE_DATA_ROOM], list[LOG_GATE_TABLE * LOG_GATE_MOST_TABLES];
 
 struct message {
     uint8_t wire[LOG_GATE_COMMAND_ROOM];
@@ -68,6 +68,11 @@ static void run_command(void)
     collect();
     log_gate_report(state, sizeof state, 0);
     send(&second, second.length);
+}
+
+static void register_tables(void)
+{
+    log_gate_register(state, sizeof state, memory, sizeof memory, list, sizeof list);
 }
 
 static void write_command(void)
@@ -229,6 +234,39 @@ static void prepare_command(void)
     expect_done(&second);
 }
 
+/* Sixteen tables of one entry, each a variable of 2 bytes with a base type. */
+static void prepare_tables(void)
+{
+    memcpy(memory + 0x2100, "coil width", 11);
+    memory[0x2110] = 0xE1;
+    for (unsigned i = 0; i < LOG_GATE_MOST_TABLES; i++) {
+        memcpy(memory + 0x2000 + 8 * i, (uint8_t[]){0x00, 0x21, 0x10, 0x21, (uint8_t)(16 + 2 * i), 0, 11, 0}, 8);
+        memcpy(list + LOG_GATE_TABLE * i, (uint8_t[]){(uint8_t)(8 * i), 0x20, 8, 0}, LOG_GATE_TABLE);
+    }
+    if (log_gate_register(state, sizeof state, memory, sizeof memory, list, sizeof list) != LOG_GATE_TAKEN)
+        exit(1);
+}
+
+static void prepare_long_tables(void)
+{
+    prepare_tables();
+    prepare_long();
+}
+
+static void prepare_table(void)
+{
+    prepare_tables();
+    form(&message, LOG_GATE_QUERY_TABLE, (uint8_t[]){15, 0}, 2);
+    expect_done(&message);
+}
+
+static void prepare_string(void)
+{
+    prepare_tables();
+    form(&message, LOG_GATE_STRING_LENGTH, (uint8_t[]){0x00, 0x21}, 2);
+    expect_done(&message);
+}
+
 static void prepare_waiting(void)
 {
     start_recorder(8, 0xFFFF);
@@ -271,6 +309,7 @@ static const struct bench_case {
 } cases[] = {
     {"byte-long", 67, "a byte of a long message (64 data)", prepare_long, send_unfinished},
     {"byte-long-8", 67, "the same, all set up", prepare_long_set_up, send_unfinished},
+    {"byte-long-16", 67, "the same, 16 tables registered", prepare_long_tables, send_unfinished},
     {"byte-short", 4, "a byte of a short message (2 data)", prepare_read, send_unfinished},
     {"byte-short-8", 4, "the same, all set up", prepare_read_set_up, send_unfinished},
     {"describe", 1, "0xC8, short description (3 bytes)", prepare_describe, send_whole},
@@ -285,6 +324,9 @@ static const struct bench_case {
     {"command", 1, "0x10 of 64 to its result (71 bytes)", prepare_command, run_command},
     {"collect", 1, "collecting, nothing new or set up", nothing, collect},
     {"collect-8", 1, "the same, all set up", set_up_all, collect},
+    {"table", 1, "0x11, the last of 16 tables (6 bytes)", prepare_table, send_whole},
+    {"string", 1, "0xD4, a string of 10 (5 bytes)", prepare_string, send_whole},
+    {"register", 1, "registering 16 tables of one entry", prepare_tables, register_tables},
     {"tick", 1, "a tick, nothing set up", nothing, tick},
     {"tick-8", 1, "a tick, all set up and stopped", set_up_all, tick},
     {"tick-wait", 1, "a tick that waits, recorder of 8", prepare_waiting, tick},

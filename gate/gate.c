@@ -1,5 +1,7 @@
 #include "gate.h"
 
+#include "names.h"
+
 #include <stdio.h>
 #include <stdlib.h>
 
@@ -14,7 +16,9 @@ static void expect_taken(log_gate_result refusal)
 
 void gate_begin(struct gate *g, uint64_t seed)
 {
-    expect_taken(log_gate_reset(g->state, sizeof g->state));
+    uint8_t list[LOG_GATE_TABLE];
+    names_begin(g->memory, list);
+    expect_taken(log_gate_register(g->state, sizeof g->state, g->memory, sizeof g->memory, list, sizeof list));
     scene_begin(&g->scene, seed, g->memory);
     gate_tick(g);
 }

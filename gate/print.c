@@ -27,12 +27,18 @@ static size_t form(uint8_t command, const uint8_t *data, size_t length, uint8_t 
     return log_gate_write_command(command, data, length, wire, LOG_GATE_COMMAND_ROOM).length;
 }
 
-static void print_map(void)
+static void print_variable(int address, int bytes, int access, const char *name, const char *what)
 {
-#define GATE_LINE(name, address, bytes, what) printf("%7d  %5d  %s\n", address, bytes, what);
-    printf("Address  bytes  little-endian\n");
+    printf("%7d  %5d  %-12s  %s%s\n", address, bytes, name, what, access == WRITABLE ? "; yours to write" : "");
+}
+
+static void print_map(const char *path)
+{
+#define GATE_LINE(symbol, address, bytes, type, access, name, what) print_variable(address, bytes, access, name, what);
+    printf("Address  bytes  name          little-endian\n");
     GATE_MAP(GATE_LINE)
 #undef GATE_LINE
+    printf("The port itself gives them by name:\n  ./run names %s\n", path);
 }
 
 /* A real exchange, with the gate as it is now. */
@@ -71,7 +77,7 @@ static void print_self_test(const char *path)
 void print_welcome(struct gate *g, const char *path)
 {
     printf("The service port is %s\n\n", path);
-    print_map();
+    print_map(path);
     printf("\n");
     print_example(g, path);
     printf("\n");

@@ -1,6 +1,6 @@
 /*
  * The log gate's serial target, for firmware in C or C++. Link liblog_gate.a (./run library builds it); of a C library it needs
- * memcpy alone. docs/PORTING.md says what else it asks of a board.
+ * memcpy and memset alone. docs/PORTING.md says what else it asks of a board.
  *
  * Every call takes anything: whatever the lent bytes hold, it returns, and what it refuses it leaves as it was. Four things no
  * call can check are asked of the caller:
@@ -28,12 +28,12 @@ extern "C" {
  * The version of this header: the major number counts changes for which a caller must be changed or a kept state is void (a call, a
  * number, a state's layout), the minor one additions. It counts apart from the protocol's version, 3, and from what 0xC0 answers.
  */
-#define LOG_GATE_VERSION_MAJOR 2
+#define LOG_GATE_VERSION_MAJOR 3
 #define LOG_GATE_VERSION_MINOR 0
 #define LOG_GATE_VERSION (LOG_GATE_VERSION_MAJOR * 256 + LOG_GATE_VERSION_MINOR)
 
 /* Bytes of a target's state and of an answer reader's state; docs/STATE.md has their layout. More may be lent. */
-#define LOG_GATE_STATE 248u
+#define LOG_GATE_STATE 313u
 #define LOG_GATE_READER 70u
 
 /* The gate's memory, exactly. */
@@ -42,6 +42,10 @@ extern "C" {
 /* Room for an answer, at least; room for the data of an answer that is read or for a command that is collected, at least. */
 #define LOG_GATE_ANSWER_ROOM 132u
 #define LOG_GATE_DATA_ROOM 64u
+
+/* Bytes of a list for each table that is registered, and how many tables a list may name. */
+#define LOG_GATE_TABLE 4u
+#define LOG_GATE_MOST_TABLES 16u
 
 /* Room that holds every command message: start, command, and 257 bytes that may all be doubled. */
 #define LOG_GATE_COMMAND_ROOM 516u
@@ -60,7 +64,8 @@ enum {
     LOG_GATE_FORM_REFUSED = 4,     /* a message or an answer that cannot be formed */
     LOG_GATE_EXPECTED_REFUSED = 5, /* an expected length above 64 */
     LOG_GATE_SUM_REFUSED = 6,      /* a finished answer whose sum is wrong */
-    LOG_GATE_RESULT_REFUSED = 7    /* a result above 0xFD, or no collected command that waits for one */
+    LOG_GATE_RESULT_REFUSED = 7,   /* a result above 0xFD, or no collected command that waits for one */
+    LOG_GATE_LIST_REFUSED = 8      /* a list of tables that cannot be registered */
 };
 
 /* Statuses of answers on the wire. */
@@ -95,6 +100,7 @@ enum {
     LOG_GATE_SET_UP_SCOPE_EX = 0x0A,
     LOG_GATE_SET_UP_RECORDER_EX = 0x0B,
     LOG_GATE_SEND_COMMAND = 0x10,     /* a code and up to 63 arguments for the gate's own program */
+    LOG_GATE_QUERY_TABLE = 0x11,      /* index of 2 bytes; answers 02 00, the table's size and address, 2 bytes each, or 6 zeros */
     LOG_GATE_DESCRIBE = 0xC0,         /* answers 35 bytes */
     LOG_GATE_START_RECORDER = 0xC1,   /* answers LOG_GATE_DONE or LOG_GATE_RECORDER_RUNS */
     LOG_GATE_STOP_RECORDER = 0xC2,    /* answers LOG_GATE_DONE or LOG_GATE_RECORDER_STOPPED */
@@ -104,17 +110,19 @@ enum {
     LOG_GATE_COMMAND_RESULT = 0xC6,   /* answers LOG_GATE_NO_COMMAND, LOG_GATE_RESULT_DUE, or the result */
     LOG_GATE_DESCRIBE_BRIEFLY = 0xC8, /* answers 6 bytes */
     LOG_GATE_QUERY_BUFFER_EX = 0xC9,  /* as 0xC4, with an address of 4 bytes */
-    LOG_GATE_READ_1 = 0xD0,           /* address; so the next five */
+    LOG_GATE_READ_1 = 0xD0,           /* address; so the next six */
     LOG_GATE_READ_2 = 0xD1,
     LOG_GATE_READ_4 = 0xD2,
+    LOG_GATE_STRING_LENGTH = 0xD4, /* answers how many bytes stand before the next zero, in 2 bytes */
     LOG_GATE_READ_1_EX = 0xE0,
     LOG_GATE_READ_2_EX = 0xE1,
     LOG_GATE_READ_4_EX = 0xE2,
-    LOG_GATE_WRITE_1 = 0xE3,        /* address, value, and a fourth byte that is ignored */
-    LOG_GATE_WRITE_2 = 0xE4,        /* address, value */
-    LOG_GATE_WRITE_1_MASKED = 0xE5, /* address, value, mask */
-    LOG_GATE_WRITE_4 = 0xF0,        /* address, value */
-    LOG_GATE_WRITE_2_MASKED = 0xF1  /* address, value, mask */
+    LOG_GATE_WRITE_1 = 0xE3,          /* address, value, and a fourth byte that is ignored */
+    LOG_GATE_WRITE_2 = 0xE4,          /* address, value */
+    LOG_GATE_WRITE_1_MASKED = 0xE5,   /* address, value, mask */
+    LOG_GATE_STRING_LENGTH_EX = 0xE6, /* as 0xD4, with an address of 4 bytes */
+    LOG_GATE_WRITE_4 = 0xF0,          /* address, value */
+    LOG_GATE_WRITE_2_MASKED = 0xF1    /* address, value, mask */
 };
 
 /* What 0xC6 answers before any command, and until the result is in; a result is from 0 to LOG_GATE_MOST_RESULT. */
@@ -132,8 +140,17 @@ typedef struct {
     size_t length;
 } log_gate_taken;
 
-/* Reset: an idle link, nothing set up, and no command. Refuses a state that is too short. */
+/* Reset: an idle link, nothing set up, no command, and no tables. Refuses a state that is too short. */
 log_gate_result log_gate_reset(uint8_t *state, size_t state_length);
+
+/*
+ * A reset with tables, in which a laptop finds variables by their names. The list has an address and a size for each table, 2 bytes
+ * each, lowest first. A table lies inside bytes 8,192 to 12,287 and is one or more whole entries of 8 bytes: name, type, address
+ * and info, 2 bytes each. Every entry's type is an address inside the memory; where a base type's string stands there, info
+ * divided by 4 is that type's size. This is looked at here and never again. The state may hold anything before.
+ */
+log_gate_result log_gate_register(uint8_t *state, size_t state_length, const uint8_t *memory, size_t memory_length,
+                                  const uint8_t *list, size_t list_length);
 
 /* Whether the calls below would take this state: LOG_GATE_TAKEN or LOG_GATE_STATE_REFUSED. */
 log_gate_result log_gate_check(const uint8_t *state, size_t state_length);

@@ -28,16 +28,18 @@ static void expect(int holds, const char *what)
 
 /* ---- counts, and a digest of all that the calls gave, by which two archives can be compared */
 
-enum call { RESET, CHECK, BYTE, TICK, COLLECT, REPORT, WRITE_ANSWER, WRITE_COMMAND, READER_BEGIN, READER_BYTE, CALLS };
+enum call {
+    RESET, REGISTER, CHECK, BYTE, TICK, COLLECT, REPORT, WRITE_ANSWER, WRITE_COMMAND, READER_BEGIN, READER_BYTE, CALLS
+};
 
-enum { MOST_REFUSAL = LOG_GATE_RESULT_REFUSED };
+enum { MOST_REFUSAL = LOG_GATE_LIST_REFUSED };
 
-static const char *const names[CALLS] = {"reset",  "check",        "byte",          "tick",         "collect",
+static const char *const names[CALLS] = {"reset",  "register",     "check",         "byte",         "tick",       "collect",
                                          "report", "write_answer", "write_command", "reader_begin", "reader_byte"};
 
 /* The refusals each call can give, 0 for none. Each of them has to come, and no other. */
-static const char *const reachable[CALLS] = {"01", "01", "0123", "012", "013", "017", "034", "034", "015", "0136"};
-static uint64_t counts[CALLS][MOST_REFUSAL + 1], answers[256], handed_out;
+static const char *const reachable[CALLS] = {"01", "0128", "01", "0123", "012", "013", "017", "034", "034", "015", "0136"};
+static uint64_t counts[CALLS][MOST_REFUSAL + 1], answers[256], handed_out, registered, told;
 static uint64_t digest = 14695981039346656037ull;
 
 static void digest_bytes(const uint8_t *bytes, size_t length)
@@ -67,16 +69,19 @@ static size_t some_length(size_t right, size_t more)
 }
 
 /* Where a state's parts begin. */
-enum { HEAD = 6, BODY_END = 70, SCOPE_END = 111, RUN = 170, APPLICATION = 181 };
+enum { HEAD = 6, BODY_END = 70, SCOPE_END = 111, RUN = 170, APPLICATION = 181, TABLES = 248, LIST };
 
 /* What an application's part begins with, behind which the command's bytes stand; and how far a command has come. */
-enum { PHASE, COUNT, RESULT, COMMAND, APPLICATION_SIZE = LOG_GATE_STATE - APPLICATION };
+enum { PHASE, COUNT, RESULT, COMMAND, APPLICATION_SIZE = TABLES - APPLICATION };
 enum { NO_COMMAND, WAITING, COLLECTED, ENDED };
 
-/* Any byte of a state, more often one that the application's bounds look at: most of its part they do not. */
+/* Any byte of a state, more often one that the last two parts' bounds look at: most of these parts they do not. */
 static size_t some_place(size_t size)
 {
-    return size == LOG_GATE_STATE && one_in(4) ? APPLICATION + below(COMMAND) : below((uint32_t)size);
+    if (size != LOG_GATE_STATE || !one_in(4))
+        return below((uint32_t)size);
+    uint32_t looked_at = below(COMMAND + 1);
+    return looked_at == COMMAND ? TABLES : APPLICATION + looked_at;
 }
 
 /* Returns whether it is the live state itself. */
@@ -104,6 +109,17 @@ static void lend_memory(void)
 static void lend_room(size_t length)
 {
     lend(&out, out.bytes, 0, length);
+}
+
+static size_t number_at(const uint8_t *bytes)
+{
+    return bytes[0] + 256u * bytes[1];
+}
+
+static void put_number(uint8_t *bytes, size_t number)
+{
+    bytes[0] = (uint8_t)number;
+    bytes[1] = (uint8_t)(number >> 8);
 }
 
 static uint8_t state_refusal(void)
@@ -210,6 +226,20 @@ static void sweep_application(void)
     }
 }
 
+/* The live state with every count of tables, over a list that may be anything. */
+static void sweep_tables(void)
+{
+    uint8_t swept[LOG_GATE_STATE];
+    memcpy(swept, live, sizeof swept);
+    random_fill(swept + LIST, sizeof swept - LIST);
+    for (unsigned tables = 0; tables < 256; tables++) {
+        swept[TABLES] = (uint8_t)tables;
+        uint8_t refusal = log_gate_check(swept, sizeof swept);
+        count(CHECK, refusal);
+        expect((refusal == LOG_GATE_TAKEN) == (tables <= LOG_GATE_MOST_TABLES), "check: other bounds of the tables' part");
+    }
+}
+
 static void look_at_unfinished(void)
 {
     unsigned changed = 0;
@@ -243,6 +273,51 @@ static void look_at_application(const uint8_t *answer)
     expect(memcmp(lent_bytes(&state) + APPLICATION, due, sizeof due) == 0, "a message leaves another application's part");
 }
 
+/* What 0x11 is to answer: flags, size and address as the list has them, or zeros. */
+static uint8_t table_due(const uint8_t *before, uint8_t *data)
+{
+    size_t index = number_at(before + HEAD);
+    const uint8_t *table = before + LIST + LOG_GATE_TABLE * index;
+    if (before[3] != 2)
+        return LOG_GATE_LAYOUT_WRONG;
+    if (index < before[TABLES]) {
+        told++;
+        data[0] = 2;
+        memcpy(data + 2, table + 2, 2);
+        memcpy(data + 4, table, 2);
+    }
+    return LOG_GATE_DONE;
+}
+
+/* What 0xD4 and 0xE6 are to answer: how many bytes stand before the next zero. */
+static uint8_t string_due(const uint8_t *before, uint8_t *data)
+{
+    size_t address = number_at(before + HEAD), length = 0;
+    if (address >= LOG_GATE_MEMORY || (before[3] == 4 && number_at(before + HEAD + 2) > 0))
+        return LOG_GATE_RANGE_WRONG;
+    while (address + length < LOG_GATE_MEMORY && lent_bytes(&mem)[address + length] != 0)
+        length++;
+    put_number(data, length);
+    return address + length < LOG_GATE_MEMORY ? LOG_GATE_DONE : LOG_GATE_SIZE_WRONG;
+}
+
+/* The whole answer to a message about names with a right sum; no message changes the tables. */
+static void look_at_names(const uint8_t *answer, size_t length)
+{
+    const uint8_t *before = state.kept + state.start;
+    uint8_t data[6] = {0}, due[LOG_GATE_ANSWER_ROOM], command = before[2];
+    int is_table = command == LOG_GATE_QUERY_TABLE;
+    expect(memcmp(lent_bytes(&state) + TABLES, before + TABLES, LOG_GATE_STATE - TABLES) == 0, "a message leaves other tables");
+    if (!is_table && command != LOG_GATE_STRING_LENGTH && command != LOG_GATE_STRING_LENGTH_EX)
+        return;
+    if (answer[1] == LOG_GATE_SUM_WRONG || before[3] > 64)
+        return;
+    uint8_t status = is_table ? table_due(before, data) : string_due(before, data);
+    size_t count = status != LOG_GATE_DONE ? 0 : is_table ? 6 : 2;
+    log_gate_taken written = log_gate_write_answer(status, data, count, due, sizeof due);
+    expect(written.length == length && memcmp(due, answer, length) == 0, "another answer about names");
+}
+
 static void look_at_answer(size_t length)
 {
     uint8_t *answer = lent_bytes(&out);
@@ -256,6 +331,7 @@ static void look_at_answer(size_t length)
     if (answer[1] >= 0x80)
         expect(length == 3 && kept(&mem) && kept_but(&state, 0, HEAD), "a refused message changes the gate");
     look_at_application(answer);
+    look_at_names(answer, length);
     keep_memory(0, VARIABLES_END);
 }
 
@@ -280,11 +356,6 @@ static void throw_byte(void)
     else
         look_at_answer(taken.length);
     keep_live(is_live);
-}
-
-static size_t number_at(const uint8_t *bytes)
-{
-    return bytes[0] + 256u * bytes[1];
 }
 
 /* What a tick may write: the place of the ring that is next, as long as a set. */
@@ -372,6 +443,132 @@ static void throw_report(void)
     expect(part[COUNT] == 0, "report: a count");
     expect(part[PHASE] == ENDED && part[RESULT] == result, "report: another phase or result");
     keep_live(is_live);
+}
+
+/* ---- registering: lists that are good, and lists with something changed, over entries that the gate's own program wrote */
+
+enum { CALIBRATION = VARIABLES_END, ENTRY = 8, TYPES = VARIABLES_END - 48, THROWN_TABLES = 20 };
+
+static const struct {
+    uint8_t code, size;
+} base_types[] = {{0xE0, 1}, {0xF0, 1}, {0xE1, 2}, {0xF1, 2}, {0xE5, 2}, {0xF5, 2}, {0xE2, 4},
+                  {0xF2, 4}, {0xE6, 4}, {0xF6, 4}, {0xFA, 4}, {0xE3, 8}, {0xF3, 8}, {0xFB, 8}};
+
+enum { BASE_TYPES = sizeof base_types / sizeof base_types[0] };
+
+static void write_memory(size_t at, const uint8_t *bytes, size_t length)
+{
+    memcpy(lent_bytes(&mem) + at, bytes, length);
+    memcpy(mem.kept + mem.start + at, bytes, length);
+}
+
+/* A good entry: a base type with its size, or a string of one byte and no zero behind it with any. */
+static void write_entry(size_t at)
+{
+    uint8_t entry[ENTRY];
+    size_t which = below(BASE_TYPES), type = TYPES + 2 * which;
+    random_fill(entry, sizeof entry);
+    write_memory(type, (const uint8_t[]){base_types[which].code, 0}, 2);
+    if (one_in(8))
+        type = LOG_GATE_MEMORY - 1;
+    else
+        put_number(entry + 6, 4u * base_types[which].size + below(4));
+    put_number(entry + 2, type);
+    write_memory(at, entry, sizeof entry);
+}
+
+/*
+ * Some tables of good entries, one behind the other, from where they may begin or up to where they must end, or a byte beside it;
+ * how long the list of them is.
+ */
+static size_t write_tables(uint8_t *list)
+{
+    size_t tables = one_in(2) ? below(THROWN_TABLES) : below(4), size = ENTRY * (1 + below(3));
+    size_t at = one_in(2) ? CALIBRATION : BUFFER - tables * size;
+    if (one_in(4))
+        at = at + below(3) - 1;
+    for (size_t i = 0; i < tables; i++) {
+        put_number(list + LOG_GATE_TABLE * i, at);
+        put_number(list + LOG_GATE_TABLE * i + 2, size);
+        for (size_t end = at + size; at < end; at += ENTRY)
+            write_entry(at);
+    }
+    return LOG_GATE_TABLE * tables;
+}
+
+/* Something of an entry, of its type or of the list changed, which may make the list bad; how long it is then. */
+static size_t change_list(uint8_t *list, size_t length)
+{
+    static const uint16_t edges[] = {0, 7, 9, 8191, 12288, 16384, 65535};
+    size_t number = edges[below(sizeof edges / sizeof edges[0])], at = below((uint32_t)length / 2) * 2;
+    uint8_t bytes[2];
+    put_number(bytes, one_in(2) ? number : random_number());
+    switch (below(4)) {
+    case 0: return length - 1 - below(3);
+    case 1: memcpy(list + at, bytes, 2); break;
+    case 2: write_memory(TYPES + below(2 * BASE_TYPES), bytes, 1); break;
+    default: write_memory(number_at(list + at / 4 * 4) + 2 * below(4), bytes, 2);
+    }
+    return length;
+}
+
+static int entry_good(const uint8_t *entry)
+{
+    const uint8_t *memory = lent_bytes(&mem);
+    size_t type = number_at(entry + 2);
+    for (size_t i = 0; i < BASE_TYPES && type < LOG_GATE_MEMORY - 1; i++)
+        if (memory[type] == base_types[i].code && memory[type + 1] == 0)
+            return number_at(entry + 6) / 4 == base_types[i].size;
+    return type < LOG_GATE_MEMORY;
+}
+
+static int list_good(const uint8_t *list, size_t length)
+{
+    if (length % LOG_GATE_TABLE != 0 || length > LOG_GATE_TABLE * LOG_GATE_MOST_TABLES)
+        return 0;
+    for (size_t i = 0; i < length; i += LOG_GATE_TABLE) {
+        size_t address = number_at(list + i), size = number_at(list + i + 2);
+        if (address < CALIBRATION || address + size > BUFFER || size == 0 || size % ENTRY != 0)
+            return 0;
+        for (size_t at = address; at < address + size; at += ENTRY)
+            if (!entry_good(lent_bytes(&mem) + at))
+                return 0;
+    }
+    return 1;
+}
+
+/* What the state holds does not matter. */
+static uint8_t register_refusal(void)
+{
+    if (state.length < LOG_GATE_STATE)
+        return LOG_GATE_STATE_REFUSED;
+    if (mem.length != LOG_GATE_MEMORY)
+        return LOG_GATE_MEMORY_REFUSED;
+    return list_good(lent_bytes(&out), out.length) ? LOG_GATE_TAKEN : LOG_GATE_LIST_REFUSED;
+}
+
+static void throw_register(void)
+{
+    uint8_t list[LOG_GATE_TABLE * THROWN_TABLES], fresh[LOG_GATE_STATE] = {0};
+    int is_live = lend_state(&state, live, sizeof live);
+    lend_memory();
+    size_t length = write_tables(list);
+    if (length > 0 && one_in(2))
+        length = change_list(list, length);
+    lend(&out, list, length, length);
+    uint8_t due = register_refusal();
+    uint8_t refusal = log_gate_register(lent_bytes(&state), state.length, lent_bytes(&mem), mem.length, lent_bytes(&out), length);
+    count(REGISTER, refusal);
+    expect(refusal == due, "register: another refusal");
+    expect(kept(&mem) && kept(&out), "register: changes the memory or the list");
+    expect(kept_but(&state, 0, due ? 0 : LOG_GATE_STATE), "register: a byte that is not its own");
+    if (due != LOG_GATE_TAKEN)
+        return;
+    registered += length > 0;
+    fresh[TABLES] = (uint8_t)(length / LOG_GATE_TABLE);
+    memcpy(fresh + LIST, list, length);
+    expect(memcmp(lent_bytes(&state), fresh, sizeof fresh) == 0, "register: more than a reset with these tables");
+    keep_live(is_live && one_in(100));
 }
 
 /* ---- both ends of the line */
@@ -505,7 +702,7 @@ static void throw_reader_byte(void)
 
 static void throw_one(void)
 {
-    uint32_t which = below(34);
+    uint32_t which = below(35);
     if (which < 18)
         throw_byte();
     else if (which < 24)
@@ -522,6 +719,8 @@ static void throw_one(void)
         throw_collect();
     else if (which == 31)
         throw_report();
+    else if (which == 32)
+        throw_register();
     else if (one_in(2))
         throw_reset();
     else
@@ -530,7 +729,7 @@ static void throw_one(void)
 
 static void report_counts(void)
 {
-    printf("call           taken     1     2     3     4     5     6     7\n");
+    printf("call           taken     1     2     3     4     5     6     7     8\n");
     for (int call = 0; call < CALLS; call++) {
         printf("%-13s", names[call]);
         for (int refusal = 0; refusal <= MOST_REFUSAL; refusal++)
@@ -541,7 +740,8 @@ static void report_counts(void)
     for (int status = 0; status < 256; status++)
         if (answers[status] > 0)
             printf(", %02X %llu", (unsigned)status, (unsigned long long)answers[status]);
-    printf("; commands handed out %llu\n", (unsigned long long)handed_out);
+    printf("; commands handed out %llu, lists with tables registered %llu, tables told %llu\n", (unsigned long long)handed_out,
+           (unsigned long long)registered, (unsigned long long)told);
 }
 
 /* After few rounds something may not have come yet; the rounds of a run without words are enough for any seed. */
@@ -549,6 +749,7 @@ static void look_at_counts(void)
 {
     char what[80];
     expect(handed_out > 0, "no command was ever handed out");
+    expect(registered > 0 && told > 0, "no table was ever registered and told");
     for (int call = 0; call < CALLS; call++)
         for (int refusal = 0; refusal <= MOST_REFUSAL; refusal++) {
             int can_come = strchr(reachable[call], '0' + refusal) != NULL, came = counts[call][refusal] > 0;
@@ -571,6 +772,7 @@ int main(int argc, char **argv)
         if (current % (rounds / SWEEPS + 1) == 0) {
             sweep();
             sweep_application();
+            sweep_tables();
         }
     }
     report_counts();

@@ -8,7 +8,7 @@
 #include <stdlib.h>
 #include <string.h>
 
-enum { LINE = 16384, MOST_ROOM = 600, MOST_UNLIMITED = 65535, FILLING = 0xEE };
+enum { LINE = 16384, MOST_ROOM = 600, MOST_UNLIMITED = 65535, MOST_TABLES = 40, FILLING = 0xEE };
 
 static uint8_t state[LOG_GATE_STATE], memory[LOG_GATE_MEMORY], answer[LOG_GATE_ANSWER_ROOM];
 static uint8_t reader[LOG_GATE_READER], lent[MOST_UNLIMITED], bytes[LINE];
@@ -31,10 +31,15 @@ static unsigned long next_number(char **text, int base)
     return number;
 }
 
+static int more_follows(const char *text)
+{
+    return text[strspn(text, " \t\r\n")] != '\0';
+}
+
 static size_t next_bytes(char *text)
 {
     size_t count = 0;
-    while (text[strspn(text, " \t\r\n")] != '\0')
+    while (more_follows(text))
         bytes[count++] = (uint8_t)next_number(&text, 16);
     return count;
 }
@@ -121,6 +126,28 @@ static void report(char *text)
     printf("Y %u\n", log_gate_report(state, sizeof state, (uint8_t)next_number(&text, 16)));
 }
 
+/* The list as the call takes it: 2 bytes for each number, address and size in turn. */
+static size_t next_tables(char *text)
+{
+    size_t length = 0;
+    while (more_follows(text)) {
+        unsigned long number = next_number(&text, 10);
+        if (number > MOST_UNLIMITED || length == MOST_TABLES * LOG_GATE_TABLE)
+            fail("a number or a list above what a line may give");
+        bytes[length++] = (uint8_t)number;
+        bytes[length++] = (uint8_t)(number >> 8);
+    }
+    if (length % LOG_GATE_TABLE != 0)
+        fail("a table without its size");
+    return length;
+}
+
+static void register_tables(char *text)
+{
+    size_t length = next_tables(text);
+    printf("G %u\n", log_gate_register(state, sizeof state, memory, sizeof memory, bytes, length));
+}
+
 /* ---- the other end of the line */
 
 static void write_message(char letter, char *text)
@@ -159,7 +186,7 @@ static void read_bytes(char *text)
 static void play(char *text)
 {
     char letter = *text;
-    memory_used |= strchr("BTPMCY", letter) != NULL;
+    memory_used |= strchr("BTPMCYG", letter) != NULL;
     switch (letter) {
     case 'B': give(text + 1); break;
     case 'T': tick(text + 1); break;
@@ -170,6 +197,7 @@ static void play(char *text)
     case 'R': read_bytes(text + 1); break;
     case 'C': collect(text + 1); break;
     case 'Y': report(text + 1); break;
+    case 'G': register_tables(text + 1); break;
     default: fail("no operation");
     }
 }

@@ -4,22 +4,19 @@
  * self-test finds a coil whose wire is cut.
  */
 #define _XOPEN_SOURCE 700
-#define _DEFAULT_SOURCE
 #include "../gate/gate.h"
 #include "../gate/map.h"
+#include "../gate/tools/line.h"
 
-#include <fcntl.h>
-#include <poll.h>
 #include <stdio.h>
 #include <stdlib.h>
-#include <string.h>
-#include <termios.h>
 #include <time.h>
 #include <unistd.h>
 
-enum { PATIENCE = 10000 /* milliseconds for an answer */, TRIES = 2000 /* of ten milliseconds each, for the scene */ };
+enum { TRIES = 2000 /* of ten milliseconds each, for the scene */ };
 
-static int port;
+static struct line line;
+static const uint8_t *const data = line.data;
 
 static void expect(int holds, const char *what)
 {
@@ -29,54 +26,27 @@ static void expect(int holds, const char *what)
     exit(1);
 }
 
-static void open_port(const char *path)
-{
-    struct termios settings;
-    port = open(path, O_RDWR | O_NOCTTY);
-    expect(port >= 0 && tcgetattr(port, &settings) == 0, "the port can be opened");
-    cfmakeraw(&settings);
-    expect(tcsetattr(port, TCSANOW, &settings) == 0, "the port is raw");
-}
-
 static void pause_a_little(void)
 {
     nanosleep(&(struct timespec){.tv_nsec = 10 * 1000 * 1000}, NULL);
 }
 
-static uint8_t next_byte(void)
-{
-    uint8_t byte;
-    struct pollfd ready = {.fd = port, .events = POLLIN};
-    expect(poll(&ready, 1, PATIENCE) == 1 && read(port, &byte, 1) == 1, "an answer comes in time");
-    return byte;
-}
-
 static void test_staple(void)
 {
     const uint8_t asked[] = {0x2B, 0xC8, 0x38}, due[] = {0x2B, 0x00, 0x03, 0x00, 0x01, 0x01, 0x00, 0x40, 0xBB};
-    expect(write(port, asked, sizeof asked) == sizeof asked, "bytes can be sent");
+    expect(write(line.port, asked, sizeof asked) == sizeof asked, "bytes can be sent");
     for (size_t i = 0; i < sizeof due; i++)
-        expect(next_byte() == due[i], "2B C8 38 gives 2B 00 03 00 01 01 00 40 BB");
+        expect(line_byte(&line) == due[i], "2B C8 38 gives 2B 00 03 00 01 01 00 40 BB");
 }
 
 /* ---- commands and answers */
 
-static uint8_t data[LOG_GATE_DATA_ROOM];
-
 /* The status of the answer to a command; its data, so many as are expected, stand in `data`. */
 static uint8_t ask(uint8_t command, const uint8_t *body, size_t length, size_t expected)
 {
-    uint8_t wire[LOG_GATE_COMMAND_ROOM], reader[LOG_GATE_READER];
-    log_gate_taken written = log_gate_write_command(command, body, length, wire, sizeof wire);
-    expect(written.refusal == LOG_GATE_TAKEN, "the command can be formed");
-    expect(write(port, wire, written.length) == (ssize_t)written.length, "the command can be sent");
-    expect(log_gate_reader_begin(reader, sizeof reader, expected) == LOG_GATE_TAKEN, "the reading begins");
-    for (;;) {
-        log_gate_read read = log_gate_reader_byte(reader, sizeof reader, next_byte(), data, sizeof data);
-        expect(read.refusal == LOG_GATE_TAKEN, "the answer's sum is right");
-        if (read.whole)
-            return read.status;
-    }
+    int status = line_ask(&line, command, body, length, expected);
+    expect(status >= 0, "an answer comes in time, and its sum is right");
+    return (uint8_t)status;
 }
 
 static unsigned word(const uint8_t *bytes)
@@ -194,7 +164,7 @@ static void test_self_test(void)
 int main(int argc, char **argv)
 {
     expect(argc == 2, "one word is given, the port's path");
-    open_port(argv[1]);
+    expect(line_open(&line, argv[1]), "the port can be opened, and is raw");
     test_staple();
     test_live();
     test_recorder();

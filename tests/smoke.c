@@ -285,11 +285,14 @@ static const struct {
     const char *data;
     uint8_t status;
 } wrong[] = {
-    {0x11, "", LOG_GATE_NOT_SERVED},
+    {0x12, "00 00", LOG_GATE_NOT_SERVED},
     {0xC7, "", LOG_GATE_NOT_SERVED},
     {LOG_GATE_SEND_COMMAND, "", LOG_GATE_LAYOUT_WRONG},
     {LOG_GATE_READ_SCOPE, "", LOG_GATE_NOT_SET_UP},
     {LOG_GATE_QUERY_BUFFER, "", LOG_GATE_NOT_SET_UP},
+    {LOG_GATE_QUERY_TABLE, "", LOG_GATE_LAYOUT_WRONG},
+    {LOG_GATE_QUERY_TABLE, "00", LOG_GATE_LAYOUT_WRONG},
+    {LOG_GATE_QUERY_TABLE, "00 00 00", LOG_GATE_LAYOUT_WRONG},
     {LOG_GATE_READ_BYTES, "41 00", LOG_GATE_LAYOUT_WRONG},
     {LOG_GATE_WRITE_BYTES, "02 00 40 01", LOG_GATE_LAYOUT_WRONG},
     {LOG_GATE_SET_UP_SCOPE, "", LOG_GATE_LAYOUT_WRONG},
@@ -309,6 +312,11 @@ static const struct {
     {LOG_GATE_SET_UP_SCOPE, "01 02 FF 3F", LOG_GATE_RANGE_WRONG},
     {LOG_GATE_SET_UP_RECORDER, "00 01 00 00 00 00 00 00 00 00 00 00 00 00 00 01 02 FF 2F", LOG_GATE_RANGE_WRONG},
     {LOG_GATE_SET_UP_RECORDER, "01 01 00 00 00 00 00 FD 2F 04 00 00 00 00 00 01 01 00 00", LOG_GATE_RANGE_WRONG},
+    {LOG_GATE_STRING_LENGTH, "00 40", LOG_GATE_RANGE_WRONG},
+    {LOG_GATE_STRING_LENGTH, "FF FF", LOG_GATE_RANGE_WRONG},
+    {LOG_GATE_STRING_LENGTH_EX, "00 40 00 00", LOG_GATE_RANGE_WRONG},
+    {LOG_GATE_STRING_LENGTH_EX, "10 00 01 00", LOG_GATE_RANGE_WRONG},
+    {LOG_GATE_STRING_LENGTH_EX, "FF FF FF FF", LOG_GATE_RANGE_WRONG},
 };
 
 static void test_wrong_messages(void)
@@ -421,24 +429,225 @@ static void test_longest_command(void)
     EXPECT(status_of(LOG_GATE_SEND_COMMAND, data) == LOG_GATE_MESSAGE_TOO_LONG && collects("01"));
 }
 
-/* Whether the state's last part is these bytes, and 0xA5 behind them. */
+/* Where two of the state's parts begin, as docs/STATE.md has them. */
+enum { APPLICATION = 181, TABLES = 248 };
+
+/* Whether the application's part is these bytes, and 0xA5 behind them. */
 static bool application_is(const char *begins)
 {
-    uint8_t due[LOG_GATE_STATE - 181];
+    uint8_t due[TABLES - APPLICATION];
     memset(due, 0xA5, sizeof due);
     bytes_of(begins, due);
-    return memcmp(gate.state + 181, due, sizeof due) == 0;
+    return memcmp(gate.state + APPLICATION, due, sizeof due) == 0;
 }
 
-/* Phase, count, result and the command's bytes, as docs/STATE.md has them: each step writes its own and leaves the others. */
+/* Phase, count, result and the command's bytes: each step writes its own and leaves the others. */
 static void test_application_layout(void)
 {
     reset();
-    memset(gate.state + 182, 0xA5, LOG_GATE_STATE - 182);
+    memset(gate.state + APPLICATION + 1, 0xA5, TABLES - (APPLICATION + 1));
     EXPECT(status_of(LOG_GATE_SEND_COMMAND, "07 09") == LOG_GATE_DONE && application_is("01 02 00 07 09"));
     EXPECT(collects("07 09") && application_is("02 02 00 07 09"));
     EXPECT(report(5) == LOG_GATE_TAKEN && application_is("03 00 05 07 09"));
     EXPECT(status_of(LOG_GATE_SEND_COMMAND, "08") == LOG_GATE_DONE && application_is("01 01 00 08 09"));
+}
+
+/* ---- tables of names and strings */
+
+static void put_number(uint8_t *bytes, unsigned number)
+{
+    bytes[0] = (uint8_t)number;
+    bytes[1] = (uint8_t)(number >> 8);
+}
+
+/* An entry; its name and its address are outside the memory, which nobody looks at. */
+static void put_entry(unsigned at, unsigned type, unsigned info)
+{
+    memset(gate.memory + at, 0xFF, 8);
+    put_number(gate.memory + at + 2, type);
+    put_number(gate.memory + at + 6, info);
+}
+
+/* The list as bytes: "00 20 08 00" is one table of one entry at 8,192. */
+static log_gate_result register_list(const char *list)
+{
+    uint8_t bytes[64];
+    size_t length = bytes_of(list, bytes);
+    return log_gate_register(gate.state, sizeof gate.state, gate.memory, sizeof gate.memory, bytes, length);
+}
+
+static void test_tables(void)
+{
+    reset();
+    expect_answer("2B 11 02 00 00 ED", "2B 00 00 00 00 00 00 00 00");
+    EXPECT(register_list("00 20 10 00 2B 20 08 00") == LOG_GATE_TAKEN);
+    expect_answer("2B 11 02 00 00 ED", "2B 00 02 00 10 00 00 20 CE");
+    expect_answer("2B 11 02 01 00 EC", "2B 00 02 00 08 00 2B 2B 20 AB");
+    expect_answer("2B 11 02 02 00 EB", "2B 00 00 00 00 00 00 00 00");
+    expect_answer("2B 11 02 00 01 EC", "2B 00 00 00 00 00 00 00 00");
+    put_entry(8192, 0xFFFF, 0); /* bad from now on, and told all the same */
+    expect_answer("2B 11 02 00 00 ED", "2B 00 02 00 10 00 00 20 CE");
+    EXPECT(register_list("00 20 10 00") == LOG_GATE_LIST_REFUSED);
+    expect_answer("2B 11 02 01 00 EC", "2B 00 02 00 08 00 2B 2B 20 AB");
+    EXPECT(register_list("") == LOG_GATE_TAKEN);
+    expect_answer("2B 11 02 00 00 ED", "2B 00 00 00 00 00 00 00 00");
+}
+
+/* Lists over a memory of zeros, whose entries are good: their type is an empty string. */
+static const struct {
+    const char *list;
+    log_gate_result result;
+} lists[] = {
+    {"", LOG_GATE_TAKEN},
+    {"00 20 08 00", LOG_GATE_TAKEN},
+    {"00 20 00 10", LOG_GATE_TAKEN}, /* the whole area */
+    {"F8 2F 08 00", LOG_GATE_TAKEN},
+    {"F7 2F 08 00 01 20 F0 0F", LOG_GATE_TAKEN},
+    {"00 20 08 00 00 20 08 00", LOG_GATE_TAKEN},
+    {"00 20 08", LOG_GATE_LIST_REFUSED}, /* not whole pairs */
+    {"00 20", LOG_GATE_LIST_REFUSED},
+    {"00 20 08 00 00", LOG_GATE_LIST_REFUSED},
+    {"00 20 08 00 08 20", LOG_GATE_LIST_REFUSED},
+    {"00 20 00 00", LOG_GATE_LIST_REFUSED}, /* not whole entries */
+    {"00 20 04 00", LOG_GATE_LIST_REFUSED},
+    {"00 20 07 00", LOG_GATE_LIST_REFUSED},
+    {"00 20 09 00", LOG_GATE_LIST_REFUSED},
+    {"00 20 0C 00", LOG_GATE_LIST_REFUSED},
+    {"F8 1F 08 00", LOG_GATE_LIST_REFUSED}, /* not inside the area */
+    {"FF 1F 08 00", LOG_GATE_LIST_REFUSED},
+    {"F9 2F 08 00", LOG_GATE_LIST_REFUSED},
+    {"00 30 08 00", LOG_GATE_LIST_REFUSED},
+    {"00 00 08 00", LOG_GATE_LIST_REFUSED},
+    {"00 40 08 00", LOG_GATE_LIST_REFUSED},
+    {"F8 1F 00 10", LOG_GATE_LIST_REFUSED},
+    {"00 20 08 10", LOG_GATE_LIST_REFUSED},
+    {"00 20 F8 FF", LOG_GATE_LIST_REFUSED},
+    {"00 20 00 E0", LOG_GATE_LIST_REFUSED},
+    {"F8 FF 08 00", LOG_GATE_LIST_REFUSED},
+    {"00 20 08 00 00 20 09 00", LOG_GATE_LIST_REFUSED}, /* the second alone is bad, and the first */
+    {"00 20 09 00 00 20 08 00", LOG_GATE_LIST_REFUSED},
+};
+
+static void test_lists(void)
+{
+    for (size_t i = 0; i < sizeof lists / sizeof lists[0]; i++) {
+        reset();
+        EXPECT(register_list("08 20 08 00") == LOG_GATE_TAKEN && status_of(LOG_GATE_SEND_COMMAND, "01") == LOG_GATE_DONE);
+        struct gate kept = gate;
+        checks++;
+        log_gate_result result = register_list(lists[i].list);
+        if (result != lists[i].result) {
+            failures++;
+            printf("smoke.c: the list '%s' gives %u, not %u\n", lists[i].list, result, lists[i].result);
+        }
+        EXPECT((memcmp(&gate, &kept, sizeof gate) == 0) == (lists[i].result != LOG_GATE_TAKEN));
+        EXPECT(memcmp(gate.memory, kept.memory, sizeof gate.memory) == 0);
+    }
+}
+
+static void test_most_tables(void)
+{
+    uint8_t list[LOG_GATE_TABLE * (LOG_GATE_MOST_TABLES + 1)];
+    for (size_t i = 0; i < sizeof list; i += LOG_GATE_TABLE)
+        memcpy(list + i, "\x00\x20\x08\x00", LOG_GATE_TABLE);
+    put_number(list + LOG_GATE_TABLE * 15 + 2, 16);
+    reset();
+    EXPECT(log_gate_register(gate.state, sizeof gate.state, gate.memory, sizeof gate.memory, list, sizeof list) ==
+           LOG_GATE_LIST_REFUSED);
+    EXPECT(log_gate_register(gate.state, sizeof gate.state, gate.memory, sizeof gate.memory, list,
+                             sizeof list - LOG_GATE_TABLE) == LOG_GATE_TAKEN);
+    expect_answer("2B 11 02 0F 00 DE", "2B 00 02 00 10 00 00 20 CE");
+    expect_answer("2B 11 02 10 00 DD", "2B 00 00 00 00 00 00 00 00");
+}
+
+/* One entry with this string as its type and this info. */
+static log_gate_result register_entry(const char *type, unsigned address, unsigned info)
+{
+    reset();
+    bytes_of(type, gate.memory + address);
+    put_entry(8192, address, info);
+    return register_list("00 20 08 00");
+}
+
+static void test_base_types(void)
+{
+    static const uint8_t sizes[256] = {[0xE0] = 1, [0xF0] = 1, [0xE1] = 2, [0xF1] = 2, [0xE5] = 2, [0xF5] = 2, [0xE2] = 4,
+                                       [0xF2] = 4, [0xE6] = 4, [0xF6] = 4, [0xFA] = 4, [0xE3] = 8, [0xF3] = 8, [0xFB] = 8};
+    for (unsigned code = 0; code < 256; code++)
+        for (unsigned info = 0; info < 40; info++) {
+            char type[8];
+            sprintf(type, "%02X 00", code);
+            bool good = sizes[code] == 0 || info / 4 == sizes[code];
+            EXPECT(register_entry(type, 100, info) == (good ? LOG_GATE_TAKEN : LOG_GATE_LIST_REFUSED));
+        }
+}
+
+/* Which strings are base types, and which addresses are a type's. */
+static void test_types(void)
+{
+    EXPECT(register_entry("E0 41 00", 100, 77) == LOG_GATE_TAKEN);
+    EXPECT(register_entry("E0 E1 00", 100, 77) == LOG_GATE_TAKEN);
+    EXPECT(register_entry("E0", 16383, 77) == LOG_GATE_TAKEN);
+    EXPECT(register_entry("E0 00", 16382, 77) == LOG_GATE_LIST_REFUSED);
+    EXPECT(register_entry("E0 00", 16382, 7) == LOG_GATE_TAKEN);
+    reset();
+    put_entry(8192, 16384, 77);
+    EXPECT(register_list("00 20 08 00") == LOG_GATE_LIST_REFUSED);
+    put_entry(8192, 16383, 77);
+    put_entry(8200, 0xFFFF, 77);
+    EXPECT(register_list("00 20 08 00") == LOG_GATE_TAKEN);
+    EXPECT(register_list("00 20 10 00") == LOG_GATE_LIST_REFUSED && register_list("08 20 10 00") == LOG_GATE_LIST_REFUSED);
+    EXPECT(register_list("00 20 08 00 08 20 08 00") == LOG_GATE_LIST_REFUSED);
+}
+
+/* What a reset with tables leaves: zeros, the count, and the list with zeros behind it; a plain reset leaves zeros. */
+static void test_tables_layout(void)
+{
+    uint8_t due[LOG_GATE_STATE] = {0};
+    reset();
+    EXPECT(status_of(LOG_GATE_SET_UP_SCOPE, "01 01 10 00") == LOG_GATE_DONE);
+    EXPECT(status_of(LOG_GATE_SET_UP_RECORDER, "00 01 00 00 00 00 00 00 00 00 00 00 00 00 00 01 01 00 00") == LOG_GATE_DONE);
+    EXPECT(status_of(LOG_GATE_SEND_COMMAND, "01") == LOG_GATE_DONE && give(0x2B).length == 0 && give(0xC8).length == 0);
+    memset(gate.state + TABLES + 1, 0xA5, LOG_GATE_STATE - (TABLES + 1));
+    EXPECT(register_list("00 20 10 00 F8 2F 08 00") == LOG_GATE_TAKEN);
+    due[TABLES] = 2;
+    bytes_of("00 20 10 00 F8 2F 08 00", due + TABLES + 1);
+    EXPECT(memcmp(gate.state, due, sizeof due) == 0);
+    EXPECT(give(0x38).length == 0 && memcmp(gate.state, due, sizeof due) == 0);
+    EXPECT(status_of(LOG_GATE_READ_SCOPE, "") == LOG_GATE_NOT_SET_UP);
+    EXPECT(status_of(LOG_GATE_RECORDER_STATUS, "") == LOG_GATE_NOT_SET_UP && result_now() == LOG_GATE_NO_COMMAND);
+    EXPECT(memcmp(gate.state + 70, due + 70, sizeof due - 70) == 0);
+    memset(due, 0, sizeof due);
+    EXPECT(log_gate_reset(gate.state, sizeof gate.state) == LOG_GATE_TAKEN && memcmp(gate.state, due, sizeof due) == 0);
+}
+
+/* What 0xD4 and 0xE6 answer, or -1 with 0x86. */
+static int length_at(unsigned address)
+{
+    char data[16];
+    sprintf(data, "%02X %02X", address & 0xFF, address >> 8);
+    struct reply reply = ask(LOG_GATE_STRING_LENGTH, data, 2);
+    strcat(data, " 00 00");
+    struct reply same = ask(LOG_GATE_STRING_LENGTH_EX, data, 2);
+    EXPECT(same.status == reply.status && same.length == reply.length && memcmp(same.data, reply.data, reply.length) == 0);
+    EXPECT(reply.status == (reply.length == 2 ? LOG_GATE_DONE : LOG_GATE_SIZE_WRONG));
+    return reply.length == 2 ? reply.data[0] + 256 * reply.data[1] : -1;
+}
+
+static void test_strings(void)
+{
+    reset();
+    EXPECT(length_at(16) == 0 && length_at(16383) == 0);
+    strcpy((char *)gate.memory + 8188, "coil one"); /* across the end of an area */
+    EXPECT(length_at(8188) == 8 && length_at(8195) == 1 && length_at(8196) == 0 && length_at(8187) == 0);
+    memset(gate.memory + 43, 0x2B, 0x2B);
+    expect_answer("2B D4 2B 2B 00 01", "2B 00 2B 2B 00 D5");
+    memset(gate.memory + 16380, 0x41, 4);
+    EXPECT(length_at(16379) == 0 && length_at(16380) == -1 && length_at(16383) == -1);
+    memset(gate.memory, 0x41, sizeof gate.memory);
+    EXPECT(length_at(0) == -1);
+    gate.memory[16383] = 0;
+    EXPECT(length_at(0) == 16383 && length_at(1) == 16382 && length_at(16382) == 1 && length_at(16383) == 0);
 }
 
 /* Staple 14: a length byte of 0x40 is accepted, 0x41 is not. */
@@ -523,6 +732,29 @@ static void test_application_refusals(void)
     EXPECT(report(0xFE) == LOG_GATE_RESULT_REFUSED && report(0xFF) == LOG_GATE_RESULT_REFUSED);
     EXPECT(untouched() && report(0) == LOG_GATE_TAKEN && !untouched());
     expect_nothing_to_report();
+}
+
+static log_gate_result register_refused(size_t state, size_t memory, size_t length)
+{
+    return log_gate_register(gate.state, state, gate.memory, memory, (const uint8_t *)"\x00\x20\x08\x00", length);
+}
+
+/* The block may hold anything before, out of every bound too. */
+static void test_register_refusals(void)
+{
+    size_t sound = LOG_GATE_STATE, whole = LOG_GATE_MEMORY;
+    reset();
+    memset(gate.state, 0xFF, sizeof gate.state);
+    before = gate;
+    EXPECT(register_refused(sound - 1, whole - 1, 3) == LOG_GATE_STATE_REFUSED);
+    EXPECT(register_refused(sound - 1, whole, 4) == LOG_GATE_STATE_REFUSED);
+    EXPECT(register_refused(sound, whole - 1, 3) == LOG_GATE_MEMORY_REFUSED);
+    EXPECT(register_refused(sound, whole + 1, 4) == LOG_GATE_MEMORY_REFUSED);
+    EXPECT(register_refused(sound, 0, 4) == LOG_GATE_MEMORY_REFUSED);
+    EXPECT(register_refused(sound, whole, 3) == LOG_GATE_LIST_REFUSED);
+    EXPECT(untouched());
+    EXPECT(register_refused(sound, whole, 4) == LOG_GATE_TAKEN && !untouched());
+    EXPECT(log_gate_check(gate.state, sound) == LOG_GATE_TAKEN);
 }
 
 static log_gate_result answer_refused(uint8_t status, size_t length, size_t room)
@@ -624,6 +856,7 @@ static void test_short_blocks(void)
         EXPECT(log_gate_tick(gate.state, n, gate.memory, LOG_GATE_MEMORY) == LOG_GATE_STATE_REFUSED);
         EXPECT(collect_refused(n, LOG_GATE_DATA_ROOM) == LOG_GATE_STATE_REFUSED);
         EXPECT(log_gate_report(gate.state, n, 0) == LOG_GATE_STATE_REFUSED);
+        EXPECT(register_refused(n, LOG_GATE_MEMORY, 4) == LOG_GATE_STATE_REFUSED);
     }
     EXPECT(untouched());
 }
@@ -644,7 +877,8 @@ static void test_garbage_blocks(void)
     static const struct {
         unsigned at;
         uint8_t value;
-    } garbage[] = {{0, 2}, {0, 255}, {1, 4}, {70, 9}, {70, 1}, {111, 2}, {111, 1}, {111, 255}, {181, 1}, {181, 4}, {181, 255}};
+    } garbage[] = {{0, 2},   {0, 255}, {1, 4},   {70, 9},    {70, 1},   {111, 2},  {111, 1},
+                   {111, 255}, {181, 1}, {181, 4}, {181, 255}, {248, 17}, {248, 255}};
     for (size_t i = 0; i < sizeof garbage / sizeof garbage[0]; i++) {
         reset();
         gate.state[garbage[i].at] = garbage[i].value;
@@ -674,10 +908,23 @@ static void test_application_bounds(void)
     }
 }
 
+/* The list may be anything: it is told as it stands, and not looked at again. */
+static void test_table_bounds(void)
+{
+    reset();
+    memset(gate.state + TABLES + 1, 0xFF, LOG_GATE_STATE - (TABLES + 1));
+    expect_answer("2B 11 02 00 00 ED", "2B 00 00 00 00 00 00 00 00");
+    gate.state[TABLES] = LOG_GATE_MOST_TABLES;
+    EXPECT(log_gate_check(gate.state, sizeof gate.state) == LOG_GATE_TAKEN);
+    expect_answer("2B 11 02 0F 00 DE", "2B 00 02 00 FF FF FF FF 02");
+    expect_answer("2B 11 02 10 00 DD", "2B 00 00 00 00 00 00 00 00");
+    tick();
+}
+
 /* A staple with every block at an odd address and longer than it needs to be; what is behind stays. */
 static void test_odd_blocks(void)
 {
-    static uint8_t state[8 + LOG_GATE_STATE + 100], memory[8 + LOG_GATE_MEMORY], answer[8 + 200];
+    static uint8_t state[8 + LOG_GATE_STATE + 100], memory[8 + LOG_GATE_MEMORY], answer[8 + 200], list[16];
     static const uint8_t expected[] = {0x2B, 0x00, 0x7F, 0x81, 0xA5};
     const uint8_t wire[] = {0x2B, 0xD0, 0x10, 0x00, 0x20};
     for (size_t odd = 1; odd < 8; odd++) {
@@ -685,6 +932,9 @@ static void test_odd_blocks(void)
         memset(answer, 0xA5, sizeof answer);
         memory[odd + 16] = 0x7F;
         EXPECT(log_gate_reset(state + odd, LOG_GATE_STATE + 92) == LOG_GATE_TAKEN);
+        memcpy(list + odd, "\x00\x20\x08\x00", LOG_GATE_TABLE);
+        EXPECT(log_gate_register(state + odd, LOG_GATE_STATE + 92, memory + odd, LOG_GATE_MEMORY, list + odd,
+                                 LOG_GATE_TABLE) == LOG_GATE_TAKEN);
         for (size_t i = 0; i < sizeof wire; i++) {
             log_gate_taken taken =
                 log_gate_byte(state + odd, LOG_GATE_STATE + 92, wire[i], memory + odd, LOG_GATE_MEMORY, answer + odd, 200);
@@ -710,17 +960,26 @@ int main(void)
     test_application();
     test_longest_command();
     test_application_layout();
+    test_tables();
+    test_lists();
+    test_most_tables();
+    test_base_types();
+    test_types();
+    test_tables_layout();
+    test_strings();
     test_wrong_messages();
     test_served();
     test_order();
     test_target_refusals();
     test_application_refusals();
+    test_register_refusals();
     test_answer_writer();
     test_command_writer();
     test_reader_refusals();
     test_short_blocks();
     test_garbage_blocks();
     test_application_bounds();
+    test_table_bounds();
     test_odd_blocks();
     printf("smoke: %u checks, %u failed\n", checks, failures);
     return failures > 0;

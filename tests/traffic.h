@@ -81,6 +81,13 @@ static void add_command(struct message *m)
     random_fill(m->data, m->length);
 }
 
+/* Mostly an index of 2 bytes: one of the first, up to two beyond the last that there can be, now and then any. */
+static void add_index(struct message *m)
+{
+    uint32_t index = one_in(8) ? random_number() : below(one_in(2) ? 4 : LOG_GATE_MOST_TABLES + 2);
+    add(m, index, one_in(8) ? below(4) : 2);
+}
+
 static void fill_standard(struct message *m)
 {
     switch (m->command) {
@@ -95,6 +102,7 @@ static void fill_standard(struct message *m)
     case LOG_GATE_SET_UP_RECORDER: add_plan(m, 2); break;
     case LOG_GATE_SET_UP_RECORDER_EX: add_plan(m, 4); break;
     case LOG_GATE_SEND_COMMAND: add_command(m); break;
+    case LOG_GATE_QUERY_TABLE: add_index(m); break;
     default:
         m->length = below(80);
         random_fill(m->data, m->length);
@@ -104,9 +112,13 @@ static void fill_standard(struct message *m)
 static void fill_fast(struct message *m)
 {
     unsigned length = (m->command >> 4 & 3) * 2;
+    int wide = length == 4 && (m->command <= LOG_GATE_READ_4_EX || m->command == LOG_GATE_STRING_LENGTH_EX);
     if (length == 0)
         return;
-    add(m, random_address(), length == 4 && m->command <= LOG_GATE_READ_4_EX ? 4 : 2);
+    uint32_t address = random_address();
+    if (wide && one_in(8))
+        address |= random_number() << 16; /* it only looks as if it were in the memory */
+    add(m, address, wide ? 4 : 2);
     add_values(m, length - (unsigned)m->length);
 }
 

@@ -13,10 +13,17 @@ refuses ./run play
 refuses ./run play $built/no-such-file
 refuses ./run play tests
 refuses ./run play crates/play/stdin crates/play/stdin
+refuses ./run names $built/no-such-port
+refuses ./run names ""
+refuses ./run names tests
+refuses ./run names README.md
+refuses ./run names /dev/null /dev/null
 refuses ./bench $built/no-such-archive
 refuses ./bench one two
 refuses tests/run.sh
 refuses ./test fly
 refuses ./test long times
-./run --help | grep -q '^\./run play FILE ' || fail "./run --help does not list what it can do"
+for word in 'names ' 'names PATH ' 'play FILE '; do
+    ./run --help | grep -q "^\./run $word" || fail "./run --help does not list what it can do"
+done
 echo "usage: wrong words are refused with a sentence"

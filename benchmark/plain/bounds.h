@@ -113,10 +113,16 @@ static bool application_right(const struct application *a)
     }
 }
 
+/* What the list holds was looked at when it was registered, and is not again. */
+static bool tables_right(const struct tables *t)
+{
+    return t->count <= MOST_TABLES;
+}
+
 static bool target_right(const struct target *t)
 {
     return receiver_right(&t->receiver) && scope_right(&t->scope) && recorder_right(&t->recorder) &&
-           application_right(&t->application);
+           application_right(&t->application) && tables_right(&t->tables);
 }
 
 static bool reader_right(const struct reader *r)

@@ -4,6 +4,7 @@
 
 #include "application.h"
 #include "recorder.h"
+#include "tables.h"
 
 enum operation {
     NOT_SERVED,
@@ -19,7 +20,9 @@ enum operation {
     RECORDER_STATUS,
     QUERY_BUFFER,
     SEND_COMMAND,
-    COMMAND_RESULT
+    COMMAND_RESULT,
+    QUERY_TABLE,
+    STRING_LENGTH
 };
 
 struct command {
@@ -40,6 +43,7 @@ static const struct command commands[256] = {
     [LOG_GATE_SET_UP_SCOPE_EX] = {SET_UP_SCOPE, 4, 0},
     [LOG_GATE_SET_UP_RECORDER_EX] = {SET_UP_RECORDER, 4, 0},
     [LOG_GATE_SEND_COMMAND] = {SEND_COMMAND, 0, 0},
+    [LOG_GATE_QUERY_TABLE] = {QUERY_TABLE, 0, 0},
     [LOG_GATE_DESCRIBE] = {DESCRIBE, 0, 35},
     [LOG_GATE_START_RECORDER] = {START_RECORDER, 0, 0},
     [LOG_GATE_STOP_RECORDER] = {STOP_RECORDER, 0, 0},
@@ -52,12 +56,14 @@ static const struct command commands[256] = {
     [LOG_GATE_READ_1] = {READ, 2, 1},
     [LOG_GATE_READ_2] = {READ, 2, 2},
     [LOG_GATE_READ_4] = {READ, 2, 4},
+    [LOG_GATE_STRING_LENGTH] = {STRING_LENGTH, 2, 0},
     [LOG_GATE_READ_1_EX] = {READ, 4, 1},
     [LOG_GATE_READ_2_EX] = {READ, 4, 2},
     [LOG_GATE_READ_4_EX] = {READ, 4, 4},
     [LOG_GATE_WRITE_1] = {WRITE, 2, 1},
     [LOG_GATE_WRITE_2] = {WRITE, 2, 2},
     [LOG_GATE_WRITE_1_MASKED] = {WRITE_MASKED, 2, 1},
+    [LOG_GATE_STRING_LENGTH_EX] = {STRING_LENGTH, 4, 0},
     [LOG_GATE_WRITE_4] = {WRITE, 2, 4},
     [LOG_GATE_WRITE_2_MASKED] = {WRITE_MASKED, 2, 2},
 };
@@ -171,6 +177,49 @@ static void say_result(const struct application *application, struct answer *a)
     say(a, a->gathered, 1);
 }
 
+static void query_table(const struct tables *tables, const uint8_t *body, unsigned length, struct answer *a)
+{
+    a->status = LOG_GATE_LAYOUT_WRONG;
+    if (length != 2)
+        return;
+    put_table(tables, number_at(body, 2), a->gathered);
+    say(a, a->gathered, 6);
+}
+
+static void say_string_length(const uint8_t *memory, uint32_t address, struct answer *a)
+{
+    uint32_t length;
+    a->status = measure_string(memory, address, &length);
+    if (a->status != LOG_GATE_DONE)
+        return;
+    put_number(a->gathered, 2, length);
+    say(a, a->gathered, 2);
+}
+
+static void carry_out_on_recorder(const struct command *c, struct target *t, struct answer *a)
+{
+    struct recorder *r = &t->recorder;
+    switch (c->operation) {
+    case SET_UP_RECORDER:
+        a->status = set_up_recorder(r, t->body, t->receiver.length, c->width);
+        break;
+    case START_RECORDER:
+        a->status = start_recorder(r);
+        break;
+    case STOP_RECORDER:
+        a->status = stop_recorder(r);
+        break;
+    case RECORDER_STATUS:
+        a->status = recorder_status(r);
+        break;
+    case QUERY_BUFFER:
+        query_buffer(r, c->width, a);
+        break;
+    default:
+        a->status = LOG_GATE_NOT_SERVED;
+    }
+}
+
 static void carry_out(struct target *t, uint8_t *memory, struct answer *a)
 {
     const struct command *c = &commands[t->receiver.command];
@@ -193,29 +242,20 @@ static void carry_out(struct target *t, uint8_t *memory, struct answer *a)
     case READ_SCOPE:
         read_scope(&t->scope, memory, a);
         break;
-    case SET_UP_RECORDER:
-        a->status = set_up_recorder(&t->recorder, body, length, c->width);
-        break;
-    case START_RECORDER:
-        a->status = start_recorder(&t->recorder);
-        break;
-    case STOP_RECORDER:
-        a->status = stop_recorder(&t->recorder);
-        break;
-    case RECORDER_STATUS:
-        a->status = recorder_status(&t->recorder);
-        break;
-    case QUERY_BUFFER:
-        query_buffer(&t->recorder, c->width, a);
-        break;
     case SEND_COMMAND:
         a->status = send_command(&t->application, body, length);
         break;
     case COMMAND_RESULT:
         say_result(&t->application, a);
         break;
+    case QUERY_TABLE:
+        query_table(&t->tables, body, length, a);
+        break;
+    case STRING_LENGTH:
+        say_string_length(memory, number_at(body, c->width), a);
+        break;
     default:
-        a->status = LOG_GATE_NOT_SERVED;
+        carry_out_on_recorder(c, t, a);
     }
 }
 

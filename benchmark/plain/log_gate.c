@@ -34,6 +34,20 @@ log_gate_result log_gate_reset(uint8_t *state, size_t state_length)
     return LOG_GATE_TAKEN;
 }
 
+log_gate_result log_gate_register(uint8_t *state, size_t state_length, const uint8_t *memory, size_t memory_length,
+                                  const uint8_t *list, size_t list_length)
+{
+    if (state_length < LOG_GATE_STATE)
+        return LOG_GATE_STATE_REFUSED;
+    if (memory_length != LOG_GATE_MEMORY)
+        return LOG_GATE_MEMORY_REFUSED;
+    if (!list_right(list, list_length, memory))
+        return LOG_GATE_LIST_REFUSED;
+    memset(state, 0, LOG_GATE_STATE);
+    register_tables(&((struct target *)state)->tables, list, list_length);
+    return LOG_GATE_TAKEN;
+}
+
 log_gate_result log_gate_check(const uint8_t *state, size_t state_length)
 {
     if (state_length < LOG_GATE_STATE || !target_right((const struct target *)state))

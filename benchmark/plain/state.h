@@ -7,7 +7,7 @@
 /* A block is the caller's bytes, at any address; both attributes say so to the compiler. */
 #define BLOCK __attribute__((packed, may_alias))
 
-enum { MOST_VARIABLES = 8, MOST_DATA = 64 };
+enum { MOST_VARIABLES = 8, MOST_DATA = 64, MOST_TABLES = LOG_GATE_MOST_TABLES };
 
 enum { IDLE, LENGTH_NEXT, DATA_NEXT, SUM_NEXT };
 
@@ -73,12 +73,24 @@ struct BLOCK application {
     uint8_t command[MOST_DATA];
 };
 
+struct BLOCK table {
+    uint16_t address;
+    uint16_t size;
+};
+
+/* As they were registered. Of the list, the first `count` are looked at. */
+struct BLOCK tables {
+    uint8_t count;
+    struct table list[MOST_TABLES];
+};
+
 struct BLOCK target {
     struct receiver receiver;
     uint8_t body[MOST_DATA];
     struct variables scope;
     struct recorder recorder;
     struct application application;
+    struct tables tables;
 };
 
 enum { READER_IDLE, READER_DATA, READER_SUM };

@@ -6,6 +6,9 @@
 /// "The target's memory is ... exactly 16,384 bytes."
 pub const MEMORY: usize = 16_384;
 
+/// The calibration area.
+pub const CALIBRATION: std::ops::Range<usize> = 8_192..12_288;
+
 /// The first byte of the recorder buffer.
 pub const BUFFER: usize = 12_288;
 

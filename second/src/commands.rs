@@ -3,6 +3,7 @@
 use crate::areas::{Range, BUFFER};
 use crate::recorder::Recorder;
 use crate::request::Request;
+use crate::tables::{string_length, Table};
 use crate::target::Target;
 
 const OK: u8 = 0x00;
@@ -39,6 +40,12 @@ pub fn carry_out(request: Request, target: &mut Target) -> Answer {
             (OK, Vec::new())
         }
         Request::CommandResult => (OK, vec![target.application.result_byte()]),
+        Request::TableQuery(index) => (OK, table_answer(&target.tables, index)),
+        Request::StringLength(address) => {
+            let length = string_length(&target.memory, address);
+            let length = length.expect("0x86 and 0x89 refuse others");
+            (OK, length.to_le_bytes().to_vec())
+        }
         recorder_request => {
             let recorder = target.recorder.as_mut();
             on_recorder(recorder_request, recorder.expect("0x88 refuses others"))
@@ -88,4 +95,14 @@ fn buffer_answer(recorder: &Recorder, address_bytes: usize) -> Vec<u8> {
     let mut data = BUFFER.to_le_bytes()[..address_bytes].to_vec();
     data.extend_from_slice(&recorder.start_index().to_le_bytes());
     data
+}
+
+/// "flags 2, size and address, 2 bytes each, or six zero bytes for an index
+/// beyond the last"
+fn table_answer(tables: &[Table], index: u16) -> Vec<u8> {
+    let words = match tables.get(usize::from(index)) {
+        Some(table) => [2, table.size, table.address],
+        None => [0; 3],
+    };
+    words.iter().flat_map(|word| word.to_le_bytes()).collect()
 }

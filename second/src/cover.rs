@@ -158,7 +158,7 @@ mod tests {
         let mut counts = Counts::none();
         counts.answered(0xC8, 0x00);
         counts.answered(0xC8, 0x89);
-        counts.answered(0x11, 0x81);
+        counts.answered(0x12, 0x81);
         counts.called('E', 5);
         let faults = counts.faults();
         let has = |line: &str| faults.lines().any(|l| l == line);
@@ -175,7 +175,7 @@ mod tests {
         let mut counts = Counts::none();
         counts.answered(0xFF, 0x81);
         let told = counts.tell();
-        assert_eq!(told.lines().count(), 1 + 33 + 1 + 6);
+        assert_eq!(told.lines().count(), 1 + 36 + 1 + 7);
         let last = told.lines().find(|l| l.starts_with("other fast")).unwrap();
         let cells: Vec<&str> = last.split_whitespace().collect();
         assert_eq!(cells[2..6], [".", ".", ".", "1"]);

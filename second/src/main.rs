@@ -18,6 +18,7 @@ mod refusals;
 mod request;
 mod rng;
 mod script;
+mod tables;
 mod target;
 mod trigger;
 mod wrong;
@@ -30,6 +31,8 @@ mod order_test;
 mod recorder_test;
 #[cfg(test)]
 mod staples_test;
+#[cfg(test)]
+mod tables_test;
 
 use std::fs::File;
 use std::io::{self, BufRead, BufReader, BufWriter, Write};

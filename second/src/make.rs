@@ -2,9 +2,11 @@
 //!
 //! A script is a row of steps: single messages right and wrong, noise, whole
 //! recordings that are set up, triggered and read back, commands for the gate's
-//! own program with its calls, and calls of the other end of the cable.
+//! own program with its calls, tables of names that are registered and asked
+//! for, and calls of the other end of the cable.
 
 mod application;
+mod entries;
 mod host;
 mod memory;
 mod noise;
@@ -12,6 +14,8 @@ mod plan;
 mod recording;
 mod scope;
 mod served;
+mod strings;
+mod tables;
 mod wire;
 
 use crate::areas::{BUFFER, BUFFER_LENGTH};
@@ -28,12 +32,14 @@ pub struct Maker {
     expected: usize,
     /// The setup sent last.
     plan: Option<Plan>,
+    /// How many tables the last list named, registered or not.
+    named: u16,
 }
 
 type Step = fn(&mut Maker);
 
 /// Each step with its weight.
-const STEPS: [(u64, Step); 25] = [
+const STEPS: [(u64, Step); 30] = [
     (8, Maker::fast_read),
     (8, Maker::fast_write),
     (10, Maker::block),
@@ -52,13 +58,18 @@ const STEPS: [(u64, Step); 25] = [
     (4, Maker::any_command),
     (2, Maker::sweep),
     (3, Maker::start_sums),
-    (5, Maker::long_message),
-    (6, Maker::wrong_sum),
+    (6, Maker::long_message),
+    (8, Maker::wrong_sum),
     (4, Maker::some_poke),
     (4, Maker::some_ticks),
     (7, Maker::other_end),
     (6, Maker::application_used),
     (3, Maker::application_any),
+    (3, Maker::tables_used),
+    (5, Maker::tables_wrong),
+    (2, Maker::tables_asked),
+    (3, Maker::string),
+    (2, Maker::string_edges),
 ];
 
 /// The script of a seed: so many operations, then the memory shown.
@@ -68,6 +79,7 @@ pub fn script(seed: u64, operations: usize) -> String {
         lines: vec![format!("# seed {seed}")],
         expected: 0,
         plan: None,
+        named: 0,
     };
     maker.opening();
     while maker.lines.len() < operations + 1 {
@@ -110,6 +122,9 @@ impl Maker {
         }
         if self.rng.once_in(2) {
             self.application_any();
+        }
+        if self.rng.once_in(2) {
+            self.tables_asked();
         }
     }
 

@@ -61,7 +61,11 @@ fn a_wrong_sum_comes_first() {
         (0x09, 3),
         (0x10, 0),
         (0x10, 65),
+        (0x11, 0),
+        (0x11, 65),
         (0xC1, 0),
+        (0xD4, 2),
+        (0xE6, 4),
     ] {
         let mut wrong = literals(command, &vec![0; length]);
         *wrong.last_mut().unwrap() ^= 1;
@@ -75,6 +79,7 @@ fn too_long_before_all_but_the_sum() {
     assert_eq!(told(&mut recording(), 0x09, &[0; 65]), 0x83);
     assert_eq!(told(&mut Target::reset(), 0x02, &[0; 255]), 0x83);
     assert_eq!(told(&mut pending(), 0x10, &[0; 65]), 0x83);
+    assert_eq!(told(&mut Target::reset(), 0x11, &[0; 65]), 0x83);
     assert_eq!(told(&mut Target::reset(), 0x7F, &[0; 64]), 0x81);
 }
 
@@ -95,6 +100,8 @@ fn the_length_before_sizes_and_ranges() {
     assert_eq!(told(&mut target, 0x08, &[0, 0]), 0x85);
     assert_eq!(told(&mut target, 0x08, &[9, 1, 0, 0]), 0x85);
     assert_eq!(told(&mut target, 0x01, &[0, 0xFF]), 0x85);
+    assert_eq!(told(&mut target, 0x11, &[0xFF]), 0x85);
+    assert_eq!(told(&mut target, 0x11, &[0, 0, 0]), 0x85);
     let mode_3 = setup(3, 0, [3, 0, 0], 2, [0, 0, 0x40]);
     assert_eq!(told(&mut target, 0x09, &mode_3), 0x85);
     let sign_2 = setup(1, 0, [3, 0, 0], 2, [0, 0, 0x40]);
@@ -136,13 +143,22 @@ fn ranges_of_setups() {
     assert_eq!(told(&mut target, 0x09, &not_looked_at), 0x00);
 }
 
-/// "TSA and string length (0x11, 0x12, 0xD4, 0xE6) answer 0x81"; the line has
-/// lost its application commands to request 2026-01.
+/// Neither a recorder that runs nor a command that is pending is in the way of
+/// the tables and the strings.
 #[test]
-fn named_commands_that_are_not_served() {
-    for command in [0x11, 0x12, 0xD4, 0xE6] {
-        let data = vec![0; fast_length(command).unwrap_or(0)];
-        let answered = told(&mut Target::reset(), command, &data);
-        assert_eq!(answered, 0x81, "{command:02X}");
+fn names_are_told_at_any_time() {
+    for mut target in [recording(), pending()] {
+        assert_eq!(told(&mut target, 0x11, &[0, 0]), 0x00);
+        assert_eq!(told(&mut target, 0xD4, &[0, 0]), 0x00);
+        assert_eq!(told(&mut target, 0xE6, &[0, 0, 0, 0]), 0x00);
+    }
+}
+
+/// "0x12 keeps 0x81": the two formats of entries are never mixed.
+#[test]
+fn the_other_format_is_not_served() {
+    for length in [0, 2, 64] {
+        let answered = told(&mut Target::reset(), 0x12, &vec![0; length]);
+        assert_eq!(answered, 0x81);
     }
 }

@@ -5,6 +5,7 @@ use std::io::{BufRead, Write};
 use crate::adler::adler32;
 use crate::host::{write_answer, write_command, Reader, Refusal};
 use crate::script::{parse, Call, Operation};
+use crate::tables::Table;
 use crate::target::Target;
 
 /// What every lent buffer is filled with before each call.
@@ -91,23 +92,18 @@ impl<O: Write, W: Watch> Player<'_, O, W> {
     }
 
     fn operation(&mut self, operation: Operation) -> Result<(), Failure> {
+        self.memory_used |= operation.is_of_gate();
         match operation {
-            Operation::Bytes(bytes) => {
-                self.memory_used = true;
-                bytes.iter().try_for_each(|byte| self.wire_byte(*byte))
-            }
+            Operation::Bytes(bytes) => bytes.iter().try_for_each(|byte| self.wire_byte(*byte)),
             Operation::Ticks(count) => {
-                self.memory_used = true;
                 self.target.ticks(count);
                 Ok(())
             }
             Operation::Poke(address, bytes) => {
-                self.memory_used = true;
                 self.target.memory[address..address + bytes.len()].copy_from_slice(&bytes);
                 Ok(())
             }
             Operation::Show(address, length) => {
-                self.memory_used = true;
                 let bytes = self.target.memory[address..address + length].to_vec();
                 self.print(&format!("M {address}"), &bytes)
             }
@@ -117,14 +113,9 @@ impl<O: Write, W: Watch> Player<'_, O, W> {
             Operation::Read { room, bytes } => bytes
                 .iter()
                 .try_for_each(|byte| self.read_byte(*byte, room)),
-            Operation::Collect(room) => {
-                self.memory_used = true;
-                self.collect(room)
-            }
-            Operation::Report(result) => {
-                self.memory_used = true;
-                self.report(result)
-            }
+            Operation::Collect(room) => self.collect(room),
+            Operation::Report(result) => self.report(result),
+            Operation::Register(list) => self.register(list),
         }
     }
 
@@ -154,9 +145,19 @@ impl<O: Write, W: Watch> Player<'_, O, W> {
 
     fn report(&mut self, result: u8) -> Result<(), Failure> {
         let reported = self.target.application.report(result);
-        let refusal = reported.err().unwrap_or(0);
-        self.watch.called('Y', refusal);
-        self.print(&format!("Y {refusal}"), &[])
+        self.print_refusal('Y', reported)
+    }
+
+    fn register(&mut self, list: Vec<Table>) -> Result<(), Failure> {
+        let registered = self.target.register(list);
+        self.print_refusal('G', registered)
+    }
+
+    /// The refusal of a call that hands nothing out.
+    fn print_refusal(&mut self, letter: char, done: Result<(), Refusal>) -> Result<(), Failure> {
+        let refusal = done.err().unwrap_or(0);
+        self.watch.called(letter, refusal);
+        self.print(&format!("{letter} {refusal}"), &[])
     }
 
     /// Refusal, count and the whole lent buffer of a call.
@@ -176,15 +177,8 @@ impl<O: Write, W: Watch> Player<'_, O, W> {
 
     /// "refused, the old reader stays"
     fn begin(&mut self, expected: u64) -> Result<(), Failure> {
-        let refusal = match Reader::begin(expected) {
-            Ok(reader) => {
-                self.reader = reader;
-                0
-            }
-            Err(refusal) => refusal,
-        };
-        self.watch.called('E', refusal);
-        self.print(&format!("E {refusal}"), &[])
+        let begun = Reader::begin(expected).map(|reader| self.reader = reader);
+        self.print_refusal('E', begun)
     }
 
     fn read_byte(&mut self, byte: u8, room: usize) -> Result<(), Failure> {
@@ -260,6 +254,29 @@ mod tests {
         assert!(out.starts_with(&wanted), "{out}");
         let (_, nothing) = played("C 0\n");
         assert!(nothing.starts_with("C 3 0\nD "), "{nothing}");
+    }
+
+    #[test]
+    fn tables_are_registered_and_told() {
+        let ask = "B 2B 11 02 00 00 ED\n";
+        let (_, out) = played(&format!("{ask}G 8192 16\n{ask}G 8192 7\n{ask}G\n{ask}"));
+        let (none, told) = ["00 00 00 00 00 00 00", "02 00 10 00 00 20 CE"].into();
+        let wanted = format!(
+            "A 5 2B 00 {none}\nG 0\nA 11 2B 00 {told}\nG 8\n\
+             A 17 2B 00 {told}\nG 0\nA 23 2B 00 {none}\nD "
+        );
+        assert!(out.starts_with(&wanted), "{out}");
+        let (_, alone) = played("G\n");
+        assert_eq!(alone, "G 0\nD adler32 40000001\n");
+    }
+
+    /// Indexes and the reader stay at a reset with tables.
+    #[test]
+    fn registering_leaves_the_other_end() {
+        let (_, out) = played("E 1\nR 64 2B 00\nB 2B\nG\nR 64 07 F9\nB 2B C8 38\n");
+        let rest = " EE".repeat(63);
+        let wanted = format!("E 0\nG 0\nR 3 0 00 1 07{rest}\nA 3 2B 00 03 ");
+        assert!(out.starts_with(&wanted), "{out}");
     }
 
     #[test]

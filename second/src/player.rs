@@ -13,6 +13,7 @@ mod recorder;
 mod refusals;
 mod request;
 mod script;
+mod tables;
 mod target;
 mod trigger;
 

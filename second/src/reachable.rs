@@ -5,7 +5,7 @@
 //! too much or too little shows as a pair too few or too many.
 
 /// Commands served, and the statuses that can answer them.
-pub const SERVED: [(&[u8], &[u8]); 12] = [
+pub const SERVED: [(&[u8], &[u8]); 14] = [
     (&[0x01, 0x04], &[0x00, 0x82, 0x83, 0x84, 0x85, 0x86, 0x89]),
     (
         &[0x02, 0x03, 0x05, 0x06, 0x08, 0x0A],
@@ -13,6 +13,7 @@ pub const SERVED: [(&[u8], &[u8]); 12] = [
     ),
     (&[0x09, 0x0B], &[0x00, 0x82, 0x83, 0x85, 0x86, 0x87, 0x89]),
     (&[0x10], &[0x00, 0x82, 0x83, 0x85, 0x87]),
+    (&[0x11], &[0x00, 0x82, 0x83, 0x85]),
     (&[0xC0, 0xC8], &[0x00, 0x82]),
     (&[0xC1], &[0x00, 0x01, 0x82, 0x88]),
     (&[0xC2], &[0x00, 0x02, 0x82, 0x88]),
@@ -26,6 +27,7 @@ pub const SERVED: [(&[u8], &[u8]); 12] = [
         ],
         &[0x00, 0x82, 0x89],
     ),
+    (&[0xD4, 0xE6], &[0x00, 0x82, 0x86, 0x89]),
 ];
 
 /// The statuses of the other commands with a length byte, and of those without.
@@ -34,11 +36,12 @@ pub const OTHER_FAST: &[u8] = &[0x81, 0x82];
 
 /// The refusals that each line of a script can print, 0 for none. Those of a
 /// state or a memory no script can provoke: tests/fuzz.c counts them.
-pub const CALLS: [(char, &[u8]); 6] = [
+pub const CALLS: [(char, &[u8]); 7] = [
     ('W', &[0, 3, 4]),
     ('V', &[0, 3, 4]),
     ('E', &[0, 5]),
     ('R', &[0, 3, 6]),
     ('C', &[0, 3]),
     ('Y', &[0, 7]),
+    ('G', &[0, 8]),
 ];

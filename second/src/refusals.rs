@@ -3,6 +3,7 @@
 use crate::areas::{Range, BUFFER_LENGTH, READ_END, RECORD_END, WRITE_END};
 use crate::message::Message;
 use crate::request::{order, request, Order, Request, Setup};
+use crate::tables::string_length;
 use crate::target::Target;
 
 /// "A data part holds at most 64 bytes, either way."
@@ -98,13 +99,17 @@ fn misfit(case: &Case) -> bool {
 }
 
 /// "a size of 0; a variable count of 0 or above 8; 0 samples; samples times set
-/// size above 4,096; with mode 1 or 2, a trigger size other than 1, 2, 4"
+/// size above 4,096; with mode 1 or 2, a trigger size other than 1, 2, 4"; "a
+/// string that begins in memory and has no zero before memory's end"
 fn wrong_size(case: &Case) -> bool {
     match &case.request {
         Some(Request::Read(range) | Request::Write { range, .. }) => range.size == 0,
         Some(Request::ScopeSetup(variables)) => wrong_definitions(variables),
         Some(Request::RecorderSetup(setup)) => {
             wrong_definitions(&setup.variables) || wrong_recording(setup)
+        }
+        Some(Request::StringLength(address)) => {
+            is_inside(*address) && string_length(&case.target.memory, *address).is_none()
         }
         _ => false,
     }
@@ -129,7 +134,8 @@ fn answer_too_long(case: &Case) -> bool {
     }
 }
 
-/// "an address range not wholly where that command may go"
+/// "an address range not wholly where that command may go"; a string's "address
+/// outside"
 fn out_of_place(case: &Case) -> bool {
     match &case.request {
         Some(Request::Read(range)) => !range.ends_by(READ_END),
@@ -139,10 +145,16 @@ fn out_of_place(case: &Case) -> bool {
             !all_end_by(&setup.variables, RECORD_END)
                 || setup.has_trigger() && !setup.trigger.ends_by(RECORD_END)
         }
+        Some(Request::StringLength(address)) => !is_inside(*address),
         _ => false,
     }
 }
 
 fn all_end_by(variables: &[Range], end: u64) -> bool {
     variables.iter().all(|variable| variable.ends_by(end))
+}
+
+/// A string may begin at every byte that can be read.
+fn is_inside(address: u32) -> bool {
+    u64::from(address) < READ_END
 }

@@ -24,12 +24,14 @@ pub enum Order {
     BufferQuery,
     SendCommand,
     CommandResult,
+    TableQuery,
+    StringLength,
 }
 
 /// The order a command value gives and the bytes of its addresses ("Addresses
 /// take 2 bytes, in EX commands 4"); nothing for a command not served.
 pub fn order(command: u8) -> Option<(Order, usize)> {
-    let found = match command {
+    Some(match command {
         0xC0 => (Order::Information, 2),
         0xC8 => (Order::BriefInformation, 2),
         0xD0 => (Order::ReadFixed(1), 2),
@@ -61,9 +63,11 @@ pub fn order(command: u8) -> Option<(Order, usize)> {
         0xC9 => (Order::BufferQuery, 4),
         0x10 => (Order::SendCommand, 2),
         0xC6 => (Order::CommandResult, 2),
+        0x11 => (Order::TableQuery, 2),
+        0xD4 => (Order::StringLength, 2),
+        0xE6 => (Order::StringLength, 4),
         _ => return None,
-    };
-    Some(found)
+    })
 }
 
 /// The fields of a recorder setup.
@@ -114,6 +118,10 @@ pub enum Request {
     },
     SendCommand(Vec<u8>),
     CommandResult,
+    /// The index of a table.
+    TableQuery(u16),
+    /// The address of a string.
+    StringLength(u32),
 }
 
 /// What is left of a data part; each field is taken from its beginning.
@@ -245,6 +253,8 @@ impl<'a> Fields<'a> {
             },
             Order::SendCommand => Request::SendCommand(self.command()?),
             Order::CommandResult => Request::CommandResult,
+            Order::TableQuery => Request::TableQuery(self.word()?),
+            Order::StringLength => Request::StringLength(self.address()?),
         })
     }
 }
@@ -299,6 +309,9 @@ mod tests {
         assert!(request(&message(0x08, &[])).is_none());
         assert!(request(&message(0x08, &[0])).is_some());
         assert!(request(&message(0x0A, &[1, 1, 0, 0, 0, 0])).is_some());
+        assert!(request(&message(0x11, &[0, 0])).is_some());
+        assert!(request(&message(0x11, &[0])).is_none());
+        assert!(request(&message(0x11, &[0, 0, 0])).is_none());
     }
 
     #[test]

@@ -1,10 +1,14 @@
 //! The lines of a script.
 
 use crate::areas::MEMORY;
+use crate::tables::Table;
 
 /// The most room a W, V or R line may lend, and a line of no limit of its own.
 const MOST_ROOM: usize = 600;
 const MOST_UNLIMITED: usize = 65_535;
+
+/// The most tables a G line may name, more than can be registered.
+const MOST_TABLES: usize = 40;
 
 /// One operation.
 #[derive(Debug, PartialEq, Eq)]
@@ -23,6 +27,21 @@ pub enum Operation {
     /// The room for the command.
     Collect(usize),
     Report(u8),
+    Register(Vec<Table>),
+}
+
+impl Operation {
+    /// Whether it is one of the gate and its memory, for which the D line is
+    /// printed, and not of the other end of the cable.
+    pub fn is_of_gate(&self) -> bool {
+        !matches!(
+            self,
+            Operation::WriteCommand(_)
+                | Operation::WriteAnswer(_)
+                | Operation::BeginReader(_)
+                | Operation::Read { .. }
+        )
+    }
 }
 
 /// A call of a writer: command or status, room of the lent buffer, data.
@@ -76,6 +95,7 @@ impl Words<'_> {
             }),
             "C" => Ok(Operation::Collect(self.room_up_to(MOST_UNLIMITED)?)),
             "Y" => Ok(Operation::Report(hex(self.word("result")?)?)),
+            "G" => Ok(Operation::Register(self.tables()?)),
             other => Err(format!("`{other}` is no operation")),
         }
     }
@@ -113,6 +133,26 @@ impl Words<'_> {
             room: self.room()?,
             data: self.bytes()?,
         })
+    }
+
+    /// All words that are left, as addresses and sizes.
+    fn tables(&mut self) -> Result<Vec<Table>, String> {
+        let mut tables = Vec::new();
+        while self.0.clone().next().is_some() {
+            tables.push(Table {
+                address: self.number_of_16_bits("address")?,
+                size: self.number_of_16_bits("size")?,
+            });
+        }
+        match tables.len() {
+            count if count <= MOST_TABLES => Ok(tables),
+            count => Err(format!("{count} tables are more than {MOST_TABLES}")),
+        }
+    }
+
+    fn number_of_16_bits(&mut self, what: &str) -> Result<u16, String> {
+        let number = self.decimal(what)?;
+        u16::try_from(number).map_err(|_| format!("{number} is too large for a {what}"))
     }
 
     /// All words that are left, as bytes.
@@ -155,6 +195,10 @@ mod tests {
         assert_eq!(read("E 65"), Some(Operation::BeginReader(65)));
         assert_eq!(read("C 65535"), Some(Operation::Collect(65_535)));
         assert_eq!(read("Y fd"), Some(Operation::Report(0xFD)));
+        assert_eq!(read("G"), Some(Operation::Register(Vec::new())));
+        let tables = [(8_192, 8), (65_535, 0)].map(|(address, size)| Table { address, size });
+        let register = Operation::Register(tables.to_vec());
+        assert_eq!(read("G 8192 8 65535 0"), Some(register));
         let call = Call {
             first: 0xD0,
             room: 600,
@@ -193,8 +237,20 @@ mod tests {
             "Y 100",
             "Y 0 0",
             "Y g",
+            "G 8192",
+            "G 8192 8 8200",
+            "G x 8",
+            "G 8192 -8",
+            "G 65536 8",
+            "G 8192 65536",
         ] {
             assert!(parse(line).is_err(), "{line}");
         }
+    }
+
+    #[test]
+    fn up_to_forty_tables() {
+        assert!(parse(&format!("G{}", " 0 0".repeat(40))).is_ok());
+        assert!(parse(&format!("G{}", " 0 0".repeat(41))).is_err());
     }
 }

@@ -1,19 +1,23 @@
-//! The target: the bytes it heard, its memory, scope, recorder and the
-//! commands for the gate's own program.
+//! The target: the bytes it heard, its memory, scope, recorder, the commands
+//! for the gate's own program and its tables of names.
 
 use crate::application::Application;
 use crate::areas::{Range, MEMORY};
 use crate::commands::carry_out;
+use crate::host::Refusal;
 use crate::line::{wire, Heard};
 use crate::message::{CommandLength, Message};
 use crate::recorder::Recorder;
 use crate::refusals::judge;
+use crate::tables::{is_bad, Table};
 
 pub struct Target {
     pub memory: Vec<u8>,
     pub scope: Option<Vec<Range>>,
     pub recorder: Option<Recorder>,
     pub application: Application,
+    /// As registered: nothing of them is checked again.
+    pub tables: Vec<Table>,
     heard: Heard,
 }
 
@@ -25,15 +29,32 @@ pub struct Answer {
 }
 
 impl Target {
-    /// The target after reset: an idle link, nothing set up, no command.
+    /// The target after reset: an idle link, nothing set up, no command and no
+    /// tables.
     pub fn reset() -> Target {
         Target {
             memory: vec![0; MEMORY],
             scope: None,
             recorder: None,
             application: Application::default(),
+            tables: Vec::new(),
             heard: Heard::default(),
         }
+    }
+
+    /// "The gate registers up to 16 tables at reset": a reset with tables, over
+    /// the memory as it stands. "call number 8 for a bad list, nothing
+    /// registered": then everything stays.
+    pub fn register(&mut self, list: Vec<Table>) -> Result<(), Refusal> {
+        if is_bad(&list, &self.memory) {
+            return Err(8);
+        }
+        *self = Target {
+            memory: std::mem::take(&mut self.memory),
+            tables: list,
+            ..Target::reset()
+        };
+        Ok(())
     }
 
     /// One wire byte; the answer that comes with it.

@@ -7,8 +7,9 @@ use lib.ListN.{length, getD}
 use lib.Seq.{sets}
 use Rattle.document.specs.Numbers.{taken}
 use Rattle.application.specs.State.{Command, endedCommand}
+use Rattle.state.specs.State.{withApplication}
 use Rattle.blocks.specs.Places.{stateLength}
-use Rattle.blocks.specs.Layout.{decodedScope, decodedRecorder, decodedApplication, decoded, encoded}
+use Rattle.blocks.specs.Layout.{decodedScope, decodedRecorder, decodedApplication, decoded, encoded, decodedInstruments}
 use Rattle.blocks.proofs.Stored.{instruments-stored}
 use Rattle.applying.specs.Stored.{Stored, Collects}
 use Rattle.checks.specs.Promises.{collectNumber, reportNumber}
@@ -19,7 +20,7 @@ module _ (block : List ℕ) where
   command-stored : stateLength ≤ length block → ((i : ℕ) → getD block i 0 < 256) → (c : Command) (after : List ℕ) → Stored block c after
       → after ≡ sets block 0 (encoded (withCommand (decoded block) c))
   command-stored long small c after s =
-      s ∙ instruments-stored block long small (record { scope = decodedScope block; recorder = decodedRecorder block; application = c })
+      s ∙ instruments-stored block long small (withApplication (decodedInstruments block) c)
 
   module _ (buffer : List ℕ) where
     pub collect-refused : (k : ℕ) → k ≡ collectNumber block buffer → (k ≡ taken → ⊥)

@@ -11,7 +11,7 @@ use Rattle.document.specs.Numbers.{taken}
 use Rattle.document.specs.Application.{newCommand, collectBuffer}
 use Rattle.line.specs.declared.Written.{Written}
 use Rattle.application.specs.State.{Command, applicationOf, collectedCommand, endedCommand}
-use Rattle.state.specs.State.{Target}
+use Rattle.state.specs.State.{Target, withApplication}
 use Rattle.blocks.specs.Layout.{decodedApplication, decoded, encoded}
 use Rattle.checks.specs.Promises.{collectNumber, reportNumber}
 
@@ -21,7 +21,7 @@ withCommand t c =
     record {
       receiver = t .receiver;
       body = t .body;
-      instruments = record { scope = t .instruments .scope; recorder = t .instruments .recorder; application = c };
+      instruments = withApplication (t .instruments) c;
     }
 
 abbrev pub collectedTarget : Target → Target

@@ -6,12 +6,13 @@ use lib.ListN.{length}
 use lib.Seq.{sets}
 use Rattle.document.specs.Application.{newCommand, collectBuffer}
 use Rattle.application.specs.State.{Command, applicationOf, collectedCommand}
+use Rattle.state.specs.State.{withApplication}
 use Rattle.blocks.specs.Places.{scopePlace}
-use Rattle.blocks.specs.Layout.{decodedScope, decodedRecorder, decodedApplication, encodedInstruments}
+use Rattle.blocks.specs.Layout.{decodedScope, decodedRecorder, decodedApplication, encodedInstruments, decodedInstruments}
 
 abbrev pub Stored : List ℕ → Command → List ℕ → Type 0
 Stored block c after =
-    after ≡ sets block scopePlace (encodedInstruments (record { scope = decodedScope block; recorder = decodedRecorder block; application = c }))
+    after ≡ sets block scopePlace (encodedInstruments (withApplication (decodedInstruments block) c))
 
 -- "collects it once into 64 lent bytes"
 pub record Collects (block buffer : List ℕ) (r : ℕ) (after told : List ℕ) : Type 0 where

@@ -31,7 +31,7 @@ module _ (l : List ℕ) where
       omega arith
 
   module _ (small : (i : ℕ) → getD l i 0 < 256) where
-    small-part : (at n i : ℕ) → getD (bytesAt l at n) i 0 < 256
+    pub small-part : (at n i : ℕ) → getD (bytesAt l at n) i 0 < 256
     small-part at n i =
         split (ltb i n)
         (λ inside. rw (getD-take n (drop at l) i 0 (ltb-true i n inside), getD-drop at l i 0) (small (at + i)))

@@ -20,11 +20,12 @@ use Rattle.runs.specs.declared.run.Run.{Run}
 use Rattle.recorder.specs.declared.state.Recorder.{Recorder}
 use Rattle.document.proofs.Values.{number-back}
 use Rattle.application.specs.State.{Command}
+use Rattle.tables.specs.State.{Registered, listLength}
 use Rattle.state.specs.State.{Target}
 use Rattle.state.specs.Widths.{VariablesFit, PlanFits, RunFits, TargetFits}
-use Rattle.blocks.specs.Places.{definitionsLength, variablesLength, numbersLength, planLength, recorderLength, bodyPlace, scopePlace, recorderPlace, recordedPlace, runPlace, applicationPlace, commandPlace, stateLength}
-use Rattle.blocks.specs.Layout.{decodedReceiver, decodedDefinitions, decodedScope, decodedPlan, decodedRun, decodedRecorder, decodedApplication, decoded, encodedReceiver, encodedDefinitions, encodedScope, encodedRun, encodedRecorder, encodedApplication, encoded}
-use Rattle.blocks.proofs.Parts.{receiver-length, definitions-length, scope-length, recorder-length, application-length}
+use Rattle.blocks.specs.Places.{definitionsLength, variablesLength, numbersLength, planLength, recorderLength, applicationLength, bodyPlace, scopePlace, recorderPlace, recordedPlace, runPlace, applicationPlace, commandPlace, tablesPlace, listPlace, stateLength}
+use Rattle.blocks.specs.Layout.{decodedReceiver, decodedDefinitions, decodedScope, decodedPlan, decodedRun, decodedRecorder, decodedApplication, decodedTables, decoded, encodedReceiver, encodedDefinitions, encodedScope, encodedRun, encodedRecorder, encodedApplication, encodedTables, encoded}
+use Rattle.blocks.proofs.Parts.{receiver-length, definitions-length, scope-length, recorder-length, application-length, tables-length}
 
 -- ---- definitions
 
@@ -145,6 +146,13 @@ application-back l rest c size e =
       bytes = command i;
     }
 
+tables-back : (l rest : List ℕ) (r : Registered) → length (r .list) ≡ listLength → drop tablesPlace l ≡ encodedTables r ++ rest → decodedTables l ≡ r
+unfolding encodedTables decodedTables
+tables-back l rest r size e =
+    let listed : bytesAt l listPlace listLength ≡ r .list =
+    ap (take listLength) (sym (drop-drop 1 tablesPlace l) ∙ ap (drop 1) e) ∙ take-at (r .list) rest listLength size in
+    λ i. record { count = byte-there l (r .count ∷ (r .list ++ rest)) tablesPlace 0 (r .count) e refl i; list = listed i }
+
 -- ---- the whole
 
 pub decoded-encoded : (t : Target) (rest : List ℕ) → TargetFits t → decoded (encoded t ++ rest) ≡ t
@@ -157,15 +165,19 @@ decoded-encoded t rest fits =
           record {
             scope = scope-back l (encodedRecorder (t .instruments .recorder) ++ last) (t .instruments .scope) (fits .scope) behind-body i;
             recorder = recorder-back l last (t .instruments .recorder) behind-scope (fits .recorder .plan) (fits .recorder .run) i;
-            application = application-back l rest (t .instruments .application) (fits .application) behind-recorder i;
+            application = application-back l end (t .instruments .application) (fits .application) behind-recorder i;
+            tables = tables-back l rest (t .instruments .tables) (fits .tables) behind-application i;
           };
     }
   where
     l : List ℕ
     l = encoded t ++ rest
 
+    end : List ℕ
+    end = encodedTables (t .instruments .tables) ++ rest
+
     last : List ℕ
-    last = encodedApplication (t .instruments .application) ++ rest
+    last = encodedApplication (t .instruments .application) ++ end
 
     instruments : List ℕ
     instruments = encodedScope (t .instruments .scope) ++ (encodedRecorder (t .instruments .recorder) ++ last)
@@ -191,6 +203,12 @@ decoded-encoded t rest fits =
         ∙ ap (drop recorderLength) behind-scope
         ∙ drop-at (encodedRecorder (t .instruments .recorder)) last recorderLength (recorder-length (t .instruments .recorder) (fits .recorder .plan .variables .eight))
 
+    behind-application : drop tablesPlace l ≡ end
+    behind-application =
+        sym (drop-drop applicationLength applicationPlace l)
+        ∙ ap (drop applicationLength) behind-recorder
+        ∙ drop-at (encodedApplication (t .instruments .application)) end applicationLength (application-length (t .instruments .application) (fits .application))
+
     receiver-there : decodedReceiver l ≡ t .receiver
     receiver-there = ap decodedReceiver parts ∙ receiver-back (t .receiver) (t .body ++ instruments)
 
@@ -202,7 +220,7 @@ decoded-encoded t rest fits =
 pub encoded-length : (t : Target) → TargetFits t → length (encoded t) ≡ stateLength
 encoded-length t fits =
     simp length-append
-    (omega (arith, receiver-length (t .receiver), fits .body, scope-length (t .instruments .scope) (fits .scope .eight), recorder-length (t .instruments .recorder) (fits .recorder .plan .variables .eight), application-length (t .instruments .application) (fits .application)))
+    (omega (arith, receiver-length (t .receiver), fits .body, scope-length (t .instruments .scope) (fits .scope .eight), recorder-length (t .instruments .recorder) (fits .recorder .plan .variables .eight), application-length (t .instruments .application) (fits .application), tables-length (t .instruments .tables) (fits .tables)))
 
 pub stored-decoded : (block : List ℕ) (t : Target) → stateLength ≤ length block → TargetFits t → decoded (sets block 0 (encoded t)) ≡ t
 stored-decoded block t long fits =

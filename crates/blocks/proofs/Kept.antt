@@ -7,8 +7,9 @@ use lib.ListN.{length, getD, take}
 use Rattle.document.specs.Numbers.{mostData}
 use Rattle.document.specs.Areas.{bytesAt}
 use Rattle.runs.specs.declared.run.Run.{Run}
-use Rattle.blocks.specs.Layout.{decodedReceiver, decodedDefinitions, decodedVariables, decodedScope, decodedPlan, decodedRecorder, decodedApplication, decodedInstruments, decoded, encodedReceiver, encodedVariables, encodedScope, encodedNumbers, encodedRun, encodedRecorder, encodedApplication, encodedInstruments, encoded}
-use Rattle.blocks.specs.Places.{receiverLength, definitionsLength, variablesLength, numbersLength, planLength, runLength, recorderLength, applicationLength, instrumentsLength, bodyPlace, scopePlace, recorderPlace, planPlace, samplesPlace, postTriggerPlace, dividerPlace, triggerAddressPlace, triggerSizePlace, signPlace, thresholdPlace, recordedPlace, runPlace, fullPlace, watchPlace, waitPlace, placePlace, valuePlace, applicationPlace, commandPlace, stateLength}
+use Rattle.tables.specs.State.{listLength}
+use Rattle.blocks.specs.Layout.{decodedReceiver, decodedDefinitions, decodedVariables, decodedScope, decodedPlan, decodedRecorder, decodedApplication, decodedTables, decodedInstruments, decoded, encodedReceiver, encodedVariables, encodedScope, encodedNumbers, encodedRun, encodedRecorder, encodedApplication, encodedTables, encodedInstruments, encoded}
+use Rattle.blocks.specs.Places.{receiverLength, definitionsLength, variablesLength, numbersLength, planLength, runLength, recorderLength, applicationLength, tablesLength, instrumentsLength, bodyPlace, scopePlace, recorderPlace, planPlace, samplesPlace, postTriggerPlace, dividerPlace, triggerAddressPlace, triggerSizePlace, signPlace, thresholdPlace, recordedPlace, runPlace, fullPlace, watchPlace, waitPlace, placePlace, valuePlace, applicationPlace, commandPlace, tablesPlace, listPlace, stateLength}
 use Rattle.block_fields.proofs.Ranges.{bytes-cons, bytes-append}
 use Rattle.block_fields.proofs.Numbers.{number-kept}
 use Rattle.blocks.proofs.Definitions.{definitions-kept}
@@ -90,11 +91,24 @@ module _ (l : List ℕ) (small : (i : ℕ) → getD l i 0 < 256) where
         ap (λ (k : List ℕ). k ++ bytesAt l commandPlace mostData) (each-bytes 3 l applicationPlace (omega arith))
         ∙ bytes-append l applicationPlace 3 mostData
 
+    pub tables-kept : encodedTables (decodedTables l) ≡ bytesAt l tablesPlace tablesLength
+    unfolding encodedTables decodedTables
+    tables-kept = bytes-cons l tablesPlace listLength (omega arith)
+
+    -- what stands behind the recorder, and behind the scope
+    pub behind-recorder-kept : encodedApplication (decodedApplication l) ++ encodedTables (decodedTables l) ≡ bytesAt l applicationPlace (applicationLength + tablesLength)
+    behind-recorder-kept = (λ i. application-kept i ++ tables-kept i) ∙ bytes-append l applicationPlace applicationLength tablesLength
+
+    pub behind-scope-kept :
+        encodedRecorder (decodedRecorder l) ++ (encodedApplication (decodedApplication l) ++ encodedTables (decodedTables l))
+        ≡ bytesAt l recorderPlace (recorderLength + (applicationLength + tablesLength))
+    behind-scope-kept =
+        (λ i. same-recorder-kept i ++ behind-recorder-kept i) ∙ bytes-append l recorderPlace recorderLength (applicationLength + tablesLength)
+
     pub instruments-kept : encodedInstruments (decodedInstruments l) ≡ bytesAt l scopePlace instrumentsLength
     instruments-kept =
-        (λ i. scope-kept i ++ (same-recorder-kept i ++ application-kept i))
-        ∙ ap (λ (k : List ℕ). bytesAt l scopePlace variablesLength ++ k) (bytes-append l recorderPlace recorderLength applicationLength)
-        ∙ bytes-append l scopePlace variablesLength (recorderLength + applicationLength)
+        (λ i. scope-kept i ++ behind-scope-kept i)
+        ∙ bytes-append l scopePlace variablesLength (recorderLength + (applicationLength + tablesLength))
 
     -- the whole
     pub encoded-decoded : encoded (decoded l) ≡ take stateLength l

@@ -12,10 +12,11 @@ use Rattle.scope.specs.declared.Scope.{Scope}
 use Rattle.recorder.specs.declared.state.Recorder.{Recorder}
 use Rattle.document.specs.Numbers.{mostData}
 use Rattle.application.specs.State.{Command}
+use Rattle.tables.specs.State.{Registered, listLength}
 use Rattle.state.specs.Bounds.{fresh}
 use Rattle.memory.proofs.Copies.{stored-append}
-use Rattle.blocks.specs.Layout.{encodedDefinitions, encodedVariables, encodedNumbers, encodedRun, encodedReceiver, encodedScope, encodedRecorder, encodedApplication, encoded}
-use Rattle.blocks.specs.Places.{receiverLength, variablesLength, numbersLength, recorderLength, applicationLength, recorderPlace, planPlace, recordedPlace, runPlace, stateLength}
+use Rattle.blocks.specs.Layout.{encodedDefinitions, encodedVariables, encodedNumbers, encodedRun, encodedReceiver, encodedScope, encodedRecorder, encodedApplication, encodedTables, encoded}
+use Rattle.blocks.specs.Places.{receiverLength, variablesLength, numbersLength, recorderLength, applicationLength, tablesLength, recorderPlace, planPlace, recordedPlace, runPlace, stateLength}
 
 pub definitions-length : (vs : List Variable) → length (encodedDefinitions vs) ≡ length vs * 5
 definitions-length [] = refl
@@ -40,6 +41,10 @@ pub application-length : (c : Command) → length (c .bytes) ≡ mostData → le
 unfolding encodedApplication
 application-length c e = omega (arith, e)
 
+pub tables-length : (r : Registered) → length (r .list) ≡ listLength → length (encodedTables r) ≡ tablesLength
+unfolding encodedTables
+tables-length r e = omega (arith, e)
+
 -- two stores, the second where the first ends
 pub sets-two : (l xs ys : List ℕ) (i n j : ℕ) → length xs ≡ n → i + n ≡ j → sets l i (xs ++ ys) ≡ sets (sets l i xs) j ys
 sets-two l xs ys i n j e f = stored-append xs ys l i ∙ ap (λ (k : ℕ). sets (sets l i xs) k ys) (omega arith)
@@ -55,5 +60,5 @@ recorder-put l r e =
 
 -- reset is all zeros
 pub fresh-zeros : replicate stateLength 0 ≡ encoded fresh
-unfolding encodedReceiver encodedScope encodedRecorder encodedRun encodedApplication
+unfolding encodedReceiver encodedScope encodedRecorder encodedRun encodedApplication encodedTables
 fresh-zeros = refl

@@ -3,7 +3,7 @@ use mathlib.Core.Path.{_≡_, refl, sym, ap, _∙_}
 use mathlib.Core.List.{List, [], _∷_, _++_}
 use Prim.Native.Nat.{ℕ, _+_, _-_, _<_, _≤_}
 use native.Mathlib.Omega.{arith}
-use lib.ListN.{length, getD, set, take, drop, length-set, length-append}
+use lib.ListN.{length, getD, set, take, drop, length-set, length-append, length-drop}
 use lib.Seq.{sets, length-sets, drop-at, drop-set-lt}
 use Rattle.document.specs.Numbers.{mostData}
 use Rattle.document.specs.Areas.{bytesAt}
@@ -12,13 +12,13 @@ use Rattle.scope.specs.declared.Scope.{Scope}
 use Rattle.runs.specs.declared.run.Run.{Run}
 use Rattle.recorder.specs.declared.state.Recorder.{Recorder}
 use Rattle.application.specs.State.{Command, sentCommand, endedCommand}
-use Rattle.state.specs.State.{Instruments}
+use Rattle.state.specs.State.{Instruments, withScope, withRecorder, withApplication}
 use Rattle.history.proofs.Bytes.{bytes-behind}
 use Rattle.blocks.specs.Layout.{decodedReceiver, decodedBody, decodedScope, decodedRecorder, decodedApplication, decodedInstruments, encodedReceiver, encodedScope, encodedRun, encodedRecorder, encodedApplication, encodedInstruments, encoded}
-use Rattle.blocks.specs.Places.{receiverLength, variablesLength, planLength, recorderLength, applicationLength, instrumentsLength, bodyPlace, scopePlace, recorderPlace, runPlace, applicationPlace, commandPlace, stateLength}
+use Rattle.blocks.specs.Places.{receiverLength, variablesLength, planLength, recorderLength, applicationLength, tablesLength, instrumentsLength, bodyPlace, scopePlace, recorderPlace, runPlace, applicationPlace, commandPlace, tablesPlace, stateLength}
 use Rattle.block_fields.proofs.Ranges.{bytes-length, bytes-append, sets-same, sets-set, sets-apart}
 use Rattle.blocks.proofs.Parts.{receiver-length, sets-two}
-use Rattle.blocks.proofs.Kept.{receiver-kept, scope-kept, recorder-kept, same-recorder-kept, application-kept, instruments-kept}
+use Rattle.blocks.proofs.Kept.{receiver-kept, scope-kept, recorder-kept, same-recorder-kept, application-kept, tables-kept, behind-recorder-kept, behind-scope-kept, instruments-kept}
 
 module _ (block : List ℕ) (long : stateLength ≤ length block) where
   parts-stored : (r : Receiver) (body rest : List ℕ) → length body ≡ mostData
@@ -96,11 +96,6 @@ module _ (block : List ℕ) (long : stateLength ≤ length block) where
     same-instruments =
         ap (sets block scopePlace) (instruments-kept block small long) ∙ sets-same instrumentsLength block scopePlace (omega arith)
 
-    -- what stands behind the scope: the recorder and the application command, as they are
-    behind-scope-kept : encodedRecorder (decodedRecorder block) ++ encodedApplication (decodedApplication block) ≡ bytesAt block recorderPlace (recorderLength + applicationLength)
-    behind-scope-kept =
-        (λ i. same-recorder-kept block small long i ++ application-kept block small long i) ∙ bytes-append block recorderPlace recorderLength applicationLength
-
     -- a part, stored, and what stands behind it stored over what is there
     behind-there : (l xs ys : List ℕ) (at n next m : ℕ) → length xs ≡ n → at + n ≡ next → next + m ≤ length l → ys ≡ bytesAt l next m
         → sets l at (xs ++ ys) ≡ sets l at xs
@@ -110,25 +105,23 @@ module _ (block : List ℕ) (long : stateLength ≤ length block) where
         ∙ sets-same m (sets l at xs) next (omega (arith, length-sets l at xs))
 
     pub scope-stored : (s : Scope) → length (encodedScope s) ≡ variablesLength
-        → sets block scopePlace (encodedScope s) ≡ sets block scopePlace (encodedInstruments (record { scope = s; recorder = decodedRecorder block; application = decodedApplication block }))
+        → sets block scopePlace (encodedScope s) ≡ sets block scopePlace (encodedInstruments (withScope (decodedInstruments block) s))
     scope-stored s width =
-        sym (behind-there block (encodedScope s) _ scopePlace variablesLength recorderPlace (recorderLength + applicationLength) width refl (omega arith) behind-scope-kept)
+        sym (behind-there block (encodedScope s) _ scopePlace variablesLength recorderPlace (recorderLength + (applicationLength + tablesLength)) width refl (omega arith) (behind-scope-kept block small long))
 
     -- behind the scope that is there
-    past-scope : (r : Recorder) (c : Command)
-        → sets block scopePlace (encodedInstruments (record { scope = decodedScope block; recorder = r; application = c }))
-        ≡ sets block recorderPlace (encodedRecorder r ++ encodedApplication c)
-    past-scope r c =
-        sets-two block (encodedScope (decodedScope block)) (encodedRecorder r ++ encodedApplication c) scopePlace variablesLength recorderPlace scope-width refl
-        ∙ ap (λ (l : List ℕ). sets l recorderPlace (encodedRecorder r ++ encodedApplication c)) same-scope
+    past-scope : (rest : List ℕ) → sets block scopePlace (encodedScope (decodedScope block) ++ rest) ≡ sets block recorderPlace rest
+    past-scope rest =
+        sets-two block (encodedScope (decodedScope block)) rest scopePlace variablesLength recorderPlace scope-width refl
+        ∙ ap (λ (l : List ℕ). sets l recorderPlace rest) same-scope
 
     pub recorder-stored : (r : Recorder) → length (encodedRecorder r) ≡ recorderLength
         → sets block recorderPlace (encodedRecorder r)
-        ≡ sets block scopePlace (encodedInstruments (record { scope = decodedScope block; recorder = r; application = decodedApplication block }))
+        ≡ sets block scopePlace (encodedInstruments (withRecorder (decodedInstruments block) r))
     recorder-stored r width =
         sym
-        (past-scope r (decodedApplication block)
-        ∙ behind-there block (encodedRecorder r) _ recorderPlace recorderLength applicationPlace applicationLength width refl (omega arith) (application-kept block small long))
+        (past-scope _
+        ∙ behind-there block (encodedRecorder r) _ recorderPlace recorderLength applicationPlace (applicationLength + tablesLength) width refl (omega arith) (behind-recorder-kept block small long))
 
     same-recorder : sets block recorderPlace (encodedRecorder (decodedRecorder block)) ≡ block
     same-recorder = ap (sets block recorderPlace) (same-recorder-kept block small long) ∙ sets-same recorderLength block recorderPlace (omega arith)
@@ -136,14 +129,21 @@ module _ (block : List ℕ) (long : stateLength ≤ length block) where
     recorder-width : length (encodedRecorder (decodedRecorder block)) ≡ recorderLength
     recorder-width = ap length (same-recorder-kept block small long) ∙ bytes-length block recorderPlace recorderLength (omega arith)
 
-    pub application-stored : (c : Command)
+    -- behind the scope and the recorder that are there
+    past-recorder : (rest : List ℕ)
+        → sets block scopePlace (encodedScope (decodedScope block) ++ (encodedRecorder (decodedRecorder block) ++ rest)) ≡ sets block applicationPlace rest
+    past-recorder rest =
+        past-scope (encodedRecorder (decodedRecorder block) ++ rest)
+        ∙ sets-two block (encodedRecorder (decodedRecorder block)) rest recorderPlace recorderLength applicationPlace recorder-width refl
+        ∙ ap (λ (l : List ℕ). sets l applicationPlace rest) same-recorder
+
+    pub application-stored : (c : Command) → length (encodedApplication c) ≡ applicationLength
         → sets block applicationPlace (encodedApplication c)
-        ≡ sets block scopePlace (encodedInstruments (record { scope = decodedScope block; recorder = decodedRecorder block; application = c }))
-    application-stored c =
+        ≡ sets block scopePlace (encodedInstruments (withApplication (decodedInstruments block) c))
+    application-stored c width =
         sym
-        (past-scope (decodedRecorder block) c
-        ∙ sets-two block (encodedRecorder (decodedRecorder block)) (encodedApplication c) recorderPlace recorderLength applicationPlace recorder-width refl
-        ∙ ap (λ (l : List ℕ). sets l applicationPlace (encodedApplication c)) same-recorder)
+        (past-recorder _
+        ∙ behind-there block (encodedApplication c) _ applicationPlace applicationLength tablesPlace tablesLength width refl (omega arith) (tables-kept block small long))
 
     -- the recorder in the block, with another run
     abbrev withRun : Run → Recorder
@@ -165,7 +165,7 @@ module _ (block : List ℕ) (long : stateLength ≤ length block) where
 
     pub run-stored : (run : Run)
         → sets block runPlace (encodedRun run)
-        ≡ sets block scopePlace (encodedInstruments (record { scope = decodedScope block; recorder = withRun run; application = decodedApplication block }))
+        ≡ sets block scopePlace (encodedInstruments (withRecorder (decodedInstruments block) (withRun run)))
     run-stored run = run-in-recorder run ∙ recorder-stored (withRun run) (run-width run)
 
     -- what is set up, behind the link as it is there
@@ -179,25 +179,29 @@ module _ (block : List ℕ) (long : stateLength ≤ length block) where
 
     -- ---- the application command, byte by byte
 
+    application-width : length (encodedApplication (decodedApplication block)) ≡ applicationLength
+    application-width = ap length (application-kept block small long) ∙ bytes-length block applicationPlace applicationLength (omega arith)
+
     -- a byte of its head
     pub head-stored : (k b : ℕ) (c : Command) → k < 3 → set (encodedApplication (decodedApplication block)) k b ≡ encodedApplication c
         → set block (applicationPlace + k) b
-        ≡ sets block scopePlace (encodedInstruments (record { scope = decodedScope block; recorder = decodedRecorder block; application = c }))
+        ≡ sets block scopePlace (encodedInstruments (withApplication (decodedInstruments block) c))
     head-stored k b c h same =
         sym (sets-set applicationLength block applicationPlace k b (omega arith) (omega arith))
         ∙ ap (λ (l : List ℕ). sets block applicationPlace (set l k b)) (sym (application-kept block small long))
         ∙ ap (sets block applicationPlace) same
-        ∙ application-stored c
+        ∙ application-stored c (ap length (sym same) ∙ length-set (encodedApplication (decodedApplication block)) k b ∙ application-width)
 
     -- a new one: its head, and its bytes in front of those that are there
     pub command-stored : (body : List ℕ) → length body ≤ mostData
         → sets block applicationPlace (1 ∷ length body ∷ 0 ∷ body)
-        ≡ sets block scopePlace (encodedInstruments (record { scope = decodedScope block; recorder = decodedRecorder block; application = sentCommand body (decodedApplication block) }))
+        ≡ sets block scopePlace (encodedInstruments (withApplication (decodedInstruments block) (sentCommand body (decodedApplication block))))
     unfolding encodedApplication decodedApplication
     command-stored body few =
         let n = length body in
         sym (behind-there block (1 ∷ n ∷ 0 ∷ body) (drop n (bytesAt block commandPlace mostData)) applicationPlace (3 + n) (commandPlace + n) (mostData - n) (omega arith) (omega arith) (omega arith) (bytes-left n few))
         ∙ application-stored (sentCommand body (decodedApplication block))
+        (simp (length-append, length-drop) (omega (arith, few, bytes-length block commandPlace mostData (omega arith))))
       where
         bytes-left : (n : ℕ) → n ≤ mostData → drop n (bytesAt block commandPlace mostData) ≡ bytesAt block (commandPlace + n) (mostData - n)
         bytes-left n small-enough =
@@ -209,8 +213,8 @@ module _ (block : List ℕ) (long : stateLength ≤ length block) where
     -- a result: its head, and the bytes that are there
     pub ended-stored : (result : ℕ)
         → sets block applicationPlace (3 ∷ 0 ∷ result ∷ [])
-        ≡ sets block scopePlace (encodedInstruments (record { scope = decodedScope block; recorder = decodedRecorder block; application = endedCommand result (decodedApplication block) }))
+        ≡ sets block scopePlace (encodedInstruments (withApplication (decodedInstruments block) (endedCommand result (decodedApplication block))))
     unfolding encodedApplication decodedApplication
     ended-stored result =
         sym (behind-there block (3 ∷ 0 ∷ result ∷ []) (bytesAt block commandPlace mostData) applicationPlace 3 commandPlace mostData refl refl (omega arith) refl)
-        ∙ application-stored (endedCommand result (decodedApplication block))
+        ∙ application-stored (endedCommand result (decodedApplication block)) (omega (arith, bytes-length block commandPlace mostData (omega arith)))

@@ -15,8 +15,9 @@ use Rattle.plans.specs.declared.plan.Plan.{Plan}
 use Rattle.runs.specs.declared.run.Run.{Run}
 use Rattle.recorder.specs.declared.state.Recorder.{Recorder}
 use Rattle.application.specs.State.{Command}
+use Rattle.tables.specs.State.{Registered, listLength}
 use Rattle.state.specs.State.{Instruments, Target}
-use Rattle.blocks.specs.Places.{bodyPlace, scopePlace, recorderPlace, planPlace, samplesPlace, postTriggerPlace, dividerPlace, triggerAddressPlace, triggerSizePlace, signPlace, thresholdPlace, recordedPlace, runPlace, fullPlace, watchPlace, waitPlace, placePlace, valuePlace, applicationPlace, commandPlace}
+use Rattle.blocks.specs.Places.{bodyPlace, scopePlace, recorderPlace, planPlace, samplesPlace, postTriggerPlace, dividerPlace, triggerAddressPlace, triggerSizePlace, signPlace, thresholdPlace, recordedPlace, runPlace, fullPlace, watchPlace, waitPlace, placePlace, valuePlace, applicationPlace, commandPlace, tablesPlace, listPlace}
 
 -- ---- from a block to the state that it is
 
@@ -86,9 +87,12 @@ decodedApplication block =
       bytes = bytesAt block commandPlace mostData;
     }
 
+unfoldable pub decodedTables : List ℕ → Registered
+decodedTables block = record { count = getD block tablesPlace 0; list = bytesAt block listPlace listLength }
+
 abbrev pub decodedInstruments : List ℕ → Instruments
 decodedInstruments block =
-    record { scope = decodedScope block; recorder = decodedRecorder block; application = decodedApplication block }
+    record { scope = decodedScope block; recorder = decodedRecorder block; application = decodedApplication block; tables = decodedTables block }
 
 abbrev pub decoded : List ℕ → Target
 decoded block =
@@ -132,8 +136,12 @@ encodedRecorder r = r .ready ∷ encodedNumbers (r .plan) ++ encodedVariables (r
 unfoldable pub encodedApplication : Command → List ℕ
 encodedApplication c = c .phase ∷ c .count ∷ c .result ∷ c .bytes
 
+unfoldable pub encodedTables : Registered → List ℕ
+encodedTables r = r .count ∷ r .list
+
 abbrev pub encodedInstruments : Instruments → List ℕ
-encodedInstruments i = encodedScope (i .scope) ++ (encodedRecorder (i .recorder) ++ encodedApplication (i .application))
+encodedInstruments i =
+    encodedScope (i .scope) ++ (encodedRecorder (i .recorder) ++ (encodedApplication (i .application) ++ encodedTables (i .tables)))
 
 abbrev pub encoded : Target → List ℕ
 encoded t = encodedReceiver (t .receiver) ++ (t .body ++ encodedInstruments (t .instruments))

@@ -1,6 +1,7 @@
 -- Where the parts of a target's state lie in its block: each begins where the one before it ends, and a new part is appended.
 use Prim.Native.Nat.{ℕ, _+_, _*_}
 use Rattle.document.specs.Numbers.{mostData}
+use Rattle.tables.specs.State.{listLength}
 
 -- ---- how long a part is
 
@@ -33,9 +34,13 @@ recorderLength = 1 + planLength + runLength
 abbrev pub applicationLength : ℕ
 applicationLength = 3 + mostData
 
--- scope, recorder and application command
+-- the registered tables: a count, and their list
+abbrev pub tablesLength : ℕ
+tablesLength = 1 + listLength
+
+-- scope, recorder, application command and tables
 abbrev pub instrumentsLength : ℕ
-instrumentsLength = variablesLength + (recorderLength + applicationLength)
+instrumentsLength = variablesLength + (recorderLength + (applicationLength + tablesLength))
 
 -- ---- where it begins
 
@@ -63,9 +68,15 @@ applicationPlace = runPlace + runLength
 abbrev pub commandPlace : ℕ
 commandPlace = applicationPlace + 3
 
+abbrev pub tablesPlace : ℕ
+tablesPlace = applicationPlace + applicationLength
+
+abbrev pub listPlace : ℕ
+listPlace = tablesPlace + 1
+
 -- how many bytes a target's state takes
 abbrev pub stateLength : ℕ
-stateLength = applicationPlace + applicationLength
+stateLength = tablesPlace + tablesLength
 
 -- ---- the plan's numbers and the run's, as they lie behind each other
 

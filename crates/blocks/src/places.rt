@@ -1,6 +1,7 @@
 // Where the parts of a target's state lie in its block: each begins where the one before it ends, and a new part is appended.
 // docs/STATE.md has the same as a table.
 use codes::MOST_DATA;
+use tables::LIST_LENGTH;
 
 const RECEIVER_LENGTH: usize = 6;
 
@@ -58,5 +59,10 @@ pub const RESULT: usize = COUNT + 1;
 
 pub const COMMAND: usize = RESULT + 1;
 
+// The registered tables: how many, and 64 bytes that begin with their list.
+pub const TABLES: usize = COMMAND + MOST_DATA;
+
+pub const LIST: usize = TABLES + 1;
+
 // How many bytes a target's state takes.
-pub const STATE_LENGTH: usize = COMMAND + MOST_DATA;
+pub const STATE_LENGTH: usize = LIST + LIST_LENGTH;

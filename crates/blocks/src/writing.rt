@@ -4,7 +4,8 @@ ghost use Prim.Native.Nat.{_+_, _≤_};
 ghost use lib.ListN.{length};
 ghost use lib.Seq.{sets};
 ghost use Rattle.state.specs.Bounds.{fresh};
-ghost use Rattle.blocks.specs.Layout.{decodedScope, decodedRecorder, decodedApplication, encodedReceiver, encodedDefinitions, encodedVariables, encodedNumbers, encodedRun, encodedInstruments, encoded};
+ghost use Rattle.state.specs.State.{withScope, withRecorder};
+ghost use Rattle.blocks.specs.Layout.{decodedScope, decodedRecorder, decodedApplication, encodedReceiver, encodedDefinitions, encodedVariables, encodedNumbers, encodedRun, encodedInstruments, encoded, decodedInstruments};
 ghost use Rattle.blocks.specs.Places.{receiverLength, definitionsLength, variablesLength, scopePlace, planPlace, runPlace, stateLength};
 use crate::places::DIVIDER;
 use crate::places::FULL;
@@ -98,7 +99,7 @@ pub fn put_run(block: &mut [u8], run: runs::Run)
 // One of the instruments: the others stay as they are there.
 pub fn put_recorder(block: &mut [u8], recorder: recorder::Recorder)
     requires { ⌜ stateLength ≤ length (now block) ⌝ }
-    ensures { λ _. ⌜ now (block .exit) ≡ sets (now (block .entry)) scopePlace (encodedInstruments (record { scope = decodedScope (now (block .entry)); recorder = recorder; application = decodedApplication (now (block .entry)) })) ⌝ }
+    ensures { λ _. ⌜ now (block .exit) ≡ sets (now (block .entry)) scopePlace (encodedInstruments (withRecorder (decodedInstruments (now (block .entry))) recorder)) ⌝ }
 {
     let plan = recorder.plan;
     let v = plan.variables;
@@ -111,7 +112,7 @@ pub fn put_recorder(block: &mut [u8], recorder: recorder::Recorder)
 
 pub fn put_scope(block: &mut [u8], scope: scope::Scope)
     requires { ⌜ stateLength ≤ length (now block) ⌝ }
-    ensures { λ _. ⌜ now (block .exit) ≡ sets (now (block .entry)) scopePlace (encodedInstruments (record { scope = scope; recorder = decodedRecorder (now (block .entry)); application = decodedApplication (now (block .entry)) })) ⌝ }
+    ensures { λ _. ⌜ now (block .exit) ≡ sets (now (block .entry)) scopePlace (encodedInstruments (withScope (decodedInstruments (now (block .entry))) scope)) ⌝ }
 {
     let v = scope.variables;
     put_variables(block, SCOPE, v);

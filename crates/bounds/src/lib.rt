@@ -31,6 +31,7 @@ use blocks::SAMPLES;
 use blocks::SCOPE;
 use blocks::SCOPE_DEFINITIONS;
 use blocks::SIGN;
+use blocks::TABLES;
 use blocks::THRESHOLD;
 use blocks::TRIGGER_ADDRESS;
 use blocks::TRIGGER_SIZE;
@@ -40,6 +41,7 @@ use codes::MOST_DATA_BYTE;
 use memory::BUFFER_SIZE;
 use memory::MEMORY_END;
 use memory::RECORDED_END;
+use tables::MOST_TABLES;
 use variables::MOST_VARIABLES;
 use widths::usize_of_u8;
 use widths::usize_of_u16;
@@ -204,5 +206,8 @@ pub fn is_sound(block: &[u8]) -> bool
     if !is_recorder_sound(block) {
         return false;
     }
-    is_application_sound(block)
+    if !is_application_sound(block) {
+        return false;
+    }
+    block[TABLES] <= MOST_TABLES
 }

@@ -3,7 +3,7 @@ use mathlib.Core.Path.{_≡_, refl}
 use Prim.Native.Nat.{ℕ, _<_}
 use lib.ListN.{length}
 use Rattle.document.specs.declared.Operation.{Operation}
-use Rattle.document.specs.declared.Operation.the-variants.{Unserved, Describe, DescribeBriefly, Read, Write, WriteMasked, SetUpScope, ReadScope, SetUpRecorder, Start, Stop, Status, QueryBuffer, SendCommand, CommandResult}
+use Rattle.document.specs.declared.Operation.the-variants.{Unserved, Describe, DescribeBriefly, Read, Write, WriteMasked, SetUpScope, ReadScope, SetUpRecorder, Start, Stop, Status, QueryBuffer, SendCommand, CommandResult, TellTable, MeasureString}
 use Rattle.codes.specs.Numbering.{operations, numberOf, operationNumbered}
 use Rattle.codes.proofs.Entries.{same-rule}
 
@@ -23,6 +23,8 @@ operation-of-number Status served = refl
 operation-of-number QueryBuffer served = refl
 operation-of-number SendCommand served = refl
 operation-of-number CommandResult served = refl
+operation-of-number TellTable served = refl
+operation-of-number MeasureString served = refl
 
 pub number-of-operation : (n : ℕ) → n < length operations → numberOf (operationNumbered n) ≡ n
 number-of-operation n h = same-rule (λ (k : ℕ). numberOf (operationNumbered k)) (λ (k : ℕ). k) 0 (length operations) n refl h

@@ -3,7 +3,7 @@ use mathlib.Core.List.{List, [], _∷_}
 use Prim.Native.Nat.{ℕ}
 use lib.ListN.{getD}
 use Rattle.document.specs.declared.Operation.{Operation}
-use Rattle.document.specs.declared.Operation.the-variants.{Unserved, Describe, DescribeBriefly, Read, Write, WriteMasked, SetUpScope, ReadScope, SetUpRecorder, Start, Stop, Status, QueryBuffer, SendCommand, CommandResult}
+use Rattle.document.specs.declared.Operation.the-variants.{Unserved, Describe, DescribeBriefly, Read, Write, WriteMasked, SetUpScope, ReadScope, SetUpRecorder, Start, Stop, Status, QueryBuffer, SendCommand, CommandResult, TellTable, MeasureString}
 
 -- what is not served has no number, and 0 stands in its place
 abbrev pub numberOf : Operation → ℕ
@@ -22,6 +22,8 @@ numberOf Status = 10
 numberOf QueryBuffer = 11
 numberOf SendCommand = 12
 numberOf CommandResult = 13
+numberOf TellTable = 14
+numberOf MeasureString = 15
 
 abbrev pub operations : List Operation
 operations =
@@ -39,6 +41,8 @@ operations =
     ∷ QueryBuffer
     ∷ SendCommand
     ∷ CommandResult
+    ∷ TellTable
+    ∷ MeasureString
     ∷ []
 
 abbrev pub operationNumbered : ℕ → Operation

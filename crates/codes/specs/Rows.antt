@@ -9,7 +9,7 @@ use Rattle.codes.specs.Table.{entryOf}
 
 -- one command of each row: the served ones in the document's order, then of those not served the first of each fixed length
 abbrev commandOfEach : List ℕ
-commandOfEach = map (λ (l : Listed). l .command) commands ++ (0xC7 ∷ 0xD3 ∷ 0xE6 ∷ 0xF2 ∷ [])
+commandOfEach = map (λ (l : Listed). l .command) commands ++ (0xC7 ∷ 0xD3 ∷ 0xE7 ∷ 0xF2 ∷ [])
 
 abbrev pub rows : List ℕ
 rows = map entryOf commandOfEach

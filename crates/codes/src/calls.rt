@@ -15,3 +15,5 @@ pub const EXPECTED_REFUSED: u8 = 5;
 pub const SUM_REFUSED: u8 = 6;
 
 pub const RESULT_REFUSED: u8 = 7;
+
+pub const LIST_REFUSED: u8 = 8;

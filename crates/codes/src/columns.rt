@@ -29,6 +29,10 @@ pub const SEND_COMMAND: u16 = 12;
 
 pub const COMMAND_RESULT: u16 = 13;
 
+pub const TELL_TABLE: u16 = 14;
+
+pub const MEASURE_STRING: u16 = 15;
+
 // ---- the command's own size
 pub const SIZE: u16 = 64;
 

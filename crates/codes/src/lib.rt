@@ -10,6 +10,7 @@ mod table;
 
 pub use calls::EXPECTED_REFUSED;
 pub use calls::FORM_REFUSED;
+pub use calls::LIST_REFUSED;
 pub use calls::MEMORY_REFUSED;
 pub use calls::RESULT_REFUSED;
 pub use calls::ROOM_REFUSED;

@@ -9,6 +9,7 @@ use crate::columns::DESCRIBE_BRIEFLY;
 use crate::columns::EX;
 use crate::columns::FAST;
 use crate::columns::LENGTH;
+use crate::columns::MEASURE_STRING;
 use crate::columns::QUERY_BUFFER;
 use crate::columns::READ;
 use crate::columns::READ_SCOPE;
@@ -19,6 +20,7 @@ use crate::columns::SIZE;
 use crate::columns::START;
 use crate::columns::STATUS;
 use crate::columns::STOP;
+use crate::columns::TELL_TABLE;
 use crate::columns::TOLD;
 use crate::columns::WRITE;
 use crate::columns::WRITE_MASKED;
@@ -59,6 +61,8 @@ fn operation_in(entry: u16) -> Operation
         QUERY_BUFFER => Operation::QueryBuffer,
         SEND_COMMAND => Operation::SendCommand,
         COMMAND_RESULT => Operation::CommandResult,
+        TELL_TABLE => Operation::TellTable,
+        MEASURE_STRING => Operation::MeasureString,
         _ => Operation::Unserved,
     }
 }

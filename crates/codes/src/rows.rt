@@ -10,6 +10,7 @@ use crate::columns::DESCRIBE;
 use crate::columns::DESCRIBE_BRIEFLY;
 use crate::columns::EX;
 use crate::columns::FAST;
+use crate::columns::MEASURE_STRING;
 use crate::columns::QUERY_BUFFER;
 use crate::columns::READ;
 use crate::columns::READ_SCOPE;
@@ -23,6 +24,7 @@ use crate::columns::STANDARD;
 use crate::columns::START;
 use crate::columns::STATUS;
 use crate::columns::STOP;
+use crate::columns::TELL_TABLE;
 use crate::columns::TOLD;
 use crate::columns::UNSERVED;
 use crate::columns::WRITE;
@@ -91,16 +93,22 @@ pub const COMMAND: u8 = 29;
 
 pub const RESULT: u8 = 30;
 
+pub const TABLE: u8 = 31;
+
+pub const STRING_LENGTH: u8 = 32;
+
+pub const STRING_LENGTH_EX: u8 = 33;
+
 // ---- those not served: with so many data bytes, or, the last, with as many as the next literal tells
-pub const NONE_0: u8 = 31;
+pub const NONE_0: u8 = 34;
 
-pub const NONE_2: u8 = 32;
+pub const NONE_2: u8 = 35;
 
-pub const NONE_4: u8 = 33;
+pub const NONE_4: u8 = 36;
 
-pub const NONE_6: u8 = 34;
+pub const NONE_6: u8 = 37;
 
-pub const NONE: u8 = 35;
+pub const NONE: u8 = 38;
 
 // A match becomes a table in read-only memory, which no call has to build. The last arm is that of NONE.
 pub fn row(number: u8) -> u16
@@ -138,6 +146,9 @@ pub fn row(number: u8) -> u16
         BUFFER_QUERY_EX => FAST | DATA_0 | QUERY_BUFFER | EX,
         COMMAND => STANDARD | TOLD | SEND_COMMAND,
         RESULT => FAST | DATA_0 | COMMAND_RESULT,
+        TABLE => STANDARD | TOLD | TELL_TABLE,
+        STRING_LENGTH => FAST | DATA_2 | MEASURE_STRING,
+        STRING_LENGTH_EX => FAST | DATA_4 | MEASURE_STRING | EX,
         NONE_0 => UNSERVED | DATA_0,
         NONE_2 => UNSERVED | DATA_2,
         NONE_4 => UNSERVED | DATA_4,

@@ -34,6 +34,9 @@ use crate::rows::RESULT;
 use crate::rows::SCOPE_READ;
 use crate::rows::SCOPE_SETUP;
 use crate::rows::SCOPE_SETUP_EX;
+use crate::rows::STRING_LENGTH;
+use crate::rows::STRING_LENGTH_EX;
+use crate::rows::TABLE;
 use crate::rows::WRITE_1;
 use crate::rows::WRITE_2;
 use crate::rows::WRITE_4;
@@ -65,7 +68,7 @@ const COMMANDS: [u8; 256] = [
     NONE, // 0x0E
     NONE, // 0x0F
     COMMAND, // 0x10
-    NONE, // 0x11
+    TABLE, // 0x11
     NONE, // 0x12
     NONE, // 0x13
     NONE, // 0x14
@@ -260,7 +263,7 @@ const COMMANDS: [u8; 256] = [
     READ_2, // 0xD1
     READ_4, // 0xD2
     NONE_2, // 0xD3
-    NONE_2, // 0xD4
+    STRING_LENGTH, // 0xD4
     NONE_2, // 0xD5
     NONE_2, // 0xD6
     NONE_2, // 0xD7
@@ -278,7 +281,7 @@ const COMMANDS: [u8; 256] = [
     WRITE_1, // 0xE3
     WRITE_2, // 0xE4
     WRITE_MASKED_1, // 0xE5
-    NONE_4, // 0xE6
+    STRING_LENGTH_EX, // 0xE6
     NONE_4, // 0xE7
     NONE_4, // 0xE8
     NONE_4, // 0xE9

@@ -22,7 +22,8 @@ use Rattle.document.specs.Recorder.Recorder.{planned}
 use Rattle.document.specs.Sets.{setsTaken}
 use Rattle.document.specs.Application.{isPending}
 use Rattle.document.specs.Application.Application.{waiting}
-use Rattle.document.specs.Gate.{Gate, says, fresh as gate}
+use Rattle.document.specs.Tables.{Table}
+use Rattle.document.specs.Gate.{Gate, says, registered as gate}
 use Rattle.document.specs.Commands.{answered}
 use Rattle.document.specs.Asides.Aside.{tick, collects, reports}
 use Rattle.document.specs.Happenings.{Happening, Since, after as happened, afterAll, fromReset as since}
@@ -44,17 +45,19 @@ use Rattle.blocks.specs.Places.{stateLength}
 use Rattle.blocks.specs.Layout.{decoded}
 use Rattle.checks.specs.Promises.{ResetDone, Checked}
 use Rattle.happenings.specs.Applying.{sends, sentOf, waitingIn, unrefusedSoFar, AllUnreported}
+use Rattle.happenings.proofs.Tables.{tables-kept}
 use Rattle.happenings.proofs.Applying.{while-pending, between, handed-out-from-reset}
 use Rattle.tick_call.specs.Promises.{TickTaken}
 use Rattle.application_calls.specs.Promises.{CollectDone, ReportDone}
+use Rattle.registering.specs.Promises.{RegisterDone}
 use Rattle.byte_call.specs.declared.Taken.{Taken}
 use Rattle.byte_call.specs.Promises.{ByteTaken}
 use Rattle.reader.specs.declared.calls.ReadByte.{ReadByte}
 use Rattle.reader.specs.Promises.{BeginDone, ReadDone}
 use Rattle.demands.specs.House.{House, gateIn}
 use Rattle.demands.specs.Lent.{lends}
-use Rattle.demands.specs.Run.{ByByte, Step, Refused, Run, Ready}
-use Rattle.demands.specs.Refused.{ResetRefused, CheckRefused, ByteRefused, TickRefused, CollectRefused, ReportRefused, WriteRefused, BeginRefused, ReadRefused, WireRefused}
+use Rattle.demands.specs.Run.{ByByte, Reset, Step, Refused, Run, Ready}
+use Rattle.demands.specs.Refused.{ResetRefused, CheckRefused, ByteRefused, TickRefused, CollectRefused, ReportRefused, RegisterRefused, WriteRefused, BeginRefused, ReadRefused, WireRefused}
 use Rattle.demands.specs.Sent.{Sent}
 use Rattle.demands.specs.Stands.{blank, Stands}
 use Rattle.demands.specs.Fresh.{AnsweredFresh, NothingByHalf}
@@ -65,7 +68,7 @@ use Rattle.demands.proofs.Refused as calls
 use Rattle.demands.proofs.EndsRefused as both-ends
 use Rattle.demands.proofs.Served.{refused-kept, ready, room-lent, told-byte}
 use Rattle.demands.proofs.Turns.{turn-stands}
-use Rattle.demands.proofs.Runs.{Reached, reached-reset, reached-step, reached-run, bytes-on, plan-fits, collect-only, report-only}
+use Rattle.demands.proofs.Runs.{Reached, reached-begun, reached-step, reached-run, bytes-on, plan-fits, collect-only, report-only}
 use Rattle.demands.proofs.Fresh.{answered-fresh, by-half}
 use Rattle.demands.proofs.Recorded.{recorded}
 use Rattle.demands.specs.Applying.{OnlyCommand, OnlySaid}
@@ -99,6 +102,10 @@ demand-1-collect = calls.collect-refused
 pub demand-1-report : (block : List ℕ) (reported r : ℕ) (after : List ℕ) → ReportDone block reported r after → ReportRefused block reported r after
 demand-1-report = calls.report-refused
 
+pub demand-1-register : (block memory list : List ℕ) (r : ℕ) (after : List ℕ) → RegisterDone block memory list r after
+    → RegisterRefused block memory list r after
+demand-1-register = calls.register-refused
+
 -- both ends of the line: the answer writer, the command writer, the answer reader
 pub demand-1-answer : (a : Answer) (before : List ℕ) (r : Written) (after : List ℕ) → AnswerWritten a before r after
     → WriteRefused (answerRefusal a before) before r after
@@ -125,19 +132,19 @@ demand-1-refused = refused-kept
 
 -- ---- what happens since reset: `first` has happened, and h is the house then
 
-module _ (block memory : List ℕ) (r : ℕ) (after : List ℕ) (long : stateLength ≤ length block) (lent : MemoryWithin memory) (reset : ResetDone block r after)
+module _ (block memory : List ℕ) (tables : List Table) (after : List ℕ) (long : stateLength ≤ length block) (lent : MemoryWithin memory) (reset : Reset block memory tables after)
     (first : List Happening) (h : House) (are : AreBytes first) (run : Run (record { block = after; memory = memory; answers = []; commands = [] }) first h) where
   -- what the definition has then
   abbrev reached : Since
-  reached = afterAll (since (gate memory)) first
+  reached = afterAll (since (gate tables memory)) first
 
-  there : Reached h (afterAll (since (gate memory)) first)
+  there : Reached h (afterAll (since (gate tables memory)) first)
   there =
-      reached-run (record { block = after; memory = memory; answers = []; commands = [] }) h first run (since (gate memory)) are
-      (reached-reset block memory r after long lent reset)
+      reached-run (record { block = after; memory = memory; answers = []; commands = [] }) h first run (since (gate tables memory)) are
+      (reached-begun block memory long lent tables after reset)
 
   reached-bytes : reached .bytes ≡ bytesOf first
-  reached-bytes = bytes-after first (since (gate memory))
+  reached-bytes = bytes-after first (since (gate tables memory))
 
   -- "1 a state outside the bounds listed in docs/, which no state handed out ever is": after any run every call that is lent the
   -- memory and room for an answer is taken
@@ -160,8 +167,12 @@ module _ (block memory : List ℕ) (r : ℕ) (after : List ℕ) (long : stateLen
   -- ---- Demand 2: "Messages, commands and recorder do exactly what AN2471/D and the MCBCOM manual define, as document 01
   -- sets them out.": after any run the answers, the memory, the scope, the recorder and the application are the definition's
 
-  pub demand-2 : Stands h (afterAll (since (gate memory)) first)
+  pub demand-2 : Stands h (afterAll (since (gate tables memory)) first)
   demand-2 = there .stands
+
+  -- "The gate registers up to 16 tables at reset": as registered they stay, whatever happens (2026-03)
+  pub tables-stay : gateIn h .tables ≡ tables
+  tables-stay = ap (λ (g : Gate). g .tables) (there .stands .gate) ∙ tables-kept first (since (gate tables memory))
 
   -- ---- Demand 3: "After any bytes since reset, with an even (or no) run of 0x2B just before, a start byte and a well-formed
   -- stuffed message get exactly the answer, and leave the memory, scope and recorder, that a freshly reset link would give over
@@ -171,7 +182,7 @@ module _ (block memory : List ℕ) (r : ℕ) (after : List ℕ) (long : stateLen
     -- `hs` brings the start byte and the message but for its last byte `b`, and whatever happens beside the bytes; before `b` the
     -- gate is what the latter alone leaves
     pub demand-3-even : oddRun (bytesOf first) ≡ false → onWire m ≡ bytesOf hs ++ (b ∷ []) → Run h hs before → Step before (byte b) last
-        → AnsweredFresh h before last (afterAll (afterAll (since (gate memory)) first) (besideBytes hs) .gate) m
+        → AnsweredFresh h before last (afterAll (afterAll (since (gate tables memory)) first) (besideBytes hs) .gate) m
     demand-3-even even sent on step =
         let then = reached-run h before hs on reached more there in
         let end = reached-step before (afterAll reached hs) then (byte b) last small step in
@@ -183,7 +194,7 @@ module _ (block memory : List ℕ) (r : ℕ) (after : List ℕ) (long : stateLen
   module _ (mid hs : List Happening) (start before : House) (b : ℕ) (last : House) (earlier m : Message) (between : AreBytes mid) (more : AreBytes hs) (small : b < 256) (formed-earlier : wellFormed earlier ≡ true) (formed : wellFormed m ≡ true) where
     pub demand-3-next : onWire earlier ≡ bytesOf mid → onWire m ≡ bytesOf hs ++ (b ∷ [])
         → Run h mid start → Run start hs before → Step before (byte b) last
-        → AnsweredFresh start before last (afterAll (afterAll (afterAll (since (gate memory)) first) mid) (besideBytes hs) .gate) m
+        → AnsweredFresh start before last (afterAll (afterAll (afterAll (since (gate tables memory)) first) mid) (besideBytes hs) .gate) m
     demand-3-next sent-earlier sent to-start on step =
         let now = reached-run h start mid to-start reached between there in
         let then = reached-run start before hs on (afterAll reached mid) more now in
@@ -203,16 +214,16 @@ module _ (block memory : List ℕ) (r : ℕ) (after : List ℕ) (long : stateLen
   -- start, at most 'samples', gives the last sets of that history, oldest first."
 
   module _ (p : Plan) (just : gateIn h .recorder ≡ planned p started) (hs : List Happening) (last : House) (more : AreBytes hs) where
-    pub recorder-history : AllUndisturbed (afterAll (since (gate memory)) first) hs → Run h hs last
-        → Recorded p last (setsTaken p (memoriesLeft (h .memory) (events (afterAll (since (gate memory)) first) hs)))
+    pub recorder-history : AllUndisturbed (afterAll (since (gate tables memory)) first) hs → Run h hs last
+        → Recorded p last (setsTaken p (memoriesLeft (h .memory) (events (afterAll (since (gate tables memory)) first) hs)))
     recorder-history quiet on =
         let end = reached-run h last hs on reached more there in
         recorded h last reached hs (there .stands) (end .stands) (there .within .memory-part .size) p
         (plan-fits h reached there p started just) just quiet
 
     -- from that start on, the trigger comes at the first set at or beyond the threshold (2026-02)
-    pub recorder-fires : AllUnstarted (afterAll (since (gate memory)) first) hs → Run h hs last
-        → FiresAtFirst p (h .memory) (events (afterAll (since (gate memory)) first) hs) last
+    pub recorder-fires : AllUnstarted (afterAll (since (gate tables memory)) first) hs → Run h hs last
+        → FiresAtFirst p (h .memory) (events (afterAll (since (gate tables memory)) first) hs) last
     recorder-fires quiet on =
         run-fires h last reached (there .stands) p started just (there .within .memory-part .size) hs quiet
         (reached-run h last hs on reached more there .stands) refl
@@ -254,10 +265,10 @@ module _ (block memory : List ℕ) (r : ℕ) (after : List ℕ) (long : stateLen
 
   -- "the gate's program collects it once": what was handed out, and behind it what waits, are the commands that were sent, in their
   -- order and each as it stood in its message
-  pub commands-once : h .commands ++ waitingIn (gateIn h .application) ≡ sentOf (since (gate memory)) first
+  pub commands-once : h .commands ++ waitingIn (gateIn h .application) ≡ sentOf (since (gate tables memory)) first
   commands-once =
-      (λ j. run-hands _ h first run (since (gate memory)) are (reached-reset block memory r after long lent reset) j ++ waitingIn (there .stands .gate j .application))
-      ∙ sym (handed-out-from-reset first memory)
+      (λ j. run-hands _ h first run (since (gate tables memory)) are (reached-begun block memory long lent tables after reset) j ++ waitingIn (there .stands .gate j .application))
+      ∙ sym (handed-out-from-reset first tables memory)
 
   -- a collection and a report touch nothing but this state
   pub collect-touches : (next : House) → Step h (aside collects) next → OnlyCommand h next
@@ -289,7 +300,7 @@ module _ (block memory : List ℕ) (r : ℕ) (after : List ℕ) (long : stateLen
           only-said h last reached (there .stands) b end-stands m more finished-there done (0xFE ∷ []) (while-pending (gateIn h) pending .asked m is so-far)
 
   -- and it is pending until its result is reported
-  pub command-pending : (hs : List Happening) (last : House) → AreBytes hs → Run h hs last → AllUnreported (afterAll (since (gate memory)) first) hs
+  pub command-pending : (hs : List Happening) (last : House) → AreBytes hs → Run h hs last → AllUnreported (afterAll (since (gate tables memory)) first) hs
       → isPending (gateIn h .application) ≡ true → isPending (gateIn last .application) ≡ true
   command-pending hs last more on quiet pending =
       ap (λ (g : Gate). isPending (g .application)) (reached-run h last hs on reached more there .stands .gate)

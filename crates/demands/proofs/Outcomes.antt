@@ -9,6 +9,7 @@ use Rattle.commands.specs.CommandWritten.{CommandWritten}
 use Rattle.checks.specs.Promises.{ResetDone, Checked}
 use Rattle.tick_call.specs.Promises.{TickTaken}
 use Rattle.application_calls.specs.Promises.{CollectDone, ReportDone}
+use Rattle.registering.specs.Promises.{RegisterDone}
 use Rattle.byte_call.specs.declared.Taken.{Taken}
 use Rattle.byte_call.specs.Promises.{ByteTaken}
 use Rattle.reader.specs.declared.calls.ReadByte.{ReadByte}
@@ -26,6 +27,9 @@ module _ (block : List ℕ) (r s : ℕ) (x y : List ℕ) where
 
   pub report-one-outcome : (reported : ℕ) → ReportDone block reported r x → ReportDone block reported s y → (r ≡ s) × (x ≡ y)
   report-one-outcome reported p q = (p .number ∙ sym (q .number), p .state ∙ sym (q .state))
+
+  pub register-one-outcome : (memory list : List ℕ) → RegisterDone block memory list r x → RegisterDone block memory list s y → (r ≡ s) × (x ≡ y)
+  register-one-outcome memory list p q = (p .number ∙ sym (q .number), p .state ∙ sym (q .state))
 
   pub begin-one-outcome : (expected : ℕ) → BeginDone block expected r x → BeginDone block expected s y → (r ≡ s) × (x ≡ y)
   begin-one-outcome expected p q = (p .result ∙ sym (q .result), p .reader ∙ sym (q .reader))

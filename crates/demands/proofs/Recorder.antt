@@ -57,6 +57,7 @@ module _ (h last : House) (s : Since) (now : Stands h s) where
           behind = ap (drop (place + setSize (p .variables))) memory ∙ tick-behind p r (h .memory) fits size;
           scope = ap (λ (g : Gate). g .scope) same;
           application = ap (λ (g : Gate). g .application) same;
+          tables = ap (λ (g : Gate). g .tables) same;
           answers = end .answers ∙ sym (now .answers);
         }
 

@@ -20,16 +20,18 @@ use Rattle.document.specs.Commands.{answered}
 use Rattle.document.proofs.Cases.{split}
 use Rattle.outcomes.proofs.Answered.{accepted-right}
 use Rattle.recorder.specs.State.{recorderOf}
-use Rattle.state.specs.Bounds.{fresh}
+use Rattle.tables.specs.State.{registeredList}
+use Rattle.state.specs.Bounds.{freshWith, fresh}
 use Rattle.blocks.specs.Places.{stateLength}
 use Rattle.blocks.specs.Layout.{decodedApplication, decoded, encoded}
 use Rattle.checks.specs.Promises.{ResetDone, Checked, byteNumber, tickNumber, collectNumber, reportNumber}
 use Rattle.target.specs.Turn.{Turn, turn}
 use Rattle.tick_call.specs.Promises.{tickedTarget, TickTaken}
 use Rattle.application_calls.specs.Promises.{collectedTarget, reportedTarget, CollectDone, ReportDone}
+use Rattle.registering.specs.Promises.{registerNumber, RegisterDone}
 use Rattle.byte_call.specs.declared.Taken.{Taken}
 use Rattle.byte_call.specs.Promises.{ByteTaken}
-use Rattle.demands.specs.Refused.{ResetRefused, CheckRefused, ByteRefused, TickRefused, CollectRefused, ReportRefused, WireRefused}
+use Rattle.demands.specs.Refused.{ResetRefused, CheckRefused, ByteRefused, TickRefused, CollectRefused, ReportRefused, RegisterRefused, WireRefused}
 use Rattle.demands.proofs.Goes.{stays}
 
 -- ---- calls
@@ -114,6 +116,16 @@ module _ (block : List ℕ) (reported r : ℕ) (after : List ℕ) (promised : Re
         unchanged = λ other.
             stays n after (sets block 0 (encoded (reportedTarget reported (decoded block)))) block (λ e. other (promised .number ∙ e)) (promised .state);
       }
+
+pub register-refused : (block memory list : List ℕ) (r : ℕ) (after : List ℕ) → RegisterDone block memory list r after
+    → RegisterRefused block memory list r after
+register-refused block memory list r after promised =
+    record {
+      number = promised .number;
+      unchanged = λ other.
+          stays (registerNumber block memory list) after (sets block 0 (encoded (freshWith (registeredList list)))) block
+          (λ e. other (promised .number ∙ e)) (promised .state);
+    }
 
 -- ---- the wire
 

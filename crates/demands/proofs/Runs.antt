@@ -4,12 +4,12 @@ use mathlib.Core.Bool.{true}
 use mathlib.Core.List.{List, [], _∷_, _++_, map, map-append, append-nil}
 use Prim.Native.Nat.{ℕ, _<_, _≤_}
 use native.Mathlib.Omega.{arith}
-use borrow.Author.Tests.{le-leb}
+use borrow.Author.Tests.{le-leb, eq-eqb}
 use lib.Dec.{eqb}
 use lib.ListN.{length}
 use lib.Seq.{sets, length-sets}
 use Rattle.document.specs.Bytes.{AllBytes}
-use Rattle.document.specs.Numbers.{answerRoom}
+use Rattle.document.specs.Numbers.{answerRoom, taken}
 use Rattle.document.specs.Message.{Message, finishedBy}
 use Rattle.document.specs.Answer.{Answer, answerOnWire}
 use Rattle.document.specs.Stores.{stored}
@@ -18,7 +18,8 @@ use Rattle.document.specs.Run.{Run as DocumentRun}
 use Rattle.document.specs.Recorder.{Recorder, recorderAbsent, tickedMemory}
 use Rattle.document.specs.Recorder.Recorder.{absent, planned}
 use Rattle.document.specs.Application.{Application, afterCollect, afterReport, isCollected}
-use Rattle.document.specs.Gate.{Gate, fresh as gate, withMemory, withApplication}
+use Rattle.document.specs.Tables.{Table}
+use Rattle.document.specs.Gate.{Gate, registered as gate, withMemory, withApplication}
 use Rattle.document.specs.Asides.{Aside, beside, tickedGate}
 use Rattle.document.specs.Asides.Aside.{tick, writes, collects, reports}
 use Rattle.document.specs.Happenings.{Happening, Since, told, after, afterAll, fromReset as since}
@@ -35,14 +36,16 @@ use Rattle.application.specs.State.{Command, applicationOf, collectedCommand, e
 use Rattle.application.proofs.Means.{collected-means, ended-means}
 use Rattle.ticks.proofs.Ticked.{ticked-means}
 use Rattle.state.specs.State.{Target, gateOf}
-use Rattle.state.specs.Bounds.{fresh}
-use Rattle.state.specs.Within.{CommandWithin, MemoryWithin, Within}
+use Rattle.tables.specs.State.{Registered, noTables, tablesOf, registeredList}
+use Rattle.state.specs.Bounds.{freshWith}
+use Rattle.state.specs.Within.{CommandWithin, TablesWithin, MemoryWithin, Within}
 use Rattle.state.proofs.ByteLaws.{all-at, all-append}
-use Rattle.state.proofs.Keeps.{recorder-ticked, command-collected, command-ended, memory-stored, memory-ticked, within-fits, within-reset}
+use Rattle.state.proofs.Keeps.{recorder-ticked, command-collected, command-ended, memory-stored, memory-ticked, within-fits, within-registered, no-tables}
 use Rattle.blocks.specs.Places.{stateLength}
 use Rattle.blocks.specs.Layout.{decoded, encoded}
 use Rattle.blocks.proofs.Back.{stored-decoded}
-use Rattle.checks.specs.Promises.{ResetDone}
+use Rattle.registering.specs.Promises.{registerNumber}
+use Rattle.registering.proofs.Registered.{taken-good, registered-tables, registered-within}
 use Rattle.target.specs.Turn.{Turn, turn}
 use Rattle.target.proofs.Keeps.{byte-keeps}
 use Rattle.tick_call.specs.Promises.{tickedTarget}
@@ -50,7 +53,8 @@ use Rattle.application_calls.specs.Promises.{withCommand}
 use Rattle.happenings.specs.Bytes.{Bytes, bytesOf, BesideIsBytes, IsBytes, AreBytes}
 use Rattle.happenings.proofs.Resync.{told-bytes}
 use Rattle.demands.specs.House.{House, gateIn}
-use Rattle.demands.specs.Run.{Beside, Step, Run}
+use Rattle.demands.specs.Run.{Reset, Beside, Step, Run}
+use Rattle.demands.specs.Run.Reset.{by-reset, by-registering}
 use Rattle.demands.specs.Run.Run.{ends, happens, refuses}
 use Rattle.demands.specs.Stands.{blank, linkIn, Stands}
 use Rattle.demands.specs.Applying.{OnlyCommand}
@@ -139,6 +143,7 @@ module _ (h : House) (s : Since) (r : Reached h s) where
         scope-part = w .scope-part;
         recorder-part = recorder-ticked (decoded (h .block) .instruments .recorder) (h .memory) (w .recorder-part) (w .memory-part);
         application-part = w .application-part;
+        tables-part = w .tables-part;
         memory-part = memory-ticked (recorderOf (decoded (h .block) .instruments .recorder)) (h .memory) (w .memory-part);
       } in
       let there : decoded (servedTick h .block) ≡ next = stored-decoded (h .block) next (r .long) (within-fits next left keeps) in
@@ -149,6 +154,7 @@ module _ (h : House) (s : Since) (r : Reached h s) where
         scope = scopeOf (decoded (h .block) .instruments .scope);
         recorder = ticked-means (decoded (h .block) .instruments .recorder) (h .memory) j;
         application = applicationOf (decoded (h .block) .instruments .application);
+        tables = tablesOf (decoded (h .block) .instruments .tables);
       } in
       record {
         long = still-long (h .block) next (r .long);
@@ -174,6 +180,7 @@ module _ (h : House) (s : Since) (r : Reached h s) where
               scope-part = r .within .scope-part;
               recorder-part = r .within .recorder-part;
               application-part = r .within .application-part;
+              tables-part = r .within .tables-part;
               memory-part = memory-stored (h .memory) address bytes (r .within .memory-part) are;
             };
         stands =
@@ -194,6 +201,7 @@ module _ (h : House) (s : Since) (r : Reached h s) where
         scope-part = w .scope-part;
         recorder-part = w .recorder-part;
         application-part = within;
+        tables-part = w .tables-part;
         memory-part = w .memory-part;
       }
 
@@ -234,6 +242,7 @@ module _ (h : House) (s : Since) (r : Reached h s) where
         link-part = ap linkIn there;
         scope = ap (λ (t : Target). t .instruments .scope) there;
         recorder = ap (λ (t : Target). t .instruments .recorder) there;
+        tables = ap (λ (t : Target). t .instruments .tables) there;
         memory = ap (λ (q : House). q .memory) is;
         answers = ap (λ (q : House). q .answers) is;
       }
@@ -301,24 +310,39 @@ reached-run h last hs (happens _ next _ e es step run) s are r =
 reached-run h last hs (refuses _ next _ _ refused run) s are r =
     reached-run next last hs run s are (subst (λ (q : House). Reached q s) (sym (refused-kept h next refused)) r)
 
--- ---- since reset
-pub reached-reset : (block memory : List ℕ) (r : ℕ) (after : List ℕ) → stateLength ≤ length block → MemoryWithin memory → ResetDone block r after
-    → Reached (record { block = after; memory = memory; answers = []; commands = [] }) (since (gate memory))
-reached-reset block memory r after long good reset =
-    let stored-fresh : after ≡ sets block 0 (encoded fresh) = reset .state ∙ rw (le-leb stateLength (length block) long) refl in
-    let w : Within fresh memory = within-reset memory good in
-    let there : decoded after ≡ fresh = ap decoded stored-fresh ∙ stored-decoded block fresh long (within-fits fresh memory w) in
-    record {
-      long = subst (λ (l : List ℕ). stateLength ≤ length l) (sym stored-fresh) (still-long block fresh long);
-      within = subst (λ (q : Target). Within q memory) (sym there) w;
-      stands =
-          record {
-            gate = ap (λ (q : Target). gateOf (q .instruments) memory) there;
-            answers = refl;
-            link-part = ap linkIn there;
-          };
-      bytes = tt;
-    }
+-- ---- since reset, or since a registering
+
+module _ (block memory : List ℕ) (long : stateLength ≤ length block) (good : MemoryWithin memory) where
+  -- a block that holds a state at its reset
+  reached-fresh : (tables : Registered) (after : List ℕ) → TablesWithin tables → after ≡ sets block 0 (encoded (freshWith tables))
+      → Reached (record { block = after; memory = memory; answers = []; commands = [] }) (since (gate (tablesOf tables) memory))
+  reached-fresh tables after listed stored-fresh =
+      let t : Target = freshWith tables in
+      let w : Within t memory = within-registered tables memory listed good in
+      let there : decoded after ≡ t = ap decoded stored-fresh ∙ stored-decoded block t long (within-fits t memory w) in
+      record {
+        long = subst (λ (l : List ℕ). stateLength ≤ length l) (sym stored-fresh) (still-long block t long);
+        within = subst (λ (q : Target). Within q memory) (sym there) w;
+        stands =
+            record {
+              gate = ap (λ (q : Target). gateOf (q .instruments) memory) there;
+              answers = refl;
+              link-part = ap linkIn there;
+            };
+        bytes = tt;
+      }
+
+  pub reached-begun : (tables : List Table) (next : List ℕ) → Reset block memory tables next
+      → Reached (record { block = next; memory = memory; answers = []; commands = [] }) (since (gate tables memory))
+  reached-begun tables next (by-reset r _ reset) =
+      reached-fresh noTables next no-tables (reset .state ∙ rw (le-leb stateLength (length block) long) refl)
+  reached-begun tables next (by-registering list _ all done) =
+      let known = taken-good block memory list (sym (done .number)) in
+      let fine = eq-eqb (registerNumber block memory list) taken (sym (done .number)) in
+      let stored-list : next ≡ sets block 0 (encoded (freshWith (registeredList list))) = done .state ∙ rw fine refl in
+      subst (λ (ts : List Table). Reached (record { block = next; memory = memory; answers = []; commands = [] }) (since (gate ts memory)))
+      (registered-tables memory list (known .good))
+      (reached-fresh (registeredList list) next (registered-within memory list (known .good) all) stored-list)
 
 -- ---- a plan within bounds is one that a setup grants
 pub plan-fits : (h : House) (s : Since) → Reached h s → (p : Plan) (r : DocumentRun) → gateIn h .recorder ≡ planned p r → PlanFits p

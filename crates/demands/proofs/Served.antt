@@ -35,11 +35,11 @@ use Rattle.byte_call.specs.declared.Taken.{Taken}
 use Rattle.byte_call.specs.Promises.{ByteTaken}
 use Rattle.demands.specs.House.{House, gateIn}
 use Rattle.demands.specs.Lent.{Piece, lends, handedBack}
-use Rattle.demands.specs.Run.{handedOut, ByByte, ByTick, ByCollect, ByReport, Refused, Ready}
-use Rattle.demands.specs.Run.Refused.{refused-byte, refused-tick, refused-collect, refused-report}
+use Rattle.demands.specs.Run.{handedOut, ByByte, ByTick, ByCollect, ByReport, ByRegister, Refused, Ready}
+use Rattle.demands.specs.Run.Refused.{refused-byte, refused-tick, refused-collect, refused-report, refused-register}
 use Rattle.demands.proofs.Goes.{goes}
 use Rattle.demands.proofs.Lends.{lent-back, lent-whole, whole-back}
-use Rattle.demands.proofs.Refused.{byte-refused, tick-refused, collect-refused, report-refused}
+use Rattle.demands.proofs.Refused.{byte-refused, tick-refused, collect-refused, report-refused, register-refused}
 
 -- ---- refused
 
@@ -78,11 +78,18 @@ report-kept h next reported c other =
     let block : handedBack (h .block) (c .state) (c .after) ≡ h .block = back-as-was (h .block) (c .state) (c .after) kept in
     c .house ∙ (λ j. record { block = block j; memory = h .memory; answers = h .answers; commands = h .commands })
 
+register-kept : (h next : House) (list : List ℕ) (c : ByRegister h list next) → (c .result ≡ taken → ⊥) → next ≡ h
+register-kept h next list c other =
+    let kept = register-refused (lends (h .block) (c .state)) (lends (h .memory) (c .memory)) list (c .result) (c .after) (c .promised) .unchanged other in
+    let block : handedBack (h .block) (c .state) (c .after) ≡ h .block = back-as-was (h .block) (c .state) (c .after) kept in
+    c .house ∙ (λ j. record { block = block j; memory = h .memory; answers = h .answers; commands = h .commands })
+
 pub refused-kept : (h next : House) → Refused h next → next ≡ h
 refused-kept h next (refused-byte b call other) = byte-kept h next b call other
 refused-kept h next (refused-tick call other) = tick-kept h next call other
 refused-kept h next (refused-collect call other) = collect-kept h next call other
 refused-kept h next (refused-report reported call other) = report-kept h next reported call other
+refused-kept h next (refused-register list call other) = register-kept h next list call other
 
 -- ---- taken
 

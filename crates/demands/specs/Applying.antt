@@ -12,6 +12,7 @@ pub record OnlyCommand (h next : House) : Type 0 where
   pub link-part : linkIn (decoded (next .block)) ≡ linkIn (decoded (h .block))
   pub scope : decoded (next .block) .instruments .scope ≡ decoded (h .block) .instruments .scope
   pub recorder : decoded (next .block) .instruments .recorder ≡ decoded (h .block) .instruments .recorder
+  pub tables : decoded (next .block) .instruments .tables ≡ decoded (h .block) .instruments .tables
   pub memory : next .memory ≡ h .memory
   pub answers : next .answers ≡ h .answers
 

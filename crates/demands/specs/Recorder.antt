@@ -36,7 +36,7 @@ pub record FiresAtFirst (p : Plan) (memory : List ℕ) (es : List Event) (h : Ho
       → NoneBeyond p (begun memory) es
       → TriggersNext p (record { run = run; memory = h .memory })
 
--- "A tick changes only that place.": the memory before and behind it stays, and so do scope, application and answers
+-- "A tick changes only that place.": the memory before and behind it stays, and so do scope, application, tables and answers
 pub record OnlyItsPlace (p : Plan) (r : Run) (h next : House) : Type 0 where
   pub before : take (placeBegins p (r .place)) (next .memory) ≡ take (placeBegins p (r .place)) (h .memory)
   pub behind :
@@ -44,4 +44,5 @@ pub record OnlyItsPlace (p : Plan) (r : Run) (h next : House) : Type 0 where
       ≡ drop (placeBegins p (r .place) + setSize (p .variables)) (h .memory)
   pub scope : gateIn next .scope ≡ gateIn h .scope
   pub application : gateIn next .application ≡ gateIn h .application
+  pub tables : gateIn next .tables ≡ gateIn h .tables
   pub answers : next .answers ≡ h .answers

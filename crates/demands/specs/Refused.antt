@@ -16,6 +16,7 @@ use Rattle.line.specs.declared.Written.{Written}
 use Rattle.host.specs.Reader.{idle, stepped}
 use Rattle.blocks.specs.Places.{stateLength}
 use Rattle.checks.specs.Promises.{blockSound, byteNumber, tickNumber, collectNumber, reportNumber}
+use Rattle.registering.specs.Promises.{registerNumber}
 use Rattle.byte_call.specs.declared.Taken.{Taken}
 use Rattle.reader.specs.declared.calls.ReadByte.{ReadByte}
 use Rattle.reader.specs.Layout.{decodedReader, encodedReader}
@@ -47,6 +48,10 @@ pub record CollectRefused (block buffer : List ℕ) (r : Written) (after told : 
 
 pub record ReportRefused (block : List ℕ) (reported r : ℕ) (after : List ℕ) : Type 0 where
   pub number : r ≡ reportNumber block reported
+  pub unchanged : (r ≡ taken → ⊥) → after ≡ block
+
+pub record RegisterRefused (block memory list : List ℕ) (r : ℕ) (after : List ℕ) : Type 0 where
+  pub number : r ≡ registerNumber block memory list
   pub unchanged : (r ≡ taken → ⊥) → after ≡ block
 
 -- "a refusal sent on the wire writes that answer's bytes only": the gate stays, and there are no data

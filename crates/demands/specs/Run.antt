@@ -8,14 +8,17 @@ use lib.ListN.{length, take}
 use lib.Dec.{eqb}
 use Rattle.document.specs.Numbers.{answerRoom, mostData, taken}
 use Rattle.document.specs.Stores.{stored}
+use Rattle.document.specs.Bytes.{AllBytes}
+use Rattle.document.specs.Tables.{Table, tablesIn}
 use Rattle.document.specs.Asides.{Aside}
 use Rattle.document.specs.Asides.Aside.{tick, writes, collects, reports}
 use Rattle.document.specs.Happenings.{Happening}
 use Rattle.document.specs.Happenings.Happening.{byte, aside}
 use Rattle.line.specs.declared.Written.{Written}
-use Rattle.checks.specs.Promises.{byteNumber, tickNumber, collectNumber}
+use Rattle.checks.specs.Promises.{ResetDone, byteNumber, tickNumber, collectNumber}
 use Rattle.tick_call.specs.Promises.{TickTaken}
 use Rattle.application_calls.specs.Promises.{CollectDone, ReportDone}
+use Rattle.registering.specs.Promises.{RegisterDone}
 use Rattle.byte_call.specs.declared.Taken.{Taken}
 use Rattle.byte_call.specs.Promises.{ByteTaken}
 use Rattle.demands.specs.House.{House}
@@ -93,6 +96,27 @@ pub record ByReport (h : House) (reported : ℕ) (next : House) : Type 0 where
         commands = h .commands;
       }
 
+-- `log_gate_register` was called
+pub record ByRegister (h : House) (list : List ℕ) (next : House) : Type 0 where
+  pub state : Piece
+  pub memory : Piece
+  pub result : ℕ
+  pub after : List ℕ
+  pub promised : RegisterDone (lends (h .block) state) (lends (h .memory) memory) list result after
+  pub house :
+      next
+      ≡ record {
+        block = handedBack (h .block) state after;
+        memory = h .memory;
+        answers = h .answers;
+        commands = h .commands;
+      }
+
+-- how a run begins: a reset, or a registering that is taken, over the memory as it is then
+pub data Reset (block memory : List ℕ) : List Table → List ℕ → Type 0 where
+  by-reset : (r : ℕ) (after : List ℕ) → ResetDone block r after → Reset block memory [] after
+  by-registering : (list after : List ℕ) → AllBytes list → RegisterDone block memory list taken after → Reset block memory (tablesIn list) after
+
 -- what happens beside the bytes: a call that is taken, over the whole block; or the gate's own program writes its memory
 abbrev pub Beside : House → Aside → House → Type 0
 Beside h tick next = (call : ByTick h next) × (call .result ≡ taken) × (lends (h .block) (call .state) ≡ h .block)
@@ -113,6 +137,7 @@ pub data Refused (h next : House) : Type 0 where
   refused-tick : (call : ByTick h next) → (call .result ≡ taken → ⊥) → Refused h next
   refused-collect : (call : ByCollect h next) → (call .result .refusal ≡ taken → ⊥) → Refused h next
   refused-report : (reported : ℕ) (call : ByReport h reported next) → (call .result ≡ taken → ⊥) → Refused h next
+  refused-register : (list : List ℕ) (call : ByRegister h list next) → (call .result ≡ taken → ⊥) → Refused h next
 
 pub data Run : House → List Happening → House → Type 0 where
   ends : (h : House) → Run h [] h

@@ -13,6 +13,9 @@ use Rattle.document.specs.Sets.{setsTaken}
 use Rattle.document.specs.CallRows.{Line, callRows, answerRows, commandRows, statusRows}
 use Rattle.document.specs.ReaderRows.{readerRows}
 use Rattle.document.specs.ApplicationRows.{collectRows}
+use Rattle.document.specs.BaseTypes.{sizeOfCode}
+use Rattle.document.specs.Tables.{isListGood}
+use Rattle.document.specs.TableRows.{entryRows, listRows}
 use Rattle.document.specs.SetRows.{plainPlan, exPlan, plainPlanNoTrigger, plansIn, bufferAnswers, histories, taken, written, lasts, rounds}
 use Rattle.document.proofs.Rows.{holds-eq, lists-eq}
 
@@ -23,6 +26,14 @@ lines = callRows ++ answerRows ++ commandRows ++ statusRows ++ readerRows ++ col
 pub lines-hold : map (λ (l : Line). l .gives) lines ≡ map (λ (l : Line). l .says) lines
 unfolding callRows answerRows commandRows statusRows readerRows collectRows wellFormed onWire answerOnWire answersHeard answerFinishedBy answerRefusal answerWritten answerBuffer commandRefusal commandWritten commandBuffer readRoomRefusal brought
 lines-hold = lists-eq (map (λ (l : Line). l .gives) lines) (map (λ (l : Line). l .says) lines) refl
+
+pub lists-hold : map (λ (l : Line). l .gives) listRows ≡ map (λ (l : Line). l .says) listRows
+unfolding listRows sizeOfCode isListGood
+lists-hold = lists-eq (map (λ (l : Line). l .gives) listRows) (map (λ (l : Line). l .says) listRows) refl
+
+pub entries-hold : map (λ (l : Line). l .gives) entryRows ≡ map (λ (l : Line). l .says) entryRows
+unfolding entryRows sizeOfCode
+entries-hold = lists-eq (map (λ (l : Line). l .gives) entryRows) (map (λ (l : Line). l .says) entryRows) refl
 
 pub plans-hold : plansIn ≡ (plainPlan ∷ exPlan ∷ plainPlanNoTrigger ∷ [])
 unfolding planIn

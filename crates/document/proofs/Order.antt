@@ -11,7 +11,7 @@ use Rattle.document.specs.Services.{serviceOf}
 use Rattle.document.specs.Gate.{Gate}
 use Rattle.document.specs.Refusals.{Refusal, when, order, lines, table}
 use Rattle.document.specs.declared.Operation.{Operation}
-use Rattle.document.specs.declared.Operation.the-variants.{Unserved, Describe, DescribeBriefly, Read, Write, WriteMasked, SetUpScope, ReadScope, SetUpRecorder, Start, Stop, Status, QueryBuffer, SendCommand, CommandResult}
+use Rattle.document.specs.declared.Operation.the-variants.{Unserved, Describe, DescribeBriefly, Read, Write, WriteMasked, SetUpScope, ReadScope, SetUpRecorder, Start, Stop, Status, QueryBuffer, SendCommand, CommandResult, TellTable, MeasureString}
 use Rattle.document.specs.declared.Service.{Service}
 
 -- whether the statuses of these lines come in this order, each at most once
@@ -38,6 +38,8 @@ module _ (g : Gate) (s : Service) (body : List ℕ) (sum long : Bool) where
   ordered QueryBuffer = refl
   ordered SendCommand = refl
   ordered CommandResult = refl
+  ordered TellTable = refl
+  ordered MeasureString = refl
 
 pub table-in-order : (g : Gate) (m : Message) → inOrder order (table g m) ≡ true
 table-in-order g m = ordered g (serviceOf (m .command)) (m .body) (not (sumRight m)) (ltb mostData (length (m .body))) (serviceOf (m .command) .operation)

@@ -15,7 +15,9 @@ use Rattle.document.specs.Permission.{mayBeWritten}
 use Rattle.document.specs.Refusals.{refusal}
 use Rattle.document.specs.Commands.{answered}
 use Rattle.document.specs.Asides.{beside}
+use Rattle.document.specs.Strings.{beforeZero, hasZero}
 use Rattle.document.specs.ApplicationRows.{applicationRows}
+use Rattle.document.specs.TableRows.{tableRows, namesByStep}
 use Rattle.document.specs.Rows.{Row, saidBy, byteByByte, stepByStep}
 use Rattle.document.specs.LineRows.{lineRows, pairedBytes, tokens}
 use Rattle.document.specs.ReadRows.{readRows}
@@ -90,15 +92,15 @@ unfolding readRows writeRows scopeRows setupRows recorderRows triggerRows applic
 rows = readRows ++ writeRows ++ scopeRows ++ setupRows ++ recorderRows ++ triggerRows ++ applicationRows
 
 abbrev pub given : List (List (List ℕ))
-unfolding lineRows readRows writeRows scopeRows setupRows recorderRows triggerRows applicationRows
-given = map byteByByte lineRows ++ map stepByStep rows
+unfolding lineRows readRows writeRows scopeRows setupRows recorderRows triggerRows applicationRows tableRows
+given = map byteByByte lineRows ++ map stepByStep rows ++ map namesByStep tableRows
 
 abbrev pub said : List (List (List ℕ))
-unfolding lineRows readRows writeRows scopeRows setupRows recorderRows triggerRows applicationRows
-said = map saidBy lineRows ++ map saidBy rows
+unfolding lineRows readRows writeRows scopeRows setupRows recorderRows triggerRows applicationRows tableRows
+said = map saidBy lineRows ++ map saidBy rows ++ map saidBy tableRows
 
 pub rows-hold : given ≡ said
-unfolding lineRows readRows writeRows scopeRows setupRows recorderRows triggerRows applicationRows answerOnWire heard finishedBy serviceOf mayBeWritten refusal answered planIn fires isBeyond ranTick memoryAfterTick beside
+unfolding lineRows readRows writeRows scopeRows setupRows recorderRows triggerRows applicationRows tableRows answerOnWire heard finishedBy serviceOf mayBeWritten refusal answered planIn fires isBeyond ranTick memoryAfterTick beside beforeZero hasZero
 rows-hold = holds-eq given said refl
 
 pub edges-hold : map firesAt edges ≡ map (λ (e : Edge). e .fires) edges

@@ -13,12 +13,15 @@ use Rattle.document.specs.Scope.{Scope, scopeSetUp, scopeRead}
 use Rattle.document.specs.Recorder.{Recorder, isRunning, recorderSetUp, recorderStarted, recorderHalted, bufferAnswer}
 use Rattle.document.specs.Services.{serviceOf}
 use Rattle.document.specs.Fields.{sizeField, addressField, dataField, maskField}
+use Rattle.document.specs.Values.{number, littleEndian}
+use Rattle.document.specs.Strings.{stringLength}
+use Rattle.document.specs.Tables.{tableAnswer}
 use Rattle.document.specs.Application.{resultByte}
 use Rattle.document.specs.Application.Application.{waiting}
 use Rattle.document.specs.Gate.{Gate, Outcome, says, withMemory, withScope, withRecorder, withApplication}
 use Rattle.document.specs.Refusals.{Refusal, firstOf, servedLines, refusal}
 use Rattle.document.specs.declared.Operation.{Operation}
-use Rattle.document.specs.declared.Operation.the-variants.{Unserved, Describe, DescribeBriefly, Read, Write, WriteMasked, SetUpScope, ReadScope, SetUpRecorder, Start, Stop, Status, QueryBuffer, SendCommand, CommandResult}
+use Rattle.document.specs.declared.Operation.the-variants.{Unserved, Describe, DescribeBriefly, Read, Write, WriteMasked, SetUpScope, ReadScope, SetUpRecorder, Start, Stop, Status, QueryBuffer, SendCommand, CommandResult, TellTable, MeasureString}
 use Rattle.document.specs.declared.Service.{Service}
 
 -- "03 00 01 01 00 40 00 10 01 40, then "LOG GATE" and 17 zeros (35 bytes)"
@@ -68,6 +71,8 @@ doing Status g s body = status g
 doing QueryBuffer g s body = says g done (bufferAnswer (addressWidth (s .ex)) (g .recorder))
 doing SendCommand g s body = says (withApplication g (waiting body)) done []
 doing CommandResult g s body = says g done (resultByte (g .application) ∷ [])
+doing TellTable g s body = says g done (tableAnswer (g .tables) (number body))
+doing MeasureString g s body = says g done (littleEndian 2 (stringLength (g .memory) (number body)))
 
 -- an outcome, unless one of these refuses
 abbrev pub unless : Gate → List Refusal → Outcome → Outcome

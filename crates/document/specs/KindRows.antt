@@ -12,7 +12,7 @@ use Rattle.document.specs.Kinds.Kind.{fast, standard, unserved}
 abbrev pub kindRows : String
 kindRows =
     ".ssssss.ssss...."
-    ++ "s..............."
+    ++ "ss.............."
     ++ "................"
     ++ "................"
     ++ "................"
@@ -24,8 +24,8 @@ kindRows =
     ++ "................"
     ++ "................"
     ++ "fffffff.ff......"
-    ++ "fff............."
-    ++ "ffffff.........."
+    ++ "fff.f..........."
+    ++ "fffffff........."
     ++ "ff.............."
 
 abbrev written : ℕ → Kind

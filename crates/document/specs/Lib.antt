@@ -25,6 +25,9 @@ pub mod Fields
 pub mod Variables
 pub mod Scope
 pub mod Application
+pub mod BaseTypes
+pub mod Strings
+pub mod Tables
 pub mod Gate
 pub mod Permission
 pub mod Commands
@@ -56,4 +59,5 @@ pub mod EdgeRows
 pub mod LevelRows
 pub mod TriggerRows
 pub mod ApplicationRows
+pub mod TableRows
 pub mod SetRows

@@ -106,3 +106,7 @@ sumRefused = 6
 -- "call number 7 for a result above 0xFD or with no collected command pending, after 6" (2026-01)
 abbrev pub resultRefused : ℕ
 resultRefused = 7
+
+-- "call number 8 for a bad list, nothing registered, after 7" (2026-03)
+abbrev pub listRefused : ℕ
+listRefused = 8

@@ -28,4 +28,6 @@ readRows =
     -- "a data length that is not the one its fields give"; "a size of 0"
     ∷ (asks "01 02 01 10" "85" ∷ asks "01 04 01 1000 00" "85" ∷ asks "01 00" "85" ∷ asks "01 03 00 1000" "86" ∷ [])
     ∷ (asks "04 03 01 1000" "85" ∷ asks "04 04 01 100000" "85" ∷ asks "04 06 01 10000000 00" "85" ∷ asks "04 05 00 10000000" "86" ∷ [])
+    -- no tables are registered, and a string ends with memory's last byte (2026-03)
+    ∷ (asks "11 02 0000" "00 0000 0000 0000" ∷ asks "D4 FF3F" "00 0000" ∷ asks "E6 FF3F0000" "00 0000" ∷ [])
     ∷ []

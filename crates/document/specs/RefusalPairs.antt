@@ -50,6 +50,8 @@ faultyMessages =
     ∷ faulty "01 03 00 1000" "86"
     ∷ faulty "01 03 41 1000" "84"
     ∷ faulty "D0 0040" "89"
+    ∷ faulty "11 01 00" "85"
+    ∷ faulty "D4 0040" "89"
     -- 0x83 with others
     ∷ longer 65 (faulty "7F 41" "83 81")
     ∷ longer 66 (running "09 43 00" "83 87 85 86")
@@ -58,6 +60,7 @@ faultyMessages =
     ∷ longer 62 (faulty "01 41 41 1000" "83 85 84")
     ∷ longer 62 (faulty "02 41 3E 0020" "83 89")
     ∷ longer 65 (pending "10 41" "83 87")
+    ∷ longer 65 (faulty "11 41" "83 85")
     -- 0x87 with others
     ∷ running "09 13 03 0400 0000 0000 0000 01 00 00000000 01 01 1000" "87 85"
     ∷ running "09 13 00 0000 0000 0000 0000 00 00 00000000 01 01 1000" "87 86"

@@ -12,11 +12,14 @@ use Rattle.document.specs.Plan.{recorderLayoutWrong, recorderSizeWrong, 
 use Rattle.document.specs.Recorder.{recorderAbsent, isRunning}
 use Rattle.document.specs.Services.{serviceOf}
 use Rattle.document.specs.Fields.{hasSize, sizeField, addressField, dataPlace}
+use Rattle.document.specs.Values.{number}
+use Rattle.document.specs.Variables.{addressWidth}
+use Rattle.document.specs.Strings.{stringEnds}
 use Rattle.document.specs.Application.{isPending}
 use Rattle.document.specs.Gate.{Gate}
 use Rattle.document.specs.Permission.{mayBeWritten}
 use Rattle.document.specs.declared.Operation.{Operation}
-use Rattle.document.specs.declared.Operation.the-variants.{Unserved, Describe, DescribeBriefly, Read, Write, WriteMasked, SetUpScope, ReadScope, SetUpRecorder, Start, Stop, Status, QueryBuffer, SendCommand, CommandResult}
+use Rattle.document.specs.declared.Operation.the-variants.{Unserved, Describe, DescribeBriefly, Read, Write, WriteMasked, SetUpScope, ReadScope, SetUpRecorder, Start, Stop, Status, QueryBuffer, SendCommand, CommandResult, TellTable, MeasureString}
 use Rattle.document.specs.declared.Service.{Service}
 
 -- a line of the table: the status, and whether it applies
@@ -91,6 +94,18 @@ queryLines g = when notSetUp (recorderAbsent (g .recorder)) ∷ when busy (isRun
 abbrev pub sendLines : Gate → List ℕ → List Refusal
 sendLines g body = when busy (isPending (g .application)) ∷ when layoutWrong (eqb (length body) 0) ∷ []
 
+-- the data are an index of 2 bytes (2026-03)
+abbrev pub tableLines : List ℕ → List Refusal
+tableLines body = when layoutWrong (not (eqb (length body) 2)) ∷ []
+
+-- the data are an address; "a string that begins in memory and has no zero before memory's end 0x86, its address outside 0x89"
+abbrev pub stringLines : Gate → Bool → List ℕ → List Refusal
+stringLines g ex body =
+    when layoutWrong (not (eqb (length body) (addressWidth ex)))
+    ∷ when sizeWrong (mayBeRead (number body) 1 && not (stringEnds (g .memory) (number body)))
+    ∷ when rangeWrong (not (mayBeRead (number body) 1))
+    ∷ []
+
 abbrev pub lines : Operation → Gate → Service → List ℕ → List Refusal
 lines Unserved g s body = when notServed true ∷ []
 lines Describe g s body = []
@@ -107,6 +122,8 @@ lines Status g s body = recorderLines g
 lines QueryBuffer g s body = queryLines g
 lines SendCommand g s body = sendLines g body
 lines CommandResult g s body = []
+lines TellTable g s body = tableLines body
+lines MeasureString g s body = stringLines g (s .ex) body
 
 -- ---- of a message
 

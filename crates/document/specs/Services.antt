@@ -4,7 +4,7 @@ use mathlib.Core.List.{List, [], _∷_}
 use Prim.Native.Nat.{ℕ}
 use lib.Dec.{eqb}
 use Rattle.document.specs.declared.Operation.{Operation}
-use Rattle.document.specs.declared.Operation.the-variants.{Unserved, Describe, DescribeBriefly, Read, Write, WriteMasked, SetUpScope, ReadScope, SetUpRecorder, Start, Stop, Status, QueryBuffer, SendCommand, CommandResult}
+use Rattle.document.specs.declared.Operation.the-variants.{Unserved, Describe, DescribeBriefly, Read, Write, WriteMasked, SetUpScope, ReadScope, SetUpRecorder, Start, Stop, Status, QueryBuffer, SendCommand, CommandResult, TellTable, MeasureString}
 use Rattle.document.specs.declared.Service.{Service}
 
 -- a line of the list
@@ -65,6 +65,10 @@ commands =
     -- "Command 0x10", "0xC6" (2026-01)
     ∷ plain 0x10 SendCommand 0
     ∷ plain 0xC6 CommandResult 0
+    -- "Serve 0x11, 0xD4 and 0xE6" (2026-03)
+    ∷ plain 0x11 TellTable 0
+    ∷ plain 0xD4 MeasureString 0
+    ∷ ex 0xE6 MeasureString 0
     ∷ []
 
 -- "the command is not one of those below"

@@ -82,6 +82,7 @@ risingGate sign memory run =
           })
           run;
       application = none;
+      tables = [];
     }
 
 -- both values stand in the buffer, the older first

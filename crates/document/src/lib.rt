@@ -24,6 +24,8 @@ pub enum Operation {
     QueryBuffer,
     SendCommand,
     CommandResult,
+    TellTable,
+    MeasureString,
 }
 
 // What a command does, whether its addresses take 4 bytes, and its own size; 0 where its data begin with one, or where it has none.

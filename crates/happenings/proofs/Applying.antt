@@ -12,7 +12,8 @@ use Rattle.document.specs.Message.{Message, sumRight, wellFormed, onWire, finis
 use Rattle.document.specs.Services.{Listed, commands, serviceOf}
 use Rattle.document.specs.Application.{Application, isPending, resultByte, isCollected, afterCollect, afterReport}
 use Rattle.document.specs.Application.Application.{none, waiting, collected, ended}
-use Rattle.document.specs.Gate.{Gate, Outcome, fresh, says, withApplication}
+use Rattle.document.specs.Tables.{Table}
+use Rattle.document.specs.Gate.{Gate, Outcome, registered, says, withApplication}
 use Rattle.document.specs.Refusals.{sendLines, firstOf, refusal}
 use Rattle.document.specs.Commands.{doing, served, answered}
 use Rattle.document.specs.Asides.{Aside, beside}
@@ -242,9 +243,10 @@ handed-out-once (h ∷ hs) s =
     ∙ ap (λ (l : List (List ℕ)). handedAt s h ++ l) (handed-out-once hs (after s h))
     ∙ sym (append-assoc (handedAt s h) (handedOut (after s h) hs) (waitingAt (afterAll (after s h) hs)))
 
-pub handed-out-from-reset : (hs : List Happening) (memory : List ℕ)
-    → sentOf (fromReset (fresh memory)) hs ≡ handedOut (fromReset (fresh memory)) hs ++ waitingAt (afterAll (fromReset (fresh memory)) hs)
-handed-out-from-reset hs memory = handed-out-once hs (fromReset (fresh memory))
+pub handed-out-from-reset : (hs : List Happening) (tables : List Table) (memory : List ℕ)
+    → sentOf (fromReset (registered tables memory)) hs
+    ≡ handedOut (fromReset (registered tables memory)) hs ++ waitingAt (afterAll (fromReset (registered tables memory)) hs)
+handed-out-from-reset hs tables memory = handed-out-once hs (fromReset (registered tables memory))
 
 -- ---- from its acceptance until its result is reported
 

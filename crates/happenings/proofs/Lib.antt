@@ -6,3 +6,4 @@ pub mod Recording
 pub mod Ticks
 pub mod Follows
 pub mod Applying
+pub mod Tables

@@ -3,3 +3,4 @@ pub mod Statuses
 pub mod Readings
 pub mod Changing
 pub mod Sending
+pub mod Listed

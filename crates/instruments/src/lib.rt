@@ -1,11 +1,13 @@
-// The scope, the recorder and the application command in the block that holds the state, as their commands ask for them. Each command
-// takes out what it looks at, and stores what it changes.
+// The scope, the recorder, the application command and the tables in the block that holds the state, as their commands ask for them.
+// Each command takes out what it looks at, and stores what it changes.
 mod commanding;
+mod listing;
 mod recording;
 mod scoping;
 
 pub use commanding::command_result;
 pub use commanding::send_command;
+pub use listing::tell_table;
 pub use recording::query_buffer;
 pub use recording::set_up_recorder;
 pub use recording::start;

@@ -3,6 +3,7 @@
 mod application;
 mod ends;
 mod lengths;
+mod names;
 mod target;
 
 pub use application::log_gate_collect;
@@ -15,6 +16,7 @@ pub use lengths::LOG_GATE_ANSWER_ROOM;
 pub use lengths::LOG_GATE_MEMORY;
 pub use lengths::LOG_GATE_READER;
 pub use lengths::LOG_GATE_STATE;
+pub use names::log_gate_register;
 pub use target::log_gate_byte;
 pub use target::log_gate_check;
 pub use target::log_gate_reset;

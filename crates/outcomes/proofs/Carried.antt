@@ -2,7 +2,7 @@
 use mathlib.Core.Path.{_≡_, refl}
 use mathlib.Core.Bool.{Bool, true, false, cond}
 use mathlib.Core.List.{List, [], _∷_}
-use Prim.Native.Nat.{ℕ, _*_, _≤_}
+use Prim.Native.Nat.{ℕ, zero, suc, _*_, _≤_}
 use native.Mathlib.Omega.{arith}
 use borrow.Author.Tests.{ltb-false, le-ltb, not-false}
 use lib.ListN.{length, length-take, length-append}
@@ -12,6 +12,8 @@ use Rattle.document.specs.Variables.{addressWidth, setSize, valuesOf}
 use Rattle.document.specs.Scope.{scopeVariables, scopeRead}
 use Rattle.document.specs.Recorder.{Recorder, recorderAbsent, isRunning, bufferAnswer}
 use Rattle.document.specs.Recorder.Recorder.{absent, planned}
+use Rattle.document.specs.Values.{number}
+use Rattle.document.specs.Tables.{Table, tableAnswer}
 use Rattle.document.specs.Fields.{sizeField, addressField}
 use Rattle.document.specs.Gate.{Gate}
 use Rattle.document.specs.Permission.{mayBeWritten}
@@ -20,7 +22,7 @@ use Rattle.document.specs.Commands.{doing}
 use Rattle.document.specs.Answer.{Answer}
 use Rattle.document.specs.AnswerWriter.{answerFormed}
 use Rattle.document.specs.declared.Operation.{Operation}
-use Rattle.document.specs.declared.Operation.the-variants.{Unserved, Describe, DescribeBriefly, Read, Write, WriteMasked, SetUpScope, ReadScope, SetUpRecorder, Start, Stop, Status, QueryBuffer, SendCommand, CommandResult}
+use Rattle.document.specs.declared.Operation.the-variants.{Unserved, Describe, DescribeBriefly, Read, Write, WriteMasked, SetUpScope, ReadScope, SetUpRecorder, Start, Stop, Status, QueryBuffer, SendCommand, CommandResult, TellTable, MeasureString}
 use Rattle.document.specs.declared.Service.{Service}
 use Rattle.document.specs.declared.Variable.{Variable}
 use Rattle.document.proofs.Cases.{split}
@@ -84,6 +86,12 @@ module _ (g : Gate) (s : Service) (body : List ℕ) where
 
   not-set-up : (firstOf (recorderLines g) ≡ done → ⊥) → recorderAbsent (g .recorder) ≡ true
   not-set-up some = split (recorderAbsent (g .recorder)) (λ none. none) (λ is. absurd (some (rw is refl)))
+
+-- whatever is registered, six bytes are told of a table
+six-bytes : (ts : List Table) (index : ℕ) → length (tableAnswer ts index) ≡ 6
+six-bytes [] index = refl
+six-bytes (t ∷ ts) zero = refl
+six-bytes (t ∷ ts) (suc index) = six-bytes ts index
 
 -- ---- by operation
 
@@ -181,3 +189,19 @@ carried SendCommand g s body =
     }
 carried CommandResult g s body =
     record { gate = refl; known = tt; accepted = λ none. tt; refused = λ some. tt; answer = λ none. record { formed = refl; success = refl } }
+carried TellTable g s body =
+    record {
+      gate = refl;
+      known = (refl, refl, tt);
+      accepted = λ none. tt;
+      refused = λ some. tt;
+      answer = λ none. right-done (tableAnswer (g .tables) (number body)) (omega (arith, six-bytes (g .tables) (number body)));
+    }
+carried MeasureString g s body =
+    record {
+      gate = refl;
+      known = (refl, refl, (refl, refl, (refl, refl, tt)));
+      accepted = λ none. tt;
+      refused = λ some. tt;
+      answer = λ none. record { formed = refl; success = refl };
+    }

@@ -13,7 +13,7 @@ use Rattle.document.specs.Gate.{Gate, withMemory, withScope, withRecorder, with
 use Rattle.document.specs.Permission.{mayBeWritten}
 use Rattle.document.specs.Refusals.{firstOf, scopeSetUpLines, recorderSetUpLines, sendLines}
 use Rattle.document.specs.declared.Operation.{Operation}
-use Rattle.document.specs.declared.Operation.the-variants.{Unserved, Describe, DescribeBriefly, Read, Write, WriteMasked, SetUpScope, ReadScope, SetUpRecorder, Start, Stop, Status, QueryBuffer, SendCommand, CommandResult}
+use Rattle.document.specs.declared.Operation.the-variants.{Unserved, Describe, DescribeBriefly, Read, Write, WriteMasked, SetUpScope, ReadScope, SetUpRecorder, Start, Stop, Status, QueryBuffer, SendCommand, CommandResult, TellTable, MeasureString}
 use Rattle.document.specs.declared.Service.{Service}
 
 pub data Change : Type 0 where
@@ -42,6 +42,8 @@ changeOf Status = nothing
 changeOf QueryBuffer = nothing
 changeOf SendCommand = commandSent
 changeOf CommandResult = nothing
+changeOf TellTable = nothing
+changeOf MeasureString = nothing
 
 -- the gate after it
 abbrev pub changed : Change → Gate → Service → List ℕ → Gate

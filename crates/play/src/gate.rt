@@ -4,6 +4,7 @@ ghost use lib.ListN.{length};
 ghost use Rattle.play.specs.Bounds.{Bounded};
 use crate::order::Order;
 use crate::program::collect;
+use crate::program::register;
 use crate::program::report;
 use adler::adler32;
 use log_gate::LOG_GATE_ANSWER_ROOM;
@@ -89,7 +90,7 @@ fn put_part(start: usize, end: usize, memory: &[u8], out: &mut [u8; 65536], at: 
     put(b'\n', out, shown)
 }
 
-// An order that begins with B, T, P, C, Y or M; `first` is how many bytes the gate was given before. Where the output ends.
+// An order that begins with B, T, P, C, Y, G or M; `first` is how many bytes the gate was given before. Where the output ends.
 pub fn carry_out(
     order: Order,
     first: u64,
@@ -114,6 +115,7 @@ pub fn carry_out(
         }
         b'C' => collect(order.wide, state, out, at),
         b'Y' => report(order.code, state, out, at),
+        b'G' => register(bytes, state, memory, out, at),
         _ => put_part(order.start, order.end, memory, out, at),
     }
 }

@@ -7,6 +7,7 @@ mod order;
 mod play;
 mod program;
 mod shown;
+mod tables;
 
 ghost use Rattle.play.specs.Bounds.{Bounded};
 use complaint::complain;

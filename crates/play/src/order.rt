@@ -11,6 +11,7 @@ use crate::complaint::WIDE;
 use crate::lengths::BYTES;
 use crate::lengths::LENT;
 use crate::lengths::WIDEST;
+use crate::tables::read_tables;
 use log_gate::LOG_GATE_MEMORY;
 use words::operands::ByteRead;
 use words::operands::NumberRead;
@@ -32,7 +33,7 @@ pub struct Order {
     pub code: u8,
     // how many ticks, or how many data are expected
     pub number: u64,
-    // how many bytes the line gives
+    // how many bytes the line gives, or the list of its tables has
     pub count: usize,
     // how much of a buffer is lent; so much where a room has no limit of its own
     pub room: usize,
@@ -155,6 +156,20 @@ fn with_result(order: Order, line: &[u8], from: usize) -> Order
     coded
 }
 
+// `G addr size ..`
+fn with_tables(order: Order, line: &[u8], from: usize, bytes: &mut [u8; BYTES]) -> Order
+    requires { ⌜ Bounded order ⌝ }
+    ensures { λ r. ⌜ Bounded r ⌝ }
+{
+    let list = read_tables(line, from, bytes);
+    if list.wrong != NONE {
+        return refused(list.wrong);
+    }
+    let mut given = order;
+    given.count = list.length;
+    given
+}
+
 // So many bytes of the memory from a place on, if it has them all.
 fn with_part(order: Order, from: u64, count: u64) -> Order
     requires { ⌜ Bounded order ⌝ }
@@ -214,6 +229,7 @@ fn with_operands(letter: u8, line: &[u8], from: usize, bytes: &mut [u8; BYTES]) 
         b'T' | b'E' => with_number(order, line, from),
         b'C' => with_wide(order, line, from),
         b'Y' => with_result(order, line, from),
+        b'G' => with_tables(order, line, from, bytes),
         b'M' => with_look(order, line, from),
         _ => refused(OPERATION),
     }

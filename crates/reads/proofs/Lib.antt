@@ -1,2 +1,3 @@
 -- What follows from the definition of a read.
 pub mod ReadLaws
+pub mod Strings

@@ -1,4 +1,6 @@
-// Reads: 1, 2 or 4 bytes at an address, or a block.
+// Reads: 1, 2 or 4 bytes at an address, a block, or the length of a string.
+mod measuring;
+
 ghost use mathlib.Core.Path.{_≡_};
 ghost use Prim.Native.Nat.{_≤_};
 ghost use lib.ListN.{length};
@@ -21,6 +23,7 @@ use codes::RANGE_WRONG;
 use document::Service;
 use fields::Block;
 use fields::block_in;
+pub use measuring::measure_string;
 use memory::may_be_read;
 use widths::usize_of_u32;
 

@@ -30,6 +30,8 @@ use instruments::set_up_scope;
 use instruments::start;
 use instruments::status;
 use instruments::stop;
+use instruments::tell_table;
+use reads::measure_string;
 use reads::read;
 use writes::write;
 use writes::write_masked;
@@ -61,5 +63,7 @@ pub fn serve(
         Operation::QueryBuffer => query_buffer(state, service, out),
         Operation::SendCommand => send_command(state, to),
         Operation::CommandResult => command_result(state, out),
+        Operation::TellTable => tell_table(state, to, out),
+        Operation::MeasureString => measure_string(service, &state[BODY..to], memory, out),
     }
 }

@@ -1,15 +1,19 @@
 -- Two sound states that differ in anything that is looked at stand for different gates: what a state stands for hides nothing.
 use mathlib.Core.Path.{_≡_, refl, sym, ap, _∙_}
 use mathlib.Core.Bool.{true, not, _&&_}
-use mathlib.Core.List.{List, _++_}
-use Prim.Native.Nat.{ℕ}
+use mathlib.Core.List.{List, [], _∷_, _++_}
+use Prim.Native.Nat.{ℕ, zero, suc, _*_, _/_, _≤_, _<_}
 use native.Mathlib.Omega.{arith}
 use borrow.Author.Tests.{eqb-true, eqb-false, leb-true}
 use lib.Dec.{eqb, leb}
 use lib.ListN.{length, replicate, take, drop, length-take}
 use Rattle.document.specs.Numbers.{mostData}
+use Rattle.document.specs.Bytes.{AllBytes}
+use Rattle.document.specs.Values.{number, littleEndian}
+use Rattle.document.specs.Tables.{mostTables, pairSize, tablesIn}
 use Rattle.document.specs.declared.Variable.{Variable}
 use Rattle.document.proofs.Cases.{split, and-left, and-right}
+use Rattle.document.proofs.Values.{bytes-of-number}
 use Rattle.variables.specs.State.{kept}
 use Rattle.scope.specs.declared.Scope.{Scope}
 use Rattle.scope.specs.State.{scopeOf}
@@ -21,8 +25,12 @@ use Rattle.recorder.specs.Bounds.{sound}
 use Rattle.recorder.proofs.Keeps.{sound-parts}
 use Rattle.application.specs.State.{isNone, isWaiting, isCollected, isEnded, Command, applicationOf}
 use Rattle.application.specs.State as application
+use Rattle.tables.specs.State as tables
+use Rattle.tables.specs.State.{Registered, listLength, tablesOf, registeredList}
 use Rattle.state.specs.State.{Instruments, gateOf}
-use Rattle.state.specs.Looked.{lookedScope, lookedRecorder, looked, scopeKept, recorderKept, lookedCommand, commandKept, instrumentsKept}
+use Rattle.state.specs.Looked.{lookedScope, lookedRecorder, looked, scopeKept, recorderKept, lookedCommand, commandKept, lookedTables, listOf, tablesKept, instrumentsKept}
+use Rattle.state.specs.Within.{TablesWithin}
+use Rattle.state.proofs.ByteLaws.{all-at, all-take}
 
 scope-back : (s : Scope) → scopeKept (scopeOf s) ≡ lookedScope s
 scope-back s =
@@ -60,15 +68,43 @@ command-back c within size =
     let phase : c .phase ≡ isEnded = omega (arith, most, eqb-false (c .phase) isWaiting passed, eqb-false (c .phase) isNone some, eqb-false (c .phase) isCollected over) in
     rw phase refl)))
 
+-- a list of whole pairs is read back from its tables
+pair-back : (a b : ℕ) → a < 256 → b < 256 → littleEndian 2 (number (a ∷ b ∷ [])) ≡ a ∷ b ∷ []
+pair-back a b ha hb = bytes-of-number (a ∷ b ∷ []) (all-at (a ∷ b ∷ []) (ha, (hb, tt)))
+
+list-back : (n : ℕ) (l : List ℕ) → length l ≡ n * pairSize → AllBytes l → listOf (tablesIn l) ≡ l
+list-back zero [] e all = refl
+list-back zero (a ∷ l) e all = let x : ⊥ = omega arith in absurd x
+list-back (suc n) [] e all = refl
+list-back (suc n) (a ∷ []) e all = let x : ⊥ = omega arith in absurd x
+list-back (suc n) (a ∷ b ∷ []) e all = let x : ⊥ = omega arith in absurd x
+list-back (suc n) (a ∷ b ∷ c ∷ []) e all = let x : ⊥ = omega arith in absurd x
+list-back (suc n) (a ∷ b ∷ c ∷ d ∷ l) e all =
+    λ i.
+    pair-back a b (all .0) (all .1 .0) i
+    ++ (pair-back c d (all .1 .1 .0) (all .1 .1 .1 .0) i ++ list-back n l (omega arith) (all .1 .1 .1 .1) i)
+
+tables-back : (r : Registered) → TablesWithin r → tablesKept (tablesOf r) ≡ lookedTables r
+unfolding tables.sound
+tables-back r w =
+    let n = r .count * pairSize in
+    let few : r .count ≤ mostTables = leb-true (r .count) mostTables (w .sound) in
+    let counted : length (take n (r .list)) ≡ n = simp length-take (omega (arith, few, w .size)) in
+    let back = list-back (r .count) (take n (r .list)) counted (all-take n (r .list) (w .bytes)) in
+    let many : length (take n (r .list)) / pairSize ≡ r .count = omega (arith, counted) in
+    ap registeredList back
+    ∙ (λ i. record { count = many i; list = take n (r .list) ++ drop (counted i) (replicate listLength 0) })
+
 pub record Sound (i : Instruments) : Type 0 where
   pub recorder : sound (i .recorder) ≡ true
   pub application : application.sound (i .application) ≡ true
   pub size : length (i .application .bytes) ≡ mostData
+  pub tables : TablesWithin (i .tables)
 
 module _ (i : Instruments) (within : Sound i) (memory : List ℕ) where
   -- all that is looked at can be read off the gate
   pub instruments-back : instrumentsKept (gateOf i memory) ≡ looked i
-  instruments-back = λ j. record { scope = scope-back (i .scope) j; recorder = recorder-back (i .recorder) (within .recorder) j; application = command-back (i .application) (within .application) (within .size) j }
+  instruments-back = λ j. record { scope = scope-back (i .scope) j; recorder = recorder-back (i .recorder) (within .recorder) j; application = command-back (i .application) (within .application) (within .size) j; tables = tables-back (i .tables) (within .tables) j }
 
 pub gates-apart : (i j : Instruments) → Sound i → Sound j → (memory : List ℕ)
     → gateOf i memory ≡ gateOf j memory → looked i ≡ looked j

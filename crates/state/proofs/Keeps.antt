@@ -31,12 +31,14 @@ use Rattle.ticks.specs.Tick.{tickedState}
 use Rattle.recorder.proofs.Answers as recorder-answers
 use Rattle.recorder.proofs.Keeps as recorder-keeps
 use Rattle.ticks.proofs.Ticked.{ticked-sound}
+use Rattle.tables.specs.State as tables
+use Rattle.tables.specs.State.{Registered, listLength, noTables}
 use Rattle.application.specs.State.{isWaiting, Command, sentCommand, collectedCommand, endedCommand}
 use Rattle.application.proofs.Means.{fresh-sound, sent-sound, collected-sound, ended-sound}
 use Rattle.state.specs.State.{Target}
-use Rattle.state.specs.Bounds.{sound, fresh}
+use Rattle.state.specs.Bounds.{sound, freshWith}
 use Rattle.state.specs.Widths.{TargetFits}
-use Rattle.state.specs.Within.{ScopeWithin, RecorderWithin, CommandWithin, MemoryWithin, LinkWithin, Within}
+use Rattle.state.specs.Within.{ScopeWithin, RecorderWithin, CommandWithin, TablesWithin, MemoryWithin, LinkWithin, Within}
 use Rattle.state.proofs.Parts.{whole-of}
 use Rattle.state.proofs.ByteLaws.{take-short, all-sets, all-take, all-range, all-values, all-zeros, number-below, all-append, all-drop}
 use Rattle.state.proofs.Fits.{scope-fit, set-up-fit, started-fit, halted-fit, ticked-fit, kept-fit, no-recorder-fit}
@@ -124,18 +126,23 @@ command-ended c result w small = record { sound = ended-sound result c small; si
 module _ (t : Target) (memory : List ℕ) (w : Within t memory) where
   pub within-sound : sound t ≡ true
   within-sound =
-      whole-of t (record { receiver = w .link-part .receiver; scope-part = w .scope-part .sound; recorder-part = w .recorder-part .sound; application-part = w .application-part .sound })
+      whole-of t (record { receiver = w .link-part .receiver; scope-part = w .scope-part .sound; recorder-part = w .recorder-part .sound; application-part = w .application-part .sound; tables-part = w .tables-part .sound })
 
   pub within-fits : TargetFits t
-  within-fits = record { body = w .link-part .size; scope = w .scope-part .fits; recorder = w .recorder-part .fits; application = w .application-part .size }
+  within-fits = record { body = w .link-part .size; scope = w .scope-part .fits; recorder = w .recorder-part .fits; application = w .application-part .size; tables = w .tables-part .size }
 
--- at reset
-pub within-reset : (memory : List ℕ) → MemoryWithin memory → Within fresh memory
-within-reset memory good =
+-- at reset, with tables
+pub within-registered : (registered : Registered) (memory : List ℕ) → TablesWithin registered → MemoryWithin memory → Within (freshWith registered) memory
+within-registered registered memory listed good =
     record {
       link-part = record { receiver = reset-sound; command = omega arith; size = refl; body = all-zeros 64 };
       scope-part = record { sound = new-scope; fits = kept-fit [] tt };
       recorder-part = record { sound = recorder-answers.new-sound; fits = no-recorder-fit };
       application-part = record { sound = fresh-sound; size = refl; bytes = all-zeros 64 };
+      tables-part = listed;
       memory-part = good;
     }
+
+pub no-tables : TablesWithin noTables
+unfolding tables.sound
+no-tables = record { sound = refl; size = refl; bytes = all-zeros listLength }

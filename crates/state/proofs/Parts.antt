@@ -6,6 +6,7 @@ use Rattle.scope.specs.State as scope
 use Rattle.recorder.specs.Bounds as recorder
 use Rattle.document.proofs.Cases.{and-left, and-right}
 use Rattle.application.specs.State as application
+use Rattle.tables.specs.State as tables
 use Rattle.state.specs.State.{Target}
 use Rattle.state.specs.Bounds.{sound}
 
@@ -24,9 +25,14 @@ module _ (t : Target) where
       unfolding sound
       recorder-outside e = sym (rw (receiver, scope-inside, e) refl)
 
-      pub application-decides : recorder.sound (t .instruments .recorder) ≡ true → application.sound (t .instruments .application) ≡ sound t
-      unfolding sound
-      application-decides e = sym (rw (receiver, scope-inside, e) refl)
+      module _ (recorder-inside : recorder.sound (t .instruments .recorder) ≡ true) where
+        pub application-outside : application.sound (t .instruments .application) ≡ false → false ≡ sound t
+        unfolding sound
+        application-outside e = sym (rw (receiver, scope-inside, recorder-inside, e) refl)
+
+        pub tables-decide : application.sound (t .instruments .application) ≡ true → tables.sound (t .instruments .tables) ≡ sound t
+        unfolding sound
+        tables-decide e = sym (rw (receiver, scope-inside, recorder-inside, e) refl)
 
 -- and back
 pub record Parts (t : Target) : Type 0 where
@@ -34,6 +40,7 @@ pub record Parts (t : Target) : Type 0 where
   pub scope-part : scope.sound (t .instruments .scope) ≡ true
   pub recorder-part : recorder.sound (t .instruments .recorder) ≡ true
   pub application-part : application.sound (t .instruments .application) ≡ true
+  pub tables-part : tables.sound (t .instruments .tables) ≡ true
 
 pub parts-of : (t : Target) → sound t ≡ true → Parts t
 unfolding sound
@@ -41,15 +48,18 @@ parts-of t ok =
     let scope-in = scope.sound (t .instruments .scope) in
     let recorder-in = recorder.sound (t .instruments .recorder) in
     let application-in = application.sound (t .instruments .application) in
-    let rest = and-right (link.sound (t .receiver)) (scope-in && (recorder-in && application-in)) ok in
-    let last = and-right scope-in (recorder-in && application-in) rest in
+    let tables-in = tables.sound (t .instruments .tables) in
+    let rest = and-right (link.sound (t .receiver)) (scope-in && (recorder-in && (application-in && tables-in))) ok in
+    let behind-scope = and-right scope-in (recorder-in && (application-in && tables-in)) rest in
+    let last = and-right recorder-in (application-in && tables-in) behind-scope in
     record {
       receiver = and-left (link.sound (t .receiver)) _ ok;
       scope-part = and-left scope-in _ rest;
-      recorder-part = and-left recorder-in _ last;
-      application-part = and-right recorder-in _ last;
+      recorder-part = and-left recorder-in _ behind-scope;
+      application-part = and-left application-in _ last;
+      tables-part = and-right application-in _ last;
     }
 
 pub whole-of : (t : Target) → Parts t → sound t ≡ true
 unfolding sound
-whole-of t p = rw (p .receiver, p .scope-part, p .recorder-part, p .application-part) refl
+whole-of t p = rw (p .receiver, p .scope-part, p .recorder-part, p .application-part, p .tables-part) refl

@@ -1,7 +1,8 @@
 -- What of a state is looked at: the definitions behind a count are not, nor a plan and a run that nobody set up.
 use mathlib.Core.Bool.{cond}
 use lib.Dec.{eqb}
-use mathlib.Core.List.{_++_}
+use mathlib.Core.List.{List, [], _∷_, _++_}
+use Prim.Native.Nat.{ℕ, _*_}
 use lib.ListN.{replicate, take, drop}
 use Rattle.document.specs.Numbers.{mostData}
 use Rattle.document.specs.Application.{Application}
@@ -19,6 +20,9 @@ use Rattle.runs.specs.State.{runKept}
 use Rattle.recorder.specs.declared.state.Recorder.{Recorder}
 use Rattle.recorder.specs.State.{noRecorder}
 use Rattle.application.specs.State.{isWaiting, isCollected, isEnded, Command, noCommand, sentCommand, endedCommand}
+use Rattle.document.specs.Values.{littleEndian}
+use Rattle.document.specs.Tables.{Table, pairSize}
+use Rattle.tables.specs.State.{Registered, listLength, registeredList}
 use Rattle.state.specs.State.{Instruments}
 
 -- the same with zeros where nothing is looked at
@@ -41,8 +45,12 @@ lookedCommand c =
     (record { phase = c .phase; count = c .count; result = 0; bytes = take (c .count) (c .bytes) ++ drop (c .count) (replicate mostData 0) })
     (record { phase = c .phase; count = 0; result = cond (eqb (c .phase) isEnded) (c .result) 0; bytes = replicate mostData 0 })
 
+-- of the list, what the count says
+abbrev pub lookedTables : Registered → Registered
+lookedTables r = record { count = r .count; list = take (r .count * pairSize) (r .list) ++ drop (r .count * pairSize) (replicate listLength 0) }
+
 abbrev pub looked : Instruments → Instruments
-looked i = record { scope = lookedScope (i .scope); recorder = lookedRecorder (i .recorder); application = lookedCommand (i .application) }
+looked i = record { scope = lookedScope (i .scope); recorder = lookedRecorder (i .recorder); application = lookedCommand (i .application); tables = lookedTables (i .tables) }
 
 -- ---- back from what a state stands for
 
@@ -60,5 +68,12 @@ commandKept (waiting command) = sentCommand command noCommand
 commandKept collected = record { phase = isCollected; count = 0; result = 0; bytes = replicate mostData 0 }
 commandKept (ended result) = endedCommand result noCommand
 
+abbrev pub listOf : List Table → List ℕ
+listOf [] = []
+listOf (t ∷ ts) = littleEndian 2 (t .address) ++ (littleEndian 2 (t .size) ++ listOf ts)
+
+abbrev pub tablesKept : List Table → Registered
+tablesKept ts = registeredList (listOf ts)
+
 abbrev pub instrumentsKept : Gate → Instruments
-instrumentsKept g = record { scope = scopeKept (g .scope); recorder = recorderKept (g .recorder); application = commandKept (g .application) }
+instrumentsKept g = record { scope = scopeKept (g .scope); recorder = recorderKept (g .recorder); application = commandKept (g .application); tables = tablesKept (g .tables) }

@@ -8,12 +8,14 @@ use Rattle.scope.specs.State.{scopeOf}
 use Rattle.recorder.specs.declared.state.Recorder.{Recorder}
 use Rattle.recorder.specs.State.{recorderOf}
 use Rattle.application.specs.State.{Command, applicationOf}
+use Rattle.tables.specs.State.{Registered, tablesOf}
 
 -- what is set up
 pub record Instruments : Type 0 where
   pub scope : Scope
   pub recorder : Recorder
   pub application : Command
+  pub tables : Registered
 
 -- the receiver, the data of the message it is in, and what is set up
 pub record Target : Type 0 where
@@ -21,6 +23,16 @@ pub record Target : Type 0 where
   pub body : List ℕ
   pub instruments : Instruments
 
+-- one of them changes, all others stay
+abbrev pub withScope : Instruments → Scope → Instruments
+withScope i scope = record { scope = scope; recorder = i .recorder; application = i .application; tables = i .tables }
+
+abbrev pub withRecorder : Instruments → Recorder → Instruments
+withRecorder i recorder = record { scope = i .scope; recorder = recorder; application = i .application; tables = i .tables }
+
+abbrev pub withApplication : Instruments → Command → Instruments
+withApplication i command = record { scope = i .scope; recorder = i .recorder; application = command; tables = i .tables }
+
 -- what is set up, with the memory that is lent
 abbrev pub gateOf : Instruments → List ℕ → Gate
-gateOf i memory = record { memory = memory; scope = scopeOf (i .scope); recorder = recorderOf (i .recorder); application = applicationOf (i .application) }
+gateOf i memory = record { memory = memory; scope = scopeOf (i .scope); recorder = recorderOf (i .recorder); application = applicationOf (i .application); tables = tablesOf (i .tables) }

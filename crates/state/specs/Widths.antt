@@ -7,6 +7,7 @@ use Rattle.variables.specs.declared.Variables.{Variables}
 use Rattle.plans.specs.declared.plan.Plan.{Plan}
 use Rattle.runs.specs.declared.run.Run.{Run}
 use Rattle.recorder.specs.declared.state.Recorder.{Recorder}
+use Rattle.tables.specs.State.{listLength}
 use Rattle.state.specs.State.{Target}
 
 pub record VariablesFit (v : Variables) : Type 0 where
@@ -35,3 +36,4 @@ pub record TargetFits (t : Target) : Type 0 where
   pub scope : VariablesFit (t .instruments .scope .variables)
   pub recorder : RecorderFits (t .instruments .recorder)
   pub application : length (t .instruments .application .bytes) ≡ mostData
+  pub tables : length (t .instruments .tables .list) ≡ listLength

@@ -14,6 +14,8 @@ use Rattle.recorder.specs.declared.state.Recorder.{Recorder}
 use Rattle.recorder.specs.Bounds as recorder
 use Rattle.application.specs.State as application
 use Rattle.application.specs.State.{Command}
+use Rattle.tables.specs.State as tables
+use Rattle.tables.specs.State.{Registered, listLength}
 use Rattle.state.specs.State.{Target}
 use Rattle.state.specs.Widths.{VariablesFit, RecorderFits}
 
@@ -30,6 +32,11 @@ pub record CommandWithin (c : Command) : Type 0 where
   pub size : length (c .bytes) ≡ mostData
   pub bytes : AllBytes (c .bytes)
 
+pub record TablesWithin (r : Registered) : Type 0 where
+  pub sound : tables.sound r ≡ true
+  pub size : length (r .list) ≡ listLength
+  pub bytes : AllBytes (r .list)
+
 pub record MemoryWithin (m : List ℕ) : Type 0 where
   pub size : length m ≡ memoryEnd
   pub bytes : AllBytes m
@@ -45,4 +52,5 @@ pub record Within (t : Target) (memory : List ℕ) : Type 0 where
   pub scope-part : ScopeWithin (t .instruments .scope)
   pub recorder-part : RecorderWithin (t .instruments .recorder)
   pub application-part : CommandWithin (t .instruments .application)
+  pub tables-part : TablesWithin (t .instruments .tables)
   pub memory-part : MemoryWithin memory

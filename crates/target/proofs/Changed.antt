@@ -22,9 +22,10 @@ use Rattle.recorder.proofs.Meanings.{started-means, halted-means}
 use Rattle.outcomes.specs.Changes.{Change, changeOf, changed, Accepted, Refused}
 use Rattle.outcomes.specs.Changes.Change.{nothing, store, maskedStore, scopeSetUp, recorderSetUp, recorderStart, recorderStop, commandSent}
 use Rattle.outcomes.proofs.Served.{served-either, served-memory}
+use Rattle.tables.specs.State.{tablesOf}
 use Rattle.application.specs.State.{applicationOf}
 use Rattle.application.proofs.Sending.{send-refused, send-means, send-either}
-use Rattle.state.specs.State.{Instruments, gateOf}
+use Rattle.state.specs.State.{Instruments, gateOf, withScope, withApplication}
 use Rattle.target.specs.After.{instrumentsChanged, instrumentsAfter}
 use Rattle.state.specs.Within.{ScopeWithin, RecorderWithin, CommandWithin, MemoryWithin}
 use Rattle.state.proofs.ByteLaws.{all-range, all-masked}
@@ -39,11 +40,11 @@ module _ (i : Instruments) (memory : List ℕ) (s : Service) (body : List ℕ) w
   refused-kept nothing r = refl
   refused-kept store r = refl
   refused-kept maskedStore r = refl
-  refused-kept scopeSetUp r = λ j. record { scope = next-refused (s .ex) body (i .scope) r j; recorder = i .recorder; application = i .application }
+  refused-kept scopeSetUp r = λ j. withScope i (next-refused (s .ex) body (i .scope) r j)
   refused-kept recorderSetUp r = rw (ne-eqb (recorder.setUpStatus (recorderOf (i .recorder)) (s .ex) body) done r) refl
   refused-kept recorderStart r = rw r refl
   refused-kept recorderStop r = rw r refl
-  refused-kept commandSent r = λ j. record { scope = i .scope; recorder = i .recorder; application = send-refused body (i .application) g refl r j }
+  refused-kept commandSent r = λ j. withApplication i (send-refused body (i .application) g refl r j)
 
   accepted-kept : (c : Change) → Accepted c g s body → gateOf (instrumentsChanged c i s body) (changed c g s body .memory) ≡ changed c g s body
   unfolding scope.setUpStatus recorder.setUpStatus
@@ -51,15 +52,15 @@ module _ (i : Instruments) (memory : List ℕ) (s : Service) (body : List ℕ) w
   accepted-kept store a = refl
   accepted-kept maskedStore a = refl
   accepted-kept scopeSetUp a =
-      λ j. record { memory = memory; scope = set-up-scope (s .ex) body (i .scope) a j; recorder = recorderOf (i .recorder); application = applicationOf (i .application) }
+      λ j. record { memory = memory; scope = set-up-scope (s .ex) body (i .scope) a j; recorder = recorderOf (i .recorder); application = applicationOf (i .application); tables = tablesOf (i .tables) }
   accepted-kept recorderSetUp a =
-      λ j. record { memory = memory; scope = scopeOf (i .scope); recorder = set-up-means (i .recorder) (s .ex) body a j; application = applicationOf (i .application) }
+      λ j. record { memory = memory; scope = scopeOf (i .scope); recorder = set-up-means (i .recorder) (s .ex) body a j; application = applicationOf (i .application); tables = tablesOf (i .tables) }
   accepted-kept recorderStart a =
-      λ j. record { memory = memory; scope = scopeOf (i .scope); recorder = started-means (i .recorder) j; application = applicationOf (i .application) }
+      λ j. record { memory = memory; scope = scopeOf (i .scope); recorder = started-means (i .recorder) j; application = applicationOf (i .application); tables = tablesOf (i .tables) }
   accepted-kept recorderStop a =
-      λ j. record { memory = memory; scope = scopeOf (i .scope); recorder = halted-means (i .recorder) j; application = applicationOf (i .application) }
+      λ j. record { memory = memory; scope = scopeOf (i .scope); recorder = halted-means (i .recorder) j; application = applicationOf (i .application); tables = tablesOf (i .tables) }
   accepted-kept commandSent a =
-      λ j. record { memory = memory; scope = scopeOf (i .scope); recorder = recorderOf (i .recorder); application = send-means body (i .application) g refl a j }
+      λ j. record { memory = memory; scope = scopeOf (i .scope); recorder = recorderOf (i .recorder); application = send-means body (i .application) g refl a j; tables = tablesOf (i .tables) }
 
   pub served-kept : gateOf (instrumentsAfter (s .operation) i s body) (served g s body .gate .memory) ≡ served g s body .gate
   served-kept =
@@ -100,6 +101,17 @@ module _ (i : Instruments) (s : Service) (body : List ℕ) (all : AllBytes body)
   application-changed recorderStop few w = w
   application-changed commandSent few w =
       send-either body (i .application) CommandWithin w (λ some. command-sent (i .application) body w all some few)
+
+-- no service changes the tables
+pub tables-changed : (i : Instruments) (s : Service) (body : List ℕ) (c : Change) → instrumentsChanged c i s body .tables ≡ i .tables
+tables-changed i s body nothing = refl
+tables-changed i s body store = refl
+tables-changed i s body maskedStore = refl
+tables-changed i s body scopeSetUp = refl
+tables-changed i s body recorderSetUp = refl
+tables-changed i s body recorderStart = refl
+tables-changed i s body recorderStop = refl
+tables-changed i s body commandSent = refl
 
 pub memory-served : (g : Gate) (s : Service) (body : List ℕ) → AllBytes body → MemoryWithin (g .memory) → MemoryWithin (served g s body .gate .memory)
 memory-served g s body all w =

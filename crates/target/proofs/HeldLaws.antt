@@ -16,7 +16,7 @@ use Rattle.state.specs.State.{Instruments, gateOf}
 use Rattle.target.specs.After.{instrumentsAfter}
 use Rattle.target.specs.AnsweredHeld.{answeredHeld, instrumentsHeld}
 use Rattle.state.specs.Within.{ScopeWithin, RecorderWithin, CommandWithin, MemoryWithin}
-use Rattle.target.proofs.Changed.{served-kept, scope-changed, recorder-changed, application-changed, memory-served}
+use Rattle.target.proofs.Changed.{served-kept, scope-changed, recorder-changed, application-changed, tables-changed, memory-served}
 
 pub held-kept : (i : Instruments) (memory : List ℕ) (h : Held)
     → gateOf (instrumentsHeld i h) (answeredHeld (gateOf i memory) h .gate .memory) ≡ answeredHeld (gateOf i memory) h .gate
@@ -36,6 +36,11 @@ module _ (i : Instruments) (h : Held) where
       split (eqb (h .sum) 0)
       (λ right. split (ltb mostData (h .length)) (λ long. rw (right, long) same) (λ short. rw (right, short) after))
       (λ wrong. rw wrong same)
+
+  pub tables-held : instrumentsHeld i h .tables ≡ i .tables
+  tables-held =
+      instruments-held (λ (k : Instruments). k .tables ≡ i .tables) refl
+      (tables-changed i (serviceOf (h .command)) (h .kept) (changeOf (serviceOf (h .command) .operation)))
 
   module _ (all : AllBytes (h .kept)) where
     abbrev s : Service

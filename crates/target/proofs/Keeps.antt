@@ -14,10 +14,10 @@ use Rattle.link.specs.Report.{Held}
 use Rattle.link.proofs.Sound.{step-sound}
 use Rattle.link.proofs.Events.{kept-byte, command-byte}
 use Rattle.state.specs.State.{Target, gateOf}
-use Rattle.state.specs.Within.{MemoryWithin, LinkWithin, Within}
+use Rattle.state.specs.Within.{TablesWithin, MemoryWithin, LinkWithin, Within}
 use Rattle.state.proofs.ByteLaws.{all-set, all-take}
 use Rattle.target.specs.AnsweredHeld.{answeredHeld, instrumentsHeld}
-use Rattle.target.proofs.HeldLaws.{scope-within, recorder-within, application-within, memory-within}
+use Rattle.target.proofs.HeldLaws.{scope-within, recorder-within, application-within, tables-held, memory-within}
 use Rattle.target.specs.Turn.{Turn, keeping, heldBy, turn}
 use Rattle.target.proofs.TurnLaws.{nextOf, by-event}
 
@@ -40,7 +40,7 @@ module _ (t : Target) (memory buffer : List ℕ) (w : Within t memory) (b : ℕ)
       by : (e : Event) → stepped (t .receiver) b .event ≡ e → Within (turn t b memory buffer .next) (turn t b memory buffer .memory)
       by Nothing e =
           subst (λ (u : Turn). Within (u .next) (u .memory)) (sym (by-event t b memory buffer Nothing e))
-          (record { link-part = link-next; scope-part = w .scope-part; recorder-part = w .recorder-part; application-part = w .application-part; memory-part = w .memory-part })
+          (record { link-part = link-next; scope-part = w .scope-part; recorder-part = w .recorder-part; application-part = w .application-part; tables-part = w .tables-part; memory-part = w .memory-part })
       by (Keep at v) e =
           subst (λ (u : Turn). Within (u .next) (u .memory)) (sym (by-event t b memory buffer (Keep at v) e))
           (record {
@@ -54,6 +54,7 @@ module _ (t : Target) (memory buffer : List ℕ) (w : Within t memory) (b : ℕ)
             scope-part = w .scope-part;
             recorder-part = w .recorder-part;
             application-part = w .application-part;
+            tables-part = w .tables-part;
             memory-part = w .memory-part;
           })
       by (Whole c n sum) e =
@@ -66,5 +67,6 @@ module _ (t : Target) (memory buffer : List ℕ) (w : Within t memory) (b : ℕ)
             scope-part = scope-within (t .instruments) H all (w .scope-part);
             recorder-part = recorder-within (t .instruments) H all (w .recorder-part);
             application-part = application-within (t .instruments) H all few (w .application-part);
+            tables-part = subst TablesWithin (sym (tables-held (t .instruments) H)) (w .tables-part);
             memory-part = memory-within (gateOf (t .instruments) memory) H all (w .memory-part);
           })

@@ -12,8 +12,9 @@ use Rattle.document.proofs.Cases.{split}
 use Rattle.recorder.specs.declared.state.Recorder.{Recorder}
 use Rattle.recorder.specs.State.{recorderOf}
 use Rattle.ticks.specs.Tick.{tickedState}
+use Rattle.state.specs.State.{withRecorder}
 use Rattle.blocks.specs.Places.{scopePlace, runPlace, stateLength}
-use Rattle.blocks.specs.Layout.{decodedScope, decodedRecorder, decoded, encodedRun, decodedApplication, encodedInstruments, encoded}
+use Rattle.blocks.specs.Layout.{decodedScope, decodedRecorder, decoded, encodedRun, decodedApplication, encodedInstruments, encoded, decodedInstruments}
 use Rattle.blocks.proofs.Stored.{run-stored, instruments-stored}
 use Rattle.checks.specs.Promises.{tickNumber}
 use Rattle.tick_call.specs.Promises.{tickedTarget, TickTaken}
@@ -30,9 +31,9 @@ module _ (block memory : List ℕ) where
       s
       ∙ ap (λ (r : Recorder). sets block runPlace (encodedRun (r .run))) e
       ∙ run-stored block long small (tickedState (decodedRecorder block) memory .run)
-      ∙ ap (λ (r : Recorder). sets block scopePlace (encodedInstruments (record { scope = decodedScope block; recorder = r; application = decodedApplication block })))
+      ∙ ap (λ (r : Recorder). sets block scopePlace (encodedInstruments (withRecorder (decodedInstruments block) r)))
       (sym (ticked-parts (decodedRecorder block) memory))
-      ∙ instruments-stored block long small (record { scope = decodedScope block; recorder = tickedState (decodedRecorder block) memory; application = decodedApplication block })
+      ∙ instruments-stored block long small (withRecorder (decodedInstruments block) (tickedState (decodedRecorder block) memory))
 
   pub tick-refused : (k : ℕ) → k ≡ tickNumber block memory → (k ≡ taken → ⊥) → TickTaken block memory k block memory
   tick-refused k e some =

@@ -10,7 +10,7 @@ use Rattle.document.specs.Numbers.{taken}
 use Rattle.document.specs.Recorder.{tickedMemory}
 use Rattle.recorder.specs.State.{recorderOf}
 use Rattle.ticks.specs.Tick.{tickedState}
-use Rattle.state.specs.State.{Target}
+use Rattle.state.specs.State.{Target, withRecorder}
 use Rattle.blocks.specs.Layout.{decoded, encoded}
 use Rattle.checks.specs.Promises.{tickNumber}
 
@@ -20,8 +20,7 @@ tickedTarget t memory =
     record {
       receiver = t .receiver;
       body = t .body;
-      instruments =
-          record { scope = t .instruments .scope; recorder = tickedState (t .instruments .recorder) memory; application = t .instruments .application };
+      instruments = withRecorder (t .instruments) (tickedState (t .instruments .recorder) memory);
     }
 
 pub record TickTaken (block memory : List ℕ) (r : ℕ) (after left : List ℕ) : Type 0 where

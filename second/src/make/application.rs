@@ -23,7 +23,7 @@ impl Maker {
         self.rng.bytes(count)
     }
 
-    fn send_command(&mut self) {
+    pub fn send_command(&mut self) {
         let command = self.command_bytes();
         self.send(0x10, &command);
     }

@@ -15,7 +15,7 @@ const WHOLE: [(u8, &[u8]); 5] = [
 ];
 
 impl Maker {
-    fn whole(&mut self) -> Vec<u8> {
+    pub fn whole(&mut self) -> Vec<u8> {
         let (command, data) = *self.rng.pick(&WHOLE);
         stuffed(&literals(command, data))
     }

@@ -38,7 +38,7 @@ impl Maker {
         plan
     }
 
-    fn send_setup(&mut self, plan: &Plan) {
+    pub fn send_setup(&mut self, plan: &Plan) {
         if !self.rng.once_in(6) {
             self.send(0xC2, &[]);
         }

@@ -52,6 +52,7 @@ impl Maker {
                 2 => self.some_poke(),
                 3 => self.move_trigger(),
                 4 => self.application_call(),
+                5 if self.rng.once_in(6) => self.register_between(),
                 _ => {}
             }
         }

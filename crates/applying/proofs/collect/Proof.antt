@@ -11,8 +11,9 @@ use Rattle.document.specs.Application.{newCommand}
 use Rattle.application.specs.State.{isWaiting, isCollected, Command, applicationOf, collectedCommand}
 use Rattle.application.proofs.Means.{nothing-new, new-waits, collected-none, collected-some, waiting-few}
 use Rattle.block_fields.proofs.Ranges.{bytes-length}
+use Rattle.state.specs.State.{withApplication}
 use Rattle.blocks.specs.Places.{commandPlace, scopePlace}
-use Rattle.blocks.specs.Layout.{decodedScope, decodedRecorder, decodedApplication, encodedApplication, encodedInstruments}
+use Rattle.blocks.specs.Layout.{decodedScope, decodedRecorder, decodedApplication, encodedApplication, encodedInstruments, decodedInstruments}
 use Rattle.blocks.proofs.Stored.{same-instruments, head-stored}
 use borrow.Author.Needs.{needs}
 use Rattle.applying.proofs.collect.Statement.{statement}
@@ -42,7 +43,7 @@ returns c =
       result = sym (ap length none-new);
       state =
           sym
-          (ap (λ (d : Command). sets block scopePlace (encodedInstruments (record { scope = decodedScope block; recorder = decodedRecorder block; application = d })))
+          (ap (λ (d : Command). sets block scopePlace (encodedInstruments (withApplication (decodedInstruments block) d)))
           (collected-none (command k) (c .if1 .taken))
           ∙ same-instruments block (begun k .pre .0) (small k));
       buffer-told = sym (ap (sets buffer 0) none-new);

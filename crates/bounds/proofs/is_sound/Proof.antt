@@ -1,13 +1,15 @@
--- Receiver, scope, recorder, application command in turn.
+-- Receiver, scope, recorder, application command and tables in turn.
 use mathlib.Core.Path.{_≡_, sym, ap, _∙_}
 use mathlib.Core.Bool.{true}
 use borrow.Author.Tests.{not-true, not-false}
 use borrow.Author.Needs.{needs}
 use Rattle.state.specs.State.{Target}
-use Rattle.state.proofs.Parts.{receiver-outside, scope-outside, recorder-outside, application-decides}
+use Rattle.state.proofs.Parts.{receiver-outside, scope-outside, recorder-outside, application-outside, tables-decide}
 use Rattle.link.specs.Bounds as link
 use Rattle.scope.specs.State as scope
-use Rattle.blocks.specs.Layout.{decoded}
+use Rattle.recorder.specs.Bounds as recorder
+use Rattle.tables.specs.State as tables
+use Rattle.blocks.specs.Layout.{decodedTables, decoded}
 use Rattle.bounds.proofs.is_sound.Statement.{statement}
 use Rattle.bounds.proofs.is_sound.Tie as tie
 
@@ -56,13 +58,30 @@ returns-3 c =
 is-application-sound-requires : tie.Need-is-application-sound-requires
 is-application-sound-requires c κs = search needs
 
+-- the recorder too
+recorder-inside : (k : tie.Else3) → recorder.sound (state (k .before .before .before .before .before) .instruments .recorder) ≡ true
+recorder-inside k = sym (k .before .is-recorder-sound .ensures) ∙ not-false _ (k .if3 .left)
+
 returns-4 : tie.Need-returns-4
 returns-4 c =
-    let k = c .before in
+    let k = c .before .before in
     let f = k .before .before in
     let e = f .before .before in
-    c .is-application-sound .ensures
-    ∙ application-decides (state (e .before)) (receiver-inside e) (scope-inside f) (sym (k .before .is-recorder-sound .ensures) ∙ not-false _ (k .if3 .left))
+    application-outside (state (e .before)) (receiver-inside e) (scope-inside f) (recorder-inside k)
+    (sym (c .before .is-application-sound .ensures) ∙ not-true _ (c .if4 .taken))
+
+shared-slice-read-result : tie.Need-shared-slice-read-result
+shared-slice-read-result c = search needs
+
+returns-5 : tie.Need-returns-5
+unfolding tables.sound decodedTables
+returns-5 c =
+    let d = c .before in
+    let k = d .before .before in
+    let f = k .before .before in
+    let e = f .before .before in
+    tables-decide (state (e .before)) (receiver-inside e) (scope-inside f) (recorder-inside k)
+    (sym (d .before .is-application-sound .ensures) ∙ not-false _ (d .if4 .left))
 
 pub is-sound-spec : {M : Type 1} → statement M
 is-sound-spec =
@@ -76,4 +95,6 @@ is-sound-spec =
     is-recorder-sound-requires
     returns-3
     is-application-sound-requires
-    returns-4)
+    returns-4
+    shared-slice-read-result
+    returns-5)

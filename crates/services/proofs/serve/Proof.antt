@@ -4,7 +4,7 @@ use mathlib.Core.List.{List}
 use Prim.Native.Nat.{ℕ}
 use borrow.Author.Needs.{needs}
 use Rattle.document.specs.declared.Operation.{Operation}
-use Rattle.document.specs.declared.Operation.the-variants.{Unserved, Describe, DescribeBriefly, Read, Write, WriteMasked, SetUpScope, ReadScope, SetUpRecorder, Start, Stop, Status, QueryBuffer, SendCommand, CommandResult}
+use Rattle.document.specs.declared.Operation.the-variants.{Unserved, Describe, DescribeBriefly, Read, Write, WriteMasked, SetUpScope, ReadScope, SetUpRecorder, Start, Stop, Status, QueryBuffer, SendCommand, CommandResult, TellTable, MeasureString}
 use Rattle.outcomes.specs.Changes.{changeOf}
 use Rattle.fields.specs.Blocks.{OwnFits}
 use Rattle.fields.specs.Framed.{partsOf}
@@ -169,6 +169,27 @@ enum-told-15 c = search needs
 
 command-result-requires : tie.Need-command-result-requires
 command-result-requires c κs = search needs
+
+enum-told-16 : tie.Need-enum-told-16
+enum-told-16 c = search needs
+
+tell-table-requires : tie.Need-tell-table-requires
+tell-table-requires c κs = search needs
+
+enum-told-17 : tie.Need-enum-told-17
+enum-told-17 c = search needs
+
+sub-measure-string : tie.Need-sub-measure-string
+sub-measure-string c = search needs
+
+part-measure-string-start : tie.Need-part-measure-string-start
+part-measure-string-start c = search needs
+
+part-measure-string-end : tie.Need-part-measure-string-end
+part-measure-string-end c = search needs
+
+measure-string-requires : tie.Need-measure-string-requires
+measure-string-requires c κs = search needs
 
 returns : tie.Need-returns
 returns c =
@@ -339,6 +360,35 @@ returns-15 c =
     let q = asked (t .before .before) in
     replied q CommandResult (t .enum-told15 .given .1) refl (d .command-result .ensures _ (q .service) _)
 
+same-length-23 : tie.Need-same-length-23
+same-length-23 c = search needs
+
+same-length-24 : tie.Need-same-length-24
+same-length-24 c = search needs
+
+returns-16 : tie.Need-returns-16
+returns-16 c =
+    let d = c .before .before in
+    let t = d .before .before .before in
+    let q = asked (t .before .before) in
+    replied q TellTable (t .enum-told16 .given .1) refl (d .tell-table .ensures _ (q .service))
+
+same-length-25 : tie.Need-same-length-25
+same-length-25 c = search needs
+
+same-length-26 : tie.Need-same-length-26
+same-length-26 c = search needs
+
+same-length-27 : tie.Need-same-length-27
+same-length-27 c = search needs
+
+returns-17 : tie.Need-returns-17
+returns-17 c =
+    let d = c .before .before in
+    let t = d .before .before .before .before .before in
+    let q = asked (t .before .before) in
+    replied q MeasureString (t .enum-told17 .given .1) refl (d .measure-string .ensures _ refl)
+
 pub serve-spec : {M : Type 1} → statement M
 serve-spec =
     tie.close
@@ -384,6 +434,13 @@ serve-spec =
     send-command-requires
     enum-told-15
     command-result-requires
+    enum-told-16
+    tell-table-requires
+    enum-told-17
+    sub-measure-string
+    part-measure-string-start
+    part-measure-string-end
+    measure-string-requires
     returns
     same-length
     returns-2
@@ -420,4 +477,11 @@ serve-spec =
     returns-14
     same-length-21
     same-length-22
-    returns-15)
+    returns-15
+    same-length-23
+    same-length-24
+    returns-16
+    same-length-25
+    same-length-26
+    same-length-27
+    returns-17)

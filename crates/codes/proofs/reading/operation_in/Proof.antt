@@ -49,7 +49,13 @@ returns-14 : tie.Need-returns-14
 returns-14 c = rw (c .match .keys14)
 
 returns-15 : tie.Need-returns-15
-returns-15 c = beyond operations Unserved (c .before .args .entry % 64) (c .match .rest)
+returns-15 c = rw (c .match .keys15)
+
+returns-16 : tie.Need-returns-16
+returns-16 c = rw (c .match .keys16)
+
+returns-17 : tie.Need-returns-17
+returns-17 c = beyond operations Unserved (c .before .args .entry % 64) (c .match .rest)
 
 pub operation-in-spec : {M : Type 1} → statement M
 operation-in-spec =
@@ -69,4 +75,6 @@ operation-in-spec =
     returns-12
     returns-13
     returns-14
-    returns-15)
+    returns-15
+    returns-16
+    returns-17)

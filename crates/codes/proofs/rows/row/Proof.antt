@@ -149,7 +149,19 @@ returns-35 c = rw (c .match .keys35)
 
 returns-36 : tie.Need-returns-36
 unfolding entryOf kindOf serviceOf
-returns-36 c = beyond rows lastRow (c .before .args .number) (c .match .rest)
+returns-36 c = rw (c .match .keys36)
+
+returns-37 : tie.Need-returns-37
+unfolding entryOf kindOf serviceOf
+returns-37 c = rw (c .match .keys37)
+
+returns-38 : tie.Need-returns-38
+unfolding entryOf kindOf serviceOf
+returns-38 c = rw (c .match .keys38)
+
+returns-39 : tie.Need-returns-39
+unfolding entryOf kindOf serviceOf
+returns-39 c = beyond rows lastRow (c .before .args .number) (c .match .rest)
 
 pub row-spec : {M : Type 1} → statement M
 row-spec =
@@ -190,4 +202,7 @@ row-spec =
     returns-33
     returns-34
     returns-35
-    returns-36)
+    returns-36
+    returns-37
+    returns-38
+    returns-39)

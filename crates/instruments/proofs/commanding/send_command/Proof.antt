@@ -10,7 +10,7 @@ use lib.Seq.{sets}
 use Rattle.document.specs.Numbers.{done, busy, layoutWrong}
 use Rattle.document.specs.declared.Operation.the-variants.{SendCommand}
 use Rattle.application.specs.State.{Command}
-use Rattle.state.specs.State.{gateOf}
+use Rattle.state.specs.State.{gateOf, withApplication}
 use Rattle.blocks.specs.Places.{bodyPlace, scopePlace}
 use Rattle.blocks.specs.Layout.{dataTo, decodedScope, decodedRecorder, decodedApplication, decodedInstruments, encodedInstruments}
 use Rattle.instruments.proofs.Changing.{operates, same-block}
@@ -41,7 +41,7 @@ returns c =
     let pending = sym (asked .is-pending .ensures) ∙ c .before .if1 .taken in
     let kept =
     same-block block (s .pre .0) (λ i. known .slice-known .given i .fits) _
-    (ap (λ (d : Command). record { scope = decodedScope block; recorder = decodedRecorder block; application = d }) (kept-busy body (decodedApplication block) pending)) in
+    (ap (λ (d : Command). withApplication (decodedInstruments block) d) (kept-busy body (decodedApplication block) pending)) in
     λ memory out service.
     operates SendCommand refl block memory service body busy _ out _
     (send-busy (gateOf (decodedInstruments block) memory) service body pending) (c .alone .ensures out) kept
@@ -64,7 +64,7 @@ returns-2 c =
     let empty : length (dataTo block (s .args .to)) ≡ 0 = omega (arith, width s, c .before .if2 .taken) in
     let kept =
     same-block block (s .pre .0) (λ i. known .slice-known .given i .fits) _
-    (ap (λ (d : Command). record { scope = decodedScope block; recorder = decodedRecorder block; application = d }) (kept-empty body (decodedApplication block) free empty)) in
+    (ap (λ (d : Command). withApplication (decodedInstruments block) d) (kept-empty body (decodedApplication block) free empty)) in
     λ memory out service.
     operates SendCommand refl block memory service body layoutWrong _ out _
     (send-empty (gateOf (decodedInstruments block) memory) service body free empty) (c .alone2 .ensures out) kept
@@ -92,7 +92,7 @@ returns-3 c =
     let filled : length (dataTo block (s .args .to)) ≡ 0 → ⊥ = λ none. some .if2 .left (omega (arith, width s, none, s .pre .1)) in
     let stored =
     sent .send .ensures
-    ∙ ap (λ (d : Command). sets block scopePlace (encodedInstruments (record { scope = decodedScope block; recorder = decodedRecorder block; application = d })))
+    ∙ ap (λ (d : Command). sets block scopePlace (encodedInstruments (withApplication (decodedInstruments block) d)))
     (sent-next body (decodedApplication block) free filled) in
     λ memory out service.
     operates SendCommand refl block memory service body done _ out _

@@ -7,7 +7,7 @@ use Rattle.runs.specs.declared.run.Run.{Run}
 use Rattle.recorder.specs.declared.state.Recorder.{Recorder}
 use Rattle.recorder.specs.State.{recorderOf}
 use Rattle.recorder.specs.Calls.{stopStatus, haltedState}
-use Rattle.state.specs.State.{gateOf}
+use Rattle.state.specs.State.{gateOf, withRecorder}
 use Rattle.blocks.specs.Places.{scopePlace, runPlace}
 use Rattle.blocks.specs.Layout.{decodedScope, decodedRecorder, decodedInstruments, decodedApplication, encodedRun, encodedInstruments}
 use Rattle.blocks.proofs.Stored.{run-stored}
@@ -45,7 +45,7 @@ returns c =
     put .put-run .ensures
     ∙ (λ i. sets block runPlace (encodedRun (next i .run)))
     ∙ run-stored block (known .before .pre) (λ i. known .slice-known .given i .fits) (haltedState (decodedRecorder block) .run)
-    ∙ (λ i. sets block scopePlace (encodedInstruments (record { scope = decodedScope block; recorder = halted-run (decodedRecorder block) i; application = decodedApplication block }))) in
+    ∙ (λ i. sets block scopePlace (encodedInstruments (withRecorder (decodedInstruments block) (halted-run (decodedRecorder block) i)))) in
     λ memory out s body.
     operates Stop refl block memory s body (done .stop .result .status) _ out _
     (ap alone status ∙ recorder-stopped (gateOf (decodedInstruments block) memory) s body) (c .alone .ensures out) stored

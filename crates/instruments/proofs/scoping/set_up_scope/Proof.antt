@@ -11,7 +11,7 @@ use Rattle.document.specs.declared.Operation.the-variants.{SetUpScope}
 use Rattle.scope.specs.declared.Scope.{Scope}
 use Rattle.scope.specs.Setup.{setUpStatus, setUpNext}
 use Rattle.outcomes.specs.Known.{knownAs}
-use Rattle.state.specs.State.{gateOf}
+use Rattle.state.specs.State.{gateOf, withScope}
 use Rattle.target.specs.After.{instrumentsAfter}
 use Rattle.blocks.specs.Places.{scopePlace}
 use Rattle.blocks.specs.Layout.{dataTo, decodedScope, decodedRecorder, decodedApplication, decodedInstruments, encodedInstruments}
@@ -65,13 +65,13 @@ module _ (d : tie.After-set-up) where
   kept : (d .set-up .result .status ≡ done → ⊥) → block ≡ sets block scopePlace (encodedInstruments (instrumentsAfter SetUpScope (decodedInstruments block) service told))
   kept wrong =
       let same = scope-refused (decodedScope block) (service .ex) told (λ e. wrong (status ∙ e)) in
-      same-block block (begun .pre .0) (λ i. looked .before .before .slice-known .given i .fits) _ (λ i. record { scope = same i; recorder = decodedRecorder block; application = decodedApplication block })
+      same-block block (begun .pre .0) (λ i. looked .before .before .slice-known .given i .fits) _ (λ i. withScope (decodedInstruments block) (same i))
 
-  stored : (after : List ℕ) → after ≡ sets block scopePlace (encodedInstruments (record { scope = d .set-up .result .next; recorder = decodedRecorder block; application = decodedApplication block }))
+  stored : (after : List ℕ) → after ≡ sets block scopePlace (encodedInstruments (withScope (decodedInstruments block) (d .set-up .result .next)))
       → after ≡ sets block scopePlace (encodedInstruments (instrumentsAfter SetUpScope (decodedInstruments block) service told))
   stored after e =
       let next = d .set-up .ensures .next ∙ ap (λ (q : Scope). setUpNext q (service .ex) told) is in
-      e ∙ (λ i. sets block scopePlace (encodedInstruments (record { scope = next i; recorder = decodedRecorder block; application = decodedApplication block })))
+      e ∙ (λ i. sets block scopePlace (encodedInstruments (withScope (decodedInstruments block) (next i))))
 
 alone-requires : tie.Need-alone-requires
 alone-requires c κs = search needs

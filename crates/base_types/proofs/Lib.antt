@@ -1,0 +1,2 @@
+-- What a search of the table finds.
+pub mod Search

@@ -1,0 +1,79 @@
+-- What 0x11 answers, by the bytes of the block.
+use mathlib.Core.Path.{_≡_, refl, sym, ap, _∙_}
+use mathlib.Core.Bool.{true}
+use mathlib.Core.List.{List, [], _∷_}
+use Prim.Native.Nat.{ℕ, _+_, _*_, _<_, _≤_}
+use native.Mathlib.Omega.{arith}
+use borrow.Author.Tests.{eq-eqb, ne-eqb}
+use lib.ListN.{length, getD, take, drop, replicate, length-take}
+use lib.Seq.{getD-take, getD-drop}
+use Rattle.document.specs.Numbers.{done, layoutWrong}
+use Rattle.document.specs.Areas.{bytesAt}
+use Rattle.document.specs.Values.{number}
+use Rattle.document.specs.Tables.{pairSize, tableAnswer}
+use Rattle.document.specs.Gate.{Gate}
+use Rattle.document.specs.Commands.{served}
+use Rattle.document.specs.declared.Operation.the-variants.{TellTable}
+use Rattle.document.specs.declared.Service.{Service}
+use Rattle.outcomes.specs.Known.{knownAs}
+use Rattle.block_fields.proofs.Ranges.{bytes-length}
+use Rattle.block_fields.proofs.Numbers.{small-part}
+use Rattle.tables.specs.State.{listLength, tablesOf}
+use Rattle.tables.proofs.Told.{toldAt, told-there, told-none}
+use Rattle.blocks.specs.Places.{listPlace, stateLength}
+use Rattle.blocks.specs.Layout.{decodedTables}
+use Rattle.instruments.proofs.Statuses.{alone}
+
+module _ (block : List ℕ) (index : ℕ) where
+  abbrev answer : List ℕ
+  answer = tableAnswer (tablesOf (decodedTables block)) index
+
+  beyond : length (take (decodedTables block .count * pairSize) (decodedTables block .list)) < (index + 1) * pairSize → replicate 6 0 ≡ answer
+  beyond short = sym (told-none (take (decodedTables block .count * pairSize) (decodedTables block .list)) index short)
+
+  -- beyond the last
+  pub behind-last : decodedTables block .count ≤ index → replicate 6 0 ≡ answer
+  behind-last h = beyond (simp length-take (omega (arith, h)))
+
+  module _ (long : stateLength ≤ length block) where
+    room : length (decodedTables block .list) ≡ listLength
+    unfolding decodedTables
+    room = bytes-length block listPlace listLength (omega arith)
+
+    -- beyond what the list has room for
+    pub behind-room : 16 ≤ index → replicate 6 0 ≡ answer
+    behind-room h = beyond (simp length-take (omega (arith, h, room)))
+
+    module _ (small : (i : ℕ) → getD block i 0 < 256) (few : index < 16) where
+      byte : (k : ℕ) → k < listLength → getD (decodedTables block .list) k 0 ≡ getD block (listPlace + k) 0
+      unfolding decodedTables
+      byte k h = getD-take listLength (drop listPlace block) k 0 h ∙ getD-drop listPlace block k 0
+
+      bytes : (i : ℕ) → getD (decodedTables block .list) i 0 < 256
+      unfolding decodedTables
+      bytes i = small-part block small listPlace listLength i
+
+      place : (k j : ℕ) → k ≡ j → getD block k 0 ≡ getD block j 0
+      place k j e = ap (λ (n : ℕ). getD block n 0) e
+
+      pub at-index : index < decodedTables block .count → (at : ℕ) → at ≡ listPlace + index * pairSize
+          → 2 ∷ 0 ∷ getD block (at + 2) 0 ∷ getD block (at + 3) 0 ∷ getD block at 0 ∷ getD block (at + 1) 0 ∷ [] ≡ answer
+      at-index h at e =
+          let k : ℕ = index * pairSize in
+          let b0 = place at (listPlace + k) (omega (arith, e)) ∙ sym (byte k (omega arith)) in
+          let b1 = place (at + 1) (listPlace + (k + 1)) (omega (arith, e)) ∙ sym (byte (k + 1) (omega arith)) in
+          let b2 = place (at + 2) (listPlace + (k + 2)) (omega (arith, e)) ∙ sym (byte (k + 2) (omega arith)) in
+          let b3 = place (at + 3) (listPlace + (k + 3)) (omega (arith, e)) ∙ sym (byte (k + 3) (omega arith)) in
+          (λ i. 2 ∷ 0 ∷ b2 i ∷ b3 i ∷ b0 i ∷ b1 i ∷ [])
+          ∙ told-there (decodedTables block .list) (decodedTables block .count) index bytes h (omega (arith, room))
+
+-- ---- 0x11
+
+module _ (g : Gate) (s : Service) (body : List ℕ) where
+  pub table-layout : (length body ≡ 2 → ⊥) → alone layoutWrong ≡ served g (knownAs TellTable s) body .answer
+  unfolding served
+  table-layout other = rw (ne-eqb (length body) 2 other) refl
+
+  pub table-told : length body ≡ 2 → record { status = done; body = tableAnswer (g .tables) (number body) } ≡ served g (knownAs TellTable s) body .answer
+  unfolding served
+  table-told two = rw (eq-eqb (length body) 2 two) refl

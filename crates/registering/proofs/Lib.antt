@@ -1,0 +1,2 @@
+-- Registering, store by store and number by number.
+pub mod Registered

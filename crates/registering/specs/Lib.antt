@@ -1,0 +1,2 @@
+-- What registering promises.
+pub mod Promises

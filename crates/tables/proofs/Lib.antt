@@ -1,0 +1,2 @@
+-- What a technician is told of a list.
+pub mod Told

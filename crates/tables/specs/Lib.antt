@@ -1,0 +1,2 @@
+-- The registered tables in the target's state.
+pub mod State
