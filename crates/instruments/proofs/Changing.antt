@@ -21,24 +21,20 @@ use Rattle.recorder.specs.Calls.{startStatus, stopStatus, startedState, haltedS
 use Rattle.outcomes.specs.Known.{knownAs}
 use Rattle.outcomes.specs.Changes.{changeOf, leavesMemory}
 use Rattle.outcomes.proofs.Served.{served-memory-kept}
-use Rattle.answers.specs.declared.Reply.{Reply}
-use Rattle.answers.specs.IsReply.{IsReply}
-use Rattle.answers.proofs.Replies.{reply-as}
 use Rattle.state.specs.State.{Instruments, gateOf}
 use Rattle.target.specs.After.{instrumentsAfter}
 use Rattle.blocks.specs.Places.{scopePlace, stateLength}
 use Rattle.blocks.specs.Layout.{decodedInstruments, encodedInstruments}
 use Rattle.blocks.proofs.Stored.{same-instruments}
-use Rattle.instruments.specs.Operates.{Operates}
-use Rattle.instruments.proofs.Statuses.{alone}
+use Rattle.instruments.specs.Operates.{alone, Settles}
 
-pub operates : (o : Operation) → leavesMemory (changeOf o) ≡ true → (block memory : List ℕ) (s : Service) (body : List ℕ) (status : ℕ) (r : Reply) (out after : List ℕ)
-    → alone status ≡ served (gateOf (decodedInstruments block) memory) (knownAs o s) body .answer → IsReply (alone status) r out
+pub settles : (o : Operation) → leavesMemory (changeOf o) ≡ true → (block memory : List ℕ) (s : Service) (body : List ℕ) (status : ℕ) (after : List ℕ)
+    → alone status ≡ served (gateOf (decodedInstruments block) memory) (knownAs o s) body .answer
     → after ≡ sets block scopePlace (encodedInstruments (instrumentsAfter o (decodedInstruments block) s body))
-    → Operates (served (gateOf (decodedInstruments block) memory) (knownAs o s) body) (instrumentsAfter o (decodedInstruments block) s body) block r out after memory
-operates o leaves block memory s body status r out after said reply stored =
+    → Settles (served (gateOf (decodedInstruments block) memory) (knownAs o s) body) (instrumentsAfter o (decodedInstruments block) s body) block status after memory
+settles o leaves block memory s body status after said stored =
     record {
-      reply = reply-as _ _ said reply;
+      answer = said;
       memory = sym (served-memory-kept (gateOf (decodedInstruments block) memory) (knownAs o s) body leaves);
       kept = stored;
     }

@@ -16,7 +16,7 @@ use Rattle.document.specs.declared.Service.{Service}
 use Rattle.document.proofs.Cases.{split, neither}
 use Rattle.application.specs.State.{isNone, isWaiting, isCollected, Command, applicationOf, sendNext, sentCommand}
 use Rattle.outcomes.specs.Known.{knownAs}
-use Rattle.instruments.proofs.Statuses.{alone}
+use Rattle.instruments.specs.Operates.{alone}
 
 -- ---- 0x10
 

@@ -3,15 +3,11 @@
 mod commanding;
 mod listing;
 mod recording;
-mod scoping;
 
 pub use commanding::command_result;
 pub use commanding::send_command;
 pub use listing::tell_table;
 pub use recording::query_buffer;
-pub use recording::set_up_recorder;
 pub use recording::start;
 pub use recording::status;
 pub use recording::stop;
-pub use scoping::read_scope;
-pub use scoping::set_up_scope;

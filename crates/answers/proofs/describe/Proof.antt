@@ -19,4 +19,5 @@ unfolding served
 returns c = λ g s body. c .before .before .done-with .ensures
 
 pub describe-spec : {M : Type 1} → statement M
-describe-spec = tie.close (tie.spec slice-aggregate-done-with done-with-requires same-length returns)
+describe-spec =
+    tie.close (tie.spec slice-aggregate-done-with done-with-requires same-length returns)

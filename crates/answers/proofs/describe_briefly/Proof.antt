@@ -22,4 +22,11 @@ unfolding served
 returns c = λ g s body. c .before .before .done-with .ensures
 
 pub describe-briefly-spec : {M : Type 1} → statement M
-describe-briefly-spec = tie.close (tie.spec array-share-prefix-done-with slice-aggregate-done-with done-with-requires same-length returns)
+describe-briefly-spec =
+    tie.close
+    (tie.spec
+    array-share-prefix-done-with
+    slice-aggregate-done-with
+    done-with-requires
+    same-length
+    returns)
