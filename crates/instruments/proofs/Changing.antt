@@ -1,9 +1,8 @@
 -- A command that changes scope or recorder and says a status alone.
 use mathlib.Core.Path.{_≡_, refl, sym, ap, _∙_}
-use mathlib.Core.Bool.{Bool, true}
+use mathlib.Core.Bool.{true}
 use mathlib.Core.List.{List}
 use Prim.Native.Nat.{ℕ, _<_, _≤_}
-use borrow.Author.Tests.{ne-eqb}
 use lib.Dec.{eqb}
 use lib.ListN.{length, getD}
 use lib.Seq.{sets}
@@ -12,9 +11,6 @@ use Rattle.document.specs.Commands.{served}
 use Rattle.document.specs.declared.Operation.{Operation}
 use Rattle.document.specs.declared.Service.{Service}
 use Rattle.document.proofs.Cases.{split}
-use Rattle.scope.specs.declared.Scope.{Scope}
-use Rattle.scope.specs.Setup as scope
-use Rattle.recorder.specs.Setup as recorder
 use Rattle.recorder.specs.declared.state.Recorder.{Recorder}
 use Rattle.recorder.specs.State.{recorderOf}
 use Rattle.recorder.specs.Calls.{startStatus, stopStatus, startedState, haltedState}
@@ -44,15 +40,6 @@ pub same-block : (block : List ℕ) → stateLength ≤ length block → ((i : �
     → block ≡ sets block scopePlace (encodedInstruments next)
 same-block block long small next kept =
     sym (same-instruments block long small) ∙ ap (λ (k : Instruments). sets block scopePlace (encodedInstruments k)) kept
-
--- a refused setup leaves what was set up
-pub scope-refused : (s : Scope) (ex : Bool) (body : List ℕ) → (scope.setUpStatus ex body ≡ done → ⊥) → s ≡ scope.setUpNext s ex body
-unfolding scope.setUpNext
-scope-refused s ex body wrong = rw (ne-eqb (scope.setUpStatus ex body) done wrong) refl
-
-pub recorder-refused : (r : Recorder) (ex : Bool) (body : List ℕ) → (recorder.setUpStatus (recorderOf r) ex body ≡ done → ⊥) → r ≡ recorder.setUpNext r ex body
-unfolding recorder.setUpNext
-recorder-refused r ex body wrong = rw (ne-eqb (recorder.setUpStatus (recorderOf r) ex body) done wrong) refl
 
 -- a start and a stop change the run alone
 pub started-run : (r : Recorder) → record { ready = r .ready; plan = r .plan; run = startedState r .run } ≡ startedState r

@@ -1,4 +1,4 @@
-// The scope, the recorder, the application command and the tables in the block that holds the state, as their commands ask for them.
+// The recorder, the application command and the tables in the block that holds the state, as their commands ask for them.
 // Each command takes out what it looks at, and stores what it changes.
 mod commanding;
 mod listing;
@@ -8,6 +8,7 @@ pub use commanding::command_result;
 pub use commanding::send_command;
 pub use listing::tell_table;
 pub use recording::query_buffer;
+pub use recording::set_up_recorder;
 pub use recording::start;
 pub use recording::status;
 pub use recording::stop;

@@ -8,23 +8,38 @@ ghost use Rattle.document.specs.Numbers.{answerRoom, done};
 ghost use Rattle.document.specs.Values.{littleEndian};
 ghost use Rattle.document.specs.Variables.{addressWidth};
 ghost use Rattle.document.specs.Commands.{served};
-ghost use Rattle.document.specs.declared.Operation.the-variants.{Start, Stop, Status, QueryBuffer};
+ghost use Rattle.document.specs.declared.Operation.the-variants.{SetUpRecorder, Start, Stop, Status, QueryBuffer};
 ghost use Rattle.document.specs.declared.Service.{Service};
 ghost use Rattle.outcomes.specs.Known.{knownAs};
 ghost use Rattle.line.specs.Told.{Told};
 ghost use Rattle.state.specs.State.{gateOf};
 ghost use Rattle.target.specs.After.{instrumentsAfter};
-ghost use Rattle.blocks.specs.Places.{stateLength};
-ghost use Rattle.blocks.specs.Layout.{decodedInstruments};
+ghost use Rattle.blocks.specs.Places.{bodyPlace, scopePlace, stateLength};
+ghost use Rattle.blocks.specs.Layout.{dataTo, decodedInstruments};
 ghost use Rattle.instruments.specs.Operates.{alone, Settles};
 use answers::alone;
 use answers::done_three_words;
 use answers::done_two_words;
+use blocks::BODY;
 use blocks::put_run;
 use blocks::recorder_in;
 use codes::DONE;
 use document::Service;
 use memory::BUFFER_BEGIN;
+use storing::store_recorder;
+
+// The message's data stand in the block, up to a place. What is refused stores nothing.
+pub fn set_up_recorder(state: &mut [u8], service: Service, to: usize) -> u8
+    requires { ⌜ (stateLength ≤ length (now state)) × (bodyPlace ≤ to) × (to ≤ scopePlace) ⌝ }
+    ensures { λ r. ⌜ ((memory : List ℕ) → Settles (served (gateOf (decodedInstruments (now (state .entry))) memory) (knownAs SetUpRecorder service) (dataTo (now (state .entry)) to)) (instrumentsAfter SetUpRecorder (decodedInstruments (now (state .entry))) service (dataTo (now (state .entry)) to)) (now (state .entry)) r (now (state .exit)) memory) ⌝ }
+{
+    let status = recorder_in(state).set_up_status(service.ex, &state[BODY..to]);
+    if status != DONE {
+        return status;
+    }
+    store_recorder(state, service.ex, to);
+    DONE
+}
 
 // A start and a stop leave the plan as it is.
 pub fn start(state: &mut [u8]) -> u8

@@ -68,7 +68,7 @@ fn is_trigger_size_wrong(mode: u8, size: u8) -> bool
     !is_trigger_size(size)
 }
 
-// The count is right.
+// Of variables whose count is right.
 fn is_size_wrong(ex: bool, body: &[u8], seen: Surveyed) -> bool
     requires { ⌜ (headWidth ex ≤ length (now body)) × (seen .size ≤ 2040) ⌝ }
     ensures { λ r. ⌜ r ≡ seenSizeWrong ex (now (body .entry)) seen ⌝ }
