@@ -7,12 +7,11 @@ ghost use lib.ListN.{length};
 ghost use Rattle.document.specs.Numbers.{mostData, answerRoom, done};
 ghost use Rattle.document.specs.Gate.{Gate};
 ghost use Rattle.document.specs.Commands.{served};
-ghost use Rattle.document.specs.declared.Operation.the-variants.{Unserved, Describe, DescribeBriefly};
+ghost use Rattle.document.specs.declared.Operation.the-variants.{Describe, DescribeBriefly};
 ghost use Rattle.document.specs.declared.Service.{Service};
 ghost use Rattle.outcomes.specs.Known.{knownAs};
 ghost use Rattle.line.specs.Told.{Told};
 use codes::DONE;
-use codes::NOT_SERVED;
 use line::tell;
 pub use words::done_three_words;
 pub use words::done_two_words;
@@ -31,13 +30,6 @@ pub fn done_with(bytes: &[u8], out: &mut [u8]) -> usize
     ensures { λ r. ⌜ Told (record { status = done; body = now (bytes .entry) }) (now (out .entry)) r (now (out .exit)) ⌝ }
 {
     tell(DONE, bytes, out)
-}
-
-pub fn unserved(out: &mut [u8]) -> usize
-    requires { ⌜ answerRoom ≤ length (now out) ⌝ }
-    ensures { λ r. ⌜ ((g : Gate) (s : Service) (body : List ℕ) → Told (served g (knownAs Unserved s) body .answer) (now (out .entry)) r (now (out .exit))) ⌝ }
-{
-    alone(NOT_SERVED, out)
 }
 
 // The gate describes itself: protocol version 3, little-endian, one byte at an address, version 1.0, data of 64 bytes, a
