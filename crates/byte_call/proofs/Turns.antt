@@ -23,7 +23,6 @@ use Rattle.blocks.specs.Layout.{decodedReceiver, decodedBody, decodedInstrument
 use Rattle.blocks.specs.Places.{bodyPlace, stateLength}
 use Rattle.blocks.proofs.Stored.{quiet-stored, keep-stored, answered-stored}
 use Rattle.checks.specs.Promises.{byteNumber}
-use Rattle.byte_call.specs.declared.Taken.{Taken}
 use Rattle.byte_call.specs.Promises.{Turned, ByteTaken}
 
 module _ (block : List ℕ) (b : ℕ) (memory buffer : List ℕ) where

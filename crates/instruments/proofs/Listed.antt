@@ -37,9 +37,10 @@ module _ (block : List ℕ) (index : ℕ) where
   isListed = ltb index (decodedTables block .count) && ltb index mostTables
 
   pub listed-below : isListed ≡ true → (index < decodedTables block .count) × (index < mostTables)
-  listed-below e =
-      (ltb-true index (decodedTables block .count) (and-left (ltb index (decodedTables block .count)) (ltb index mostTables) e),
-      ltb-true index mostTables (and-right (ltb index (decodedTables block .count)) (ltb index mostTables) e))
+  listed-below e = (
+    ltb-true index (decodedTables block .count) (and-left (ltb index (decodedTables block .count)) (ltb index mostTables) e),
+    ltb-true index mostTables (and-right (ltb index (decodedTables block .count)) (ltb index mostTables) e),
+  )
 
   module _ (long : stateLength ≤ length block) where
     room : length (decodedTables block .list) ≡ listLength

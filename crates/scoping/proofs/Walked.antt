@@ -1,10 +1,10 @@
 -- The scope's variables, walked through where they lie: what is left of them, and what it gives.
 use mathlib.Core.Path.{_≡_, sym, ap, _∙_}
-use mathlib.Core.Bool.{true, not, _&&_}
+use mathlib.Core.Bool.{true, not}
 use mathlib.Core.List.{List, _∷_, _++_}
 use Prim.Native.Nat.{ℕ, _+_, _-_, _<_, _≤_}
 use lib.Dec.{leb}
-use lib.ListN.{length, getD, drop}
+use lib.ListN.{getD, drop}
 use lib.Seq.{sets}
 use borrow.Author.Tests.{leb-true}
 use Rattle.document.specs.Areas.{memoryEnd, mayBeRead, bytesAt}

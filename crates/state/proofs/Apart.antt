@@ -1,17 +1,15 @@
 -- Two sound states that differ in anything that is looked at stand for different gates: what a state stands for hides nothing.
 use mathlib.Core.Path.{_≡_, refl, sym, ap, _∙_}
-use mathlib.Core.Bool.{true, not, _&&_}
+use mathlib.Core.Bool.{true, not}
 use mathlib.Core.List.{List, [], _∷_, _++_}
-use Prim.Native.Nat.{ℕ, zero, suc, _*_, _/_, _≤_, _<_}
+use Prim.Native.Nat.{ℕ, zero, suc, _*_, _/_, _≤_}
 use native.Mathlib.Omega.{arith}
 use borrow.Author.Tests.{eqb-true, eqb-false, leb-true}
 use lib.Dec.{eqb, leb}
 use lib.ListN.{length, replicate, take, drop, length-take}
 use Rattle.document.specs.Numbers.{mostData}
 use Rattle.document.specs.Bytes.{AllBytes}
-use Rattle.document.specs.Values.{number, littleEndian}
 use Rattle.document.specs.Tables.{mostTables, pairSize, tablesIn}
-use Rattle.document.specs.declared.Variable.{Variable}
 use Rattle.document.proofs.Cases.{split, and-left, and-right}
 use Rattle.variables.specs.State.{kept}
 use Rattle.scope.specs.declared.Scope.{Scope}

@@ -1,5 +1,4 @@
 -- The bytes are the document's, by computation.
-use native.Mathlib.Omega.{arith}
 use borrow.Author.Needs.{needs}
 use Rattle.document.specs.Commands.{served}
 use Rattle.answers.proofs.describe_briefly.Statement.{statement}

@@ -1,5 +1,4 @@
 -- The quarter is its rule at every command, by one computation.
-use Prim.Native.Nat.{ℕ, _+_}
 use borrow.Author.Needs.{needs}
 use Rattle.document.specs.Kinds.{kindOf}
 use Rattle.document.specs.Services.{serviceOf}

@@ -4,7 +4,6 @@ use mathlib.Core.List.{[], _∷_}
 use Prim.Native.Nat.{ℕ}
 use borrow.Author.Needs.{needs}
 use Rattle.document.specs.Numbers.{done}
-use Rattle.document.specs.Answer.{Answer}
 use Rattle.line.proofs.Writing.{told-as}
 use Rattle.state.specs.State.{gateOf}
 use Rattle.blocks.specs.Layout.{decodedInstruments}

@@ -1,8 +1,6 @@
 -- Refused, the block stays; else the command is stored.
 use mathlib.Core.Path.{_≡_, refl, sym, ap, _∙_}
-use mathlib.Core.Bool.{Bool, true, false}
-use mathlib.Core.List.{List}
-use Prim.Native.Nat.{ℕ, _-_}
+use Prim.Native.Nat.{_-_}
 use native.Mathlib.Omega.{arith}
 use borrow.Author.Needs.{needs}
 use lib.ListN.{length, length-take, length-drop}
@@ -12,7 +10,7 @@ use Rattle.document.specs.declared.Operation.the-variants.{SendCommand}
 use Rattle.application.specs.State.{Command}
 use Rattle.state.specs.State.{gateOf, withApplication}
 use Rattle.blocks.specs.Places.{bodyPlace, scopePlace}
-use Rattle.blocks.specs.Layout.{dataTo, decodedScope, decodedRecorder, decodedApplication, decodedInstruments, encodedInstruments}
+use Rattle.blocks.specs.Layout.{dataTo, decodedApplication, decodedInstruments, encodedInstruments}
 use Rattle.instruments.proofs.Changing.{settles, same-block}
 use Rattle.instruments.proofs.Sending.{send-busy, send-empty, send-done, kept-busy, kept-empty, sent-next}
 use Rattle.instruments.proofs.commanding.send_command.Statement.{statement}

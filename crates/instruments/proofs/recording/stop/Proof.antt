@@ -3,13 +3,12 @@ use mathlib.Core.Path.{refl, ap, _∙_}
 use borrow.Author.Needs.{needs}
 use lib.Seq.{sets}
 use Rattle.document.specs.declared.Operation.the-variants.{Stop}
-use Rattle.runs.specs.declared.run.Run.{Run}
 use Rattle.recorder.specs.declared.state.Recorder.{Recorder}
 use Rattle.recorder.specs.State.{recorderOf}
 use Rattle.recorder.specs.Calls.{stopStatus, haltedState}
 use Rattle.state.specs.State.{gateOf, withRecorder}
 use Rattle.blocks.specs.Places.{scopePlace, runPlace}
-use Rattle.blocks.specs.Layout.{decodedScope, decodedRecorder, decodedInstruments, decodedApplication, encodedRun, encodedInstruments}
+use Rattle.blocks.specs.Layout.{decodedRecorder, decodedInstruments, encodedRun, encodedInstruments}
 use Rattle.blocks.proofs.Stored.{run-stored}
 use Rattle.instruments.specs.Operates.{alone}
 use Rattle.instruments.proofs.Statuses.{recorder-stopped}

@@ -1,10 +1,7 @@
 -- An answer is told front, data, sum byte; with few data it is short enough for the room.
-use mathlib.Core.Path.{_∙_}
 use mathlib.Core.List.{[], _∷_}
-use Prim.Native.Nat.{_+_, _≤_}
 use native.Mathlib.Omega.{arith}
 use borrow.Author.Needs.{needs}
-use lib.ListN.{length}
 use Rattle.document.specs.Sum.{sumByteOf}
 use Rattle.line.specs.Told.{Telling}
 use Rattle.line.proofs.Writing.{put-append, telling-room, told-in-parts}

@@ -16,7 +16,7 @@ use Rattle.outcomes.specs.Known.{knownAs}
 use Rattle.state.specs.State.{gateOf, withScope}
 use Rattle.target.specs.After.{instrumentsAfter}
 use Rattle.blocks.specs.Places.{scopePlace}
-use Rattle.blocks.specs.Layout.{dataTo, decodedScope, decodedRecorder, decodedApplication, decodedInstruments, encodedInstruments}
+use Rattle.blocks.specs.Layout.{dataTo, decodedScope, decodedInstruments, encodedInstruments}
 use Rattle.instruments.specs.Operates.{alone}
 use Rattle.instruments.proofs.Changing.{settles, same-block}
 use Rattle.scoping.proofs.Statuses.{scope-set-up}
