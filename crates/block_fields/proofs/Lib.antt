@@ -1,3 +1,4 @@
--- Bytes of a block by their places, and the numbers that they are.
+-- Bytes of a block by their places, the numbers that they are, and definitions.
 pub mod Ranges
 pub mod Numbers
+pub mod Definitions

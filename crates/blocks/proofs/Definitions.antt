@@ -1,39 +1,23 @@
 -- Definitions in a block, one behind the other: read, and kept.
-use mathlib.Core.Path.{_≡_, refl, sym, ap, _∙_}
-use mathlib.Core.Bool.{Bool, true, false, not, _&&_, _||_}
-use mathlib.Core.List.{List, [], _∷_, _++_}
+use mathlib.Core.Path.{_≡_, refl, ap, _∙_}
+use mathlib.Core.Bool.{true}
+use mathlib.Core.List.{List, _∷_, _++_}
 use Prim.Native.Nat.{ℕ, zero, suc, _+_, _-_, _*_, _<_, _≤_}
-use native.Mathlib.Nat.{add-zero}
 use native.Mathlib.Numerals.{add-one}
 use native.Mathlib.Omega.{arith}
 use lib.ListN.{length, getD, set, take, drop}
-use lib.Seq.{sets, drop-cons, drop-drop, getD-drop}
-use lib.Dec.{eqb}
-use borrow.Author.Tests.{eq-eqb, ne-eqb}
+use lib.Seq.{sets, drop-drop}
 use Rattle.document.specs.Areas.{bytesAt}
-use Rattle.document.specs.Values.{number, littleEndian}
 use Rattle.document.specs.declared.Variable.{Variable}
-use Rattle.document.specs.Variables.{anySizeZero, setSize, definitionIn, definitionsIn}
-use Rattle.variables.specs.State.{upTo}
+use Rattle.document.specs.Variables.{definitionIn, definitionsIn}
 use Rattle.blocks.specs.Layout.{encodedDefinitions}
 use Rattle.block_fields.proofs.Ranges.{bytes-cons, bytes-append}
 use Rattle.block_fields.proofs.Numbers.{number-kept}
+use Rattle.block_fields.proofs.Definitions.{definition-here}
 
 -- ---- read
 
-pub definition-here : (part : List ℕ) (at : ℕ)
-    → definitionIn true (drop at part) ≡ record { size = getD part at 0; address = number (bytesAt part (at + 1) 4) }
-definition-here part at = rw (getD-drop at part 0 0, add-zero at, drop-drop 1 at part)
-
 module _ (part : List ℕ) (at k : ℕ) where
-  -- the first, and those behind it
-  pub definitions-first : (left : ℕ) → 0 < left
-      → definitionsIn true left (drop at part) ≡ definitionIn true (drop at part) ∷ definitionsIn true (left - 1) (drop (at + 5) part)
-  definitions-first left h =
-      let m : left ≡ suc (left - 1) = omega arith in
-      ap (λ (n : ℕ). definitionsIn true n (drop at part)) m
-      ∙ ap (λ (l : List ℕ). definitionIn true (drop at part) ∷ definitionsIn true (left - 1) l) (drop-drop 5 at part)
-
   -- a turn of the reading
   pub definitions-read : (list : List Variable) (v : Variable) → k < 8 → v ≡ definitionIn true (drop at part)
       → sets (set list k v) (k + 1) (definitionsIn true (8 - (k + 1)) (drop (at + 5) part)) ≡ sets list k (definitionsIn true (8 - k) (drop at part))
@@ -49,14 +33,6 @@ definitions-take (suc count) (suc n) part h =
     ap (λ (vs : List Variable). definitionIn true part ∷ vs) (definitions-take count n (drop 5 part) (omega arith))
 
 -- ---- kept
-
--- a turn of the writing: the first is stored, those behind it are left
-pub definitions-put : (list : List Variable) (block : List ℕ) (at k : ℕ) (d : Variable) → k < length list → d ≡ getD list k (record { address = 0; size = 0 })
-    → sets (sets (set block at (d .size)) (at + 1) (littleEndian 4 (d .address))) (at + 5) (encodedDefinitions (drop (k + 1) list)) ≡ sets block at (encodedDefinitions (drop k list))
-definitions-put list block at k d h e =
-    let f : at + 1 ≡ suc at = omega arith in
-    let g : at + 5 ≡ suc (suc (suc (suc (suc at)))) = omega arith in
-    rw (f, g, add-one k, drop-cons list k (record { address = 0; size = 0 }) h, ← e)
 
 -- what was read is kept in the bytes that it was read from
 pub definitions-kept : (n : ℕ) (l : List ℕ) (at : ℕ) → ((i : ℕ) → getD l i 0 < 256) → at + n * 5 ≤ length l

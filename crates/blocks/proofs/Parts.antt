@@ -1,9 +1,9 @@
--- The parts of a state one behind the other: how long each is, and that stores of the parts are a store of the whole.
-use mathlib.Core.Path.{_≡_, refl, sym, ap, _∙_}
+-- The parts of a state one behind the other: how long each is, and that two stores that meet are one.
+use mathlib.Core.Path.{_≡_, refl, ap, _∙_}
 use mathlib.Core.List.{List, [], _∷_, _++_}
 use Prim.Native.Nat.{ℕ, _+_, _*_}
 use native.Mathlib.Omega.{arith}
-use lib.ListN.{length, set, replicate, length-append}
+use lib.ListN.{length, replicate, length-append}
 use lib.Seq.{sets}
 use Rattle.document.specs.declared.Variable.{Variable}
 use Rattle.variables.specs.declared.Variables.{Variables}
@@ -15,8 +15,8 @@ use Rattle.application.specs.State.{Command}
 use Rattle.tables.specs.State.{Registered, listLength}
 use Rattle.state.specs.Bounds.{fresh}
 use Rattle.memory.proofs.Copies.{stored-append}
-use Rattle.blocks.specs.Layout.{encodedDefinitions, encodedVariables, encodedNumbers, encodedRun, encodedReceiver, encodedScope, encodedRecorder, encodedApplication, encodedTables, encoded}
-use Rattle.blocks.specs.Places.{receiverLength, variablesLength, numbersLength, recorderLength, applicationLength, tablesLength, recorderPlace, planPlace, recordedPlace, runPlace, stateLength}
+use Rattle.blocks.specs.Layout.{encodedDefinitions, encodedVariables, encodedRun, encodedReceiver, encodedScope, encodedRecorder, encodedApplication, encodedTables, encoded}
+use Rattle.blocks.specs.Places.{receiverLength, variablesLength, recorderLength, applicationLength, tablesLength, stateLength}
 
 pub definitions-length : (vs : List Variable) → length (encodedDefinitions vs) ≡ length vs * 5
 definitions-length [] = refl
@@ -48,15 +48,6 @@ tables-length r e = omega (arith, e)
 -- two stores, the second where the first ends
 pub sets-two : (l xs ys : List ℕ) (i n j : ℕ) → length xs ≡ n → i + n ≡ j → sets l i (xs ++ ys) ≡ sets (sets l i xs) j ys
 sets-two l xs ys i n j e f = stored-append xs ys l i ∙ ap (λ (k : ℕ). sets (sets l i xs) k ys) (omega arith)
-
-pub recorder-put : (l : List ℕ) (r : Recorder) → length (r .plan .variables .list) ≡ 8
-    → sets (sets (sets (set l recorderPlace (r .ready)) planPlace (encodedNumbers (r .plan))) recordedPlace (encodedVariables (r .plan .variables))) runPlace (encodedRun (r .run))
-    ≡ sets l recorderPlace (encodedRecorder r)
-unfolding encodedRecorder
-recorder-put l r e =
-    sym
-    (sets-two (set l recorderPlace (r .ready)) (encodedNumbers (r .plan)) (encodedVariables (r .plan .variables) ++ encodedRun (r .run)) planPlace numbersLength recordedPlace refl refl
-    ∙ sets-two (sets (set l recorderPlace (r .ready)) planPlace (encodedNumbers (r .plan))) (encodedVariables (r .plan .variables)) (encodedRun (r .run)) recordedPlace variablesLength runPlace (variables-length (r .plan .variables) e) refl)
 
 -- reset is all zeros
 pub fresh-zeros : replicate stateLength 0 ≡ encoded fresh

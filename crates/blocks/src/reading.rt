@@ -4,7 +4,7 @@ ghost use mathlib.Core.Bool.{true};
 ghost use Prim.Native.Nat.{_+_, _≤_};
 ghost use lib.ListN.{length, drop};
 ghost use Rattle.document.specs.Variables.{definitionIn};
-ghost use Rattle.blocks.specs.Layout.{decodedReceiver, decodedDefinitions, decodedVariables, decodedScope, decodedPlan, decodedRun, decodedRecorder};
+ghost use Rattle.blocks.specs.Layout.{decodedReceiver, decodedDefinitions, decodedVariables, decodedPlan, decodedRun, decodedRecorder};
 ghost use Rattle.blocks.specs.Places.{definitionsLength, variablesLength, stateLength};
 use crate::places::DIVIDER;
 use crate::places::FULL;
@@ -15,7 +15,6 @@ use crate::places::READY;
 use crate::places::RECORDED;
 use crate::places::RUNNING;
 use crate::places::SAMPLES;
-use crate::places::SCOPE;
 use crate::places::SIGN;
 use crate::places::THRESHOLD;
 use crate::places::TRIGGER_ADDRESS;
@@ -79,7 +78,7 @@ fn variables_at(block: &[u8], at: usize) -> variables::Variables
     }
 }
 
-fn plan_in(block: &[u8]) -> plans::Plan
+pub fn plan_in(block: &[u8]) -> plans::Plan
     requires { ⌜ stateLength ≤ length (now block) ⌝ }
     ensures { λ r. ⌜ r ≡ decodedPlan (now (block .entry)) ⌝ }
 {
@@ -122,12 +121,4 @@ pub fn recorder_in(block: &[u8]) -> recorder::Recorder
         plan,
         run,
     }
-}
-
-pub fn scope_in(block: &[u8]) -> scope::Scope
-    requires { ⌜ stateLength ≤ length (now block) ⌝ }
-    ensures { λ r. ⌜ r ≡ decodedScope (now (block .entry)) ⌝ }
-{
-    let variables = variables_at(block, SCOPE);
-    scope::Scope { variables }
 }

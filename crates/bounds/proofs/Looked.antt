@@ -11,7 +11,7 @@ use Rattle.document.specs.Values.{number}
 use Rattle.document.specs.declared.Variable.{Variable}
 use Rattle.document.specs.Variables.{anySizeZero, setSize, definitionsIn}
 use Rattle.variables.specs.State.{upTo}
-use Rattle.blocks.proofs.Definitions.{definition-here, definitions-first}
+use Rattle.block_fields.proofs.Definitions.{definitions-first}
 use Rattle.bounds.specs.Measured.{areWithin, measured}
 
 -- a definition in front of others
@@ -37,9 +37,7 @@ module _ (limit address size : ℕ) (vs : List Variable) where
 module _ (part : List ℕ) (limit at left : ℕ) (some : 0 < left) (size address : ℕ)
     (es : size ≡ getD part at 0) (ea : address ≡ number (bytesAt part (at + 1) 4)) where
   first : definitionsIn true left (drop at part) ≡ record { address = address; size = size } ∷ definitionsIn true (left - 1) (drop (at + 5) part)
-  first =
-      definitions-first part at 0 left some
-      ∙ (λ i. (definition-here part at ∙ (λ j. record { size = sym es j; address = sym ea j })) i ∷ definitionsIn true (left - 1) (drop (at + 5) part))
+  first = definitions-first part at left size address some es ea
 
   pub turn-zero : size ≡ 0 → areWithin limit (definitionsIn true left (drop at part)) ≡ false
   turn-zero e = ap (areWithin limit) first ∙ within-zero limit address size (definitionsIn true (left - 1) (drop (at + 5) part)) e

@@ -1,16 +1,12 @@
 -- A byte that nothing refuses, by the event that the receiver makes of it; and the call, refused and taken.
 use mathlib.Core.Path.{_≡_, refl, sym, ap, subst, _∙_}
-use mathlib.Core.Bool.{true}
 use mathlib.Core.List.{List}
 use Prim.Native.Nat.{ℕ, _+_, _<_, _≤_}
 use borrow.Author.Tests.{eq-eqb, ne-eqb}
 use lib.ListN.{length, getD, set, take}
 use lib.Seq.{sets}
 use Rattle.document.specs.Numbers.{mostData, taken}
-use Rattle.document.specs.Answer.{Answer}
-use Rattle.document.specs.AnswerWriter.{answerFormed}
 use Rattle.document.specs.Gate.{Outcome}
-use Rattle.line.specs.Told.{Told}
 use Rattle.link.specs.declared.Receiver.{Receiver}
 use Rattle.link.specs.declared.Taken.{Taken as StepTaken}
 use Rattle.link.specs.declared.Event.{Event}
@@ -18,19 +14,15 @@ use Rattle.link.specs.declared.Event.the-variants.{Nothing, Keep, Whole}
 use Rattle.link.specs.Report.{Held}
 use Rattle.link.specs.Step.{stepped}
 use Rattle.link.proofs.Places.{kept-in-body}
-use Rattle.answers.specs.declared.Reply.{Reply}
-use Rattle.answers.specs.IsReply.{answerIn}
 use Rattle.state.specs.State.{Target, gateOf}
 use Rattle.target.specs.AnsweredHeld.{answeredHeld, instrumentsHeld}
 use Rattle.instruments.specs.Operates.{Operates}
-use Rattle.operations.proofs.Refusing.{held-formed}
 use Rattle.target.specs.Turn.{Turn, withReceiver, silent, answering, turn}
 use Rattle.target.proofs.TurnLaws.{nextOf, by-event}
 use Rattle.blocks.specs.Layout.{decodedReceiver, decodedBody, decodedInstruments, decoded, encodedReceiver, encoded}
 use Rattle.blocks.specs.Places.{bodyPlace, stateLength}
 use Rattle.blocks.proofs.Stored.{quiet-stored, keep-stored, answered-stored}
 use Rattle.checks.specs.Promises.{byteNumber}
-use Rattle.byte_call.specs.declared.Taken.{Taken}
 use Rattle.byte_call.specs.Promises.{Turned, ByteTaken}
 
 module _ (block : List ℕ) (b : ℕ) (memory buffer : List ℕ) where
@@ -86,24 +78,19 @@ module _ (block : List ℕ) (b : ℕ) (memory buffer : List ℕ) where
     abbrev outcome : Outcome
     outcome = answeredHeld (gateOf (decodedInstruments block) memory) held
 
-    pub outcome-formed : answerFormed (outcome .answer) ≡ true
-    outcome-formed = held-formed (gateOf (decodedInstruments block) memory) held
-
-    pub whole-answered : (r : Reply) (out between after left told : List ℕ) (written : ℕ)
-        → Operates outcome (instrumentsHeld (decodedInstruments block) held) block r out between left
+    pub whole-answered : (between after left sent : List ℕ) (written : ℕ)
+        → Operates outcome (instrumentsHeld (decodedInstruments block) held) block buffer written sent between left
         → after ≡ sets between 0 (encodedReceiver next)
-        → Told (answerIn r out) buffer written told
-        → Turned (answering (withReceiver (decoded block) next) c n s memory buffer) block written after left told
-    whole-answered r out between after left told written done stored said =
-        let known : Told (outcome .answer) buffer written told = subst (λ (a : Answer). Told a buffer written told) (done .reply .answer) said in
+        → Turned (answering (withReceiver (decoded block) next) c n s memory buffer) block written after left sent
+    whole-answered between after left sent written done stored =
         record {
-          length = known .length;
+          length = done .told .length;
           state =
               stored
               ∙ ap (λ (l : List ℕ). sets l 0 (encodedReceiver next)) (done .kept)
               ∙ answered-stored block long next (instrumentsHeld (decodedInstruments block) held);
           memory-left = done .memory;
-          buffer-told = known .buffer;
+          buffer-told = done .told .buffer;
         }
 
 -- ---- the call

@@ -15,9 +15,7 @@ ghost use Rattle.byte_call.specs.Promises.{Turned, ByteTaken};
 use block_fields::put_byte;
 use blocks::BODY;
 use checks::byte_refusal;
-use codes::MOST_DATA;
 use codes::TAKEN;
-use line::tell;
 use link::Event;
 use operations::Whole;
 use operations::respond;
@@ -41,11 +39,9 @@ fn answer_whole(
     requires { ⌜ (lengthFits (whole .command) (whole .length) ≡ true) × (stateLength ≤ length (now state)) × (length (now memory) ≡ memoryEnd) × (scope.sound (decodedScope (now state)) ≡ true) × (answerRoom ≤ length (now answer)) ⌝ }
     ensures { λ r. ⌜ Turned (answering (withReceiver (decoded (now (state .entry))) next) (whole .command) (whole .length) (whole .sum) (now (memory .entry)) (now (answer .entry))) (now (state .entry)) r (now (state .exit)) (now (memory .exit)) (now (answer .exit)) ⌝ }
 {
-    let mut data = [0u8; MOST_DATA];
-    let reply = respond(whole, state, memory, &mut data);
+    let length = respond(whole, state, memory, answer);
     blocks::put_receiver(state, next);
-    let end = reply.length;
-    tell(reply.status, &data[..end], answer)
+    length
 }
 
 // A byte that nothing refuses. One that finishes no message writes the receiver and at most one byte of the body.

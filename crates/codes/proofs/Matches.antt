@@ -10,7 +10,7 @@ abbrev pub NoneOf : ℕ → ℕ → Type 0
 NoneOf zero n = Unit {0}
 NoneOf (suc k) n = NoneOf k n × (n ≡ k → ⊥)
 
-missed : (k n : ℕ) → NoneOf k n → k ≤ n
+pub missed : (k n : ℕ) → NoneOf k n → k ≤ n
 missed zero n none = omega arith
 missed (suc k) n none = omega (arith, missed k n (none .0), none .1)
 

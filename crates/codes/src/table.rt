@@ -1,6 +1,7 @@
-// The one table of all 256 commands: for each the number of its row. A look builds the whole array on the stack, so it
-// holds bytes, and what a row says stands in a match.
+// The one table of all 256 commands: for each the number of its row. A look builds the array on the stack, so it holds bytes and
+// stands in quarters, of which a look builds one, and what a row says stands in a match.
 ghost use mathlib.Core.Path.{_≡_};
+ghost use Prim.Native.Nat.{_+_, _<_};
 ghost use Rattle.document.specs.Services.{serviceOf};
 ghost use Rattle.codes.specs.Rows.{rowNumber};
 ghost use Rattle.codes.specs.Table.{entryOf, lengthOf};
@@ -50,7 +51,7 @@ use crate::rows::row;
 use document::Service;
 use widths::usize_of_u8;
 
-const COMMANDS: [u8; 256] = [
+const FIRST_QUARTER: [u8; 64] = [
     NONE, // 0x00
     READ_BLOCK, // 0x01
     WRITE_BLOCK, // 0x02
@@ -115,6 +116,9 @@ const COMMANDS: [u8; 256] = [
     NONE, // 0x3D
     NONE, // 0x3E
     NONE, // 0x3F
+];
+
+const SECOND_QUARTER: [u8; 64] = [
     NONE, // 0x40
     NONE, // 0x41
     NONE, // 0x42
@@ -179,6 +183,9 @@ const COMMANDS: [u8; 256] = [
     NONE, // 0x7D
     NONE, // 0x7E
     NONE, // 0x7F
+];
+
+const THIRD_QUARTER: [u8; 64] = [
     NONE, // 0x80
     NONE, // 0x81
     NONE, // 0x82
@@ -243,6 +250,9 @@ const COMMANDS: [u8; 256] = [
     NONE, // 0xBD
     NONE, // 0xBE
     NONE, // 0xBF
+];
+
+const LAST_QUARTER: [u8; 64] = [
     DESCRIPTION, // 0xC0
     RECORDER_START, // 0xC1
     RECORDER_STOP, // 0xC2
@@ -309,11 +319,44 @@ const COMMANDS: [u8; 256] = [
     NONE_6, // 0xFF
 ];
 
+fn in_first(low: usize) -> u8
+    requires { ⌜ low < 64 ⌝ }
+    ensures { λ r. ⌜ r ≡ rowNumber low ⌝ }
+{
+    FIRST_QUARTER[low]
+}
+
+fn in_second(low: usize) -> u8
+    requires { ⌜ low < 64 ⌝ }
+    ensures { λ r. ⌜ r ≡ rowNumber (64 + low) ⌝ }
+{
+    SECOND_QUARTER[low]
+}
+
+fn in_third(low: usize) -> u8
+    requires { ⌜ low < 64 ⌝ }
+    ensures { λ r. ⌜ r ≡ rowNumber (128 + low) ⌝ }
+{
+    THIRD_QUARTER[low]
+}
+
+fn in_last(low: usize) -> u8
+    requires { ⌜ low < 64 ⌝ }
+    ensures { λ r. ⌜ r ≡ rowNumber (192 + low) ⌝ }
+{
+    LAST_QUARTER[low]
+}
+
 fn row_number(command: u8) -> u8
     ensures { λ r. ⌜ r ≡ rowNumber command ⌝ }
 {
-    let c = usize_of_u8(command);
-    COMMANDS[c]
+    let low = usize_of_u8(command % 64);
+    match command / 64 {
+        0 => in_first(low),
+        1 => in_second(low),
+        2 => in_third(low),
+        _ => in_last(low),
+    }
 }
 
 fn entry(command: u8) -> u16

@@ -15,11 +15,11 @@ use Rattle.document.specs.Kinds.{hasLengthByte, fastLength}
 use Rattle.document.specs.Message.{lengthPart, lengthFits, wellFormed, onWire, summed}
 use Rattle.document.specs.CommandWriter.{commandOnWire, commandRefusal, commandWritten, commandBuffer}
 use Rattle.line.specs.declared.doubling.Progress.{Progress}
-use Rattle.line.specs.Put.{progressed}
+use Rattle.line.specs.Put.{progressed, front}
 use Rattle.document.proofs.Cases.{split, and-right}
 use Rattle.line.proofs.Pairing.{framed}
 use Rattle.line.proofs.Stuffed.{stuffed-append, stuffed-one, stuffed-length}
-use Rattle.line.proofs.Writing.{front, progressed-append, sum-front}
+use Rattle.line.proofs.Writing.{progressed-append, sum-front}
 
 -- what goes between the command and the sum byte
 abbrev pub between : ℕ → List ℕ → List ℕ

@@ -1,12 +1,8 @@
 // The small reader: a data part, and the place where the next definition begins.
 ghost use mathlib.Core.Path.{_≡_};
-ghost use Prim.Native.Nat.{_+_, _*_, _≤_};
-ghost use lib.ListN.{length, drop};
-ghost use lib.Seq.{sets};
-ghost use Rattle.document.specs.Variables.{addressWidth, definitionWidth, definitionsIn};
+ghost use Prim.Native.Nat.{_≤_};
+ghost use Rattle.document.specs.Variables.{addressWidth};
 ghost use Rattle.definitions.specs.Parts.{isThere, definitionAt, placeBehind, movedBehind, variableOf};
-ghost use Rattle.variables.specs.State.{noVariables};
-use variables::MOST_VARIABLES;
 
 // What stands at a place of a part: a definition, or too few bytes.
 pub enum Definition {
@@ -60,7 +56,7 @@ pub struct Reader<'a> {
 
 impl<'a> Reader<'a> {
     // Each definition begins where the one before it ended: the reader moves behind the one that it gives.
-    fn next(&mut self, ex: bool) -> Definition
+    pub(crate) fn next(&mut self, ex: bool) -> Definition
         ensures { λ r. ⌜ (r ≡ definitionAt ex (now (now (self .entry) .part)) (now (self .entry) .at)) × (now (self .exit) ≡ movedBehind ex (now (self .entry))) ⌝ }
     {
         let found = definition_at(self.part, self.at, ex);
@@ -69,16 +65,8 @@ impl<'a> Reader<'a> {
     }
 }
 
-pub(crate) fn no_variables() -> [document::Variable; MOST_VARIABLES]
-    ensures { λ r. ⌜ r ≡ noVariables ⌝ }
-{
-    [document::Variable {
-        address: 0,
-        size: 0,
-    }; MOST_VARIABLES]
-}
-
-fn variable_of(found: Definition) -> document::Variable
+// What was found, or where nothing was, a variable of no bytes.
+pub(crate) fn variable_of(found: Definition) -> document::Variable
     ensures { λ r. ⌜ r ≡ variableOf found ⌝ }
 {
     match found {
@@ -88,19 +76,4 @@ fn variable_of(found: Definition) -> document::Variable
             size: 0,
         },
     }
-}
-
-// One reader reads all definitions of a part that holds them.
-pub(crate) fn read_all(part: &[u8], count: usize, ex: bool) -> [document::Variable; MOST_VARIABLES]
-    requires { ⌜ (count ≤ 8) × (1 + count * definitionWidth ex ≤ length (now part)) ⌝ }
-    ensures { λ r. ⌜ r ≡ sets noVariables 0 (definitionsIn ex count (drop 1 (now (part .entry)))) ⌝ }
-{
-    let mut list = no_variables();
-    let mut reader = Reader { part, at: 1 };
-    let mut k = 0;
-    while k < count {
-        list[k] = variable_of(reader.next(ex));
-        k += 1;
-    }
-    list
 }

@@ -1,9 +1,8 @@
 -- A command that changes scope or recorder and says a status alone.
 use mathlib.Core.Path.{_≡_, refl, sym, ap, _∙_}
-use mathlib.Core.Bool.{Bool, true}
+use mathlib.Core.Bool.{true}
 use mathlib.Core.List.{List}
 use Prim.Native.Nat.{ℕ, _<_, _≤_}
-use borrow.Author.Tests.{ne-eqb}
 use lib.Dec.{eqb}
 use lib.ListN.{length, getD}
 use lib.Seq.{sets}
@@ -12,33 +11,26 @@ use Rattle.document.specs.Commands.{served}
 use Rattle.document.specs.declared.Operation.{Operation}
 use Rattle.document.specs.declared.Service.{Service}
 use Rattle.document.proofs.Cases.{split}
-use Rattle.scope.specs.declared.Scope.{Scope}
-use Rattle.scope.specs.Setup as scope
-use Rattle.recorder.specs.Setup as recorder
 use Rattle.recorder.specs.declared.state.Recorder.{Recorder}
 use Rattle.recorder.specs.State.{recorderOf}
 use Rattle.recorder.specs.Calls.{startStatus, stopStatus, startedState, haltedState}
 use Rattle.outcomes.specs.Known.{knownAs}
 use Rattle.outcomes.specs.Changes.{changeOf, leavesMemory}
 use Rattle.outcomes.proofs.Served.{served-memory-kept}
-use Rattle.answers.specs.declared.Reply.{Reply}
-use Rattle.answers.specs.IsReply.{IsReply}
-use Rattle.answers.proofs.Replies.{reply-as}
 use Rattle.state.specs.State.{Instruments, gateOf}
 use Rattle.target.specs.After.{instrumentsAfter}
 use Rattle.blocks.specs.Places.{scopePlace, stateLength}
 use Rattle.blocks.specs.Layout.{decodedInstruments, encodedInstruments}
 use Rattle.blocks.proofs.Stored.{same-instruments}
-use Rattle.instruments.specs.Operates.{Operates}
-use Rattle.instruments.proofs.Statuses.{alone}
+use Rattle.instruments.specs.Operates.{alone, Settles}
 
-pub operates : (o : Operation) → leavesMemory (changeOf o) ≡ true → (block memory : List ℕ) (s : Service) (body : List ℕ) (status : ℕ) (r : Reply) (out after : List ℕ)
-    → alone status ≡ served (gateOf (decodedInstruments block) memory) (knownAs o s) body .answer → IsReply (alone status) r out
+pub settles : (o : Operation) → leavesMemory (changeOf o) ≡ true → (block memory : List ℕ) (s : Service) (body : List ℕ) (status : ℕ) (after : List ℕ)
+    → alone status ≡ served (gateOf (decodedInstruments block) memory) (knownAs o s) body .answer
     → after ≡ sets block scopePlace (encodedInstruments (instrumentsAfter o (decodedInstruments block) s body))
-    → Operates (served (gateOf (decodedInstruments block) memory) (knownAs o s) body) (instrumentsAfter o (decodedInstruments block) s body) block r out after memory
-operates o leaves block memory s body status r out after said reply stored =
+    → Settles (served (gateOf (decodedInstruments block) memory) (knownAs o s) body) (instrumentsAfter o (decodedInstruments block) s body) block status after memory
+settles o leaves block memory s body status after said stored =
     record {
-      reply = reply-as _ _ said reply;
+      answer = said;
       memory = sym (served-memory-kept (gateOf (decodedInstruments block) memory) (knownAs o s) body leaves);
       kept = stored;
     }
@@ -48,15 +40,6 @@ pub same-block : (block : List ℕ) → stateLength ≤ length block → ((i : �
     → block ≡ sets block scopePlace (encodedInstruments next)
 same-block block long small next kept =
     sym (same-instruments block long small) ∙ ap (λ (k : Instruments). sets block scopePlace (encodedInstruments k)) kept
-
--- a refused setup leaves what was set up
-pub scope-refused : (s : Scope) (ex : Bool) (body : List ℕ) → (scope.setUpStatus ex body ≡ done → ⊥) → s ≡ scope.setUpNext s ex body
-unfolding scope.setUpNext
-scope-refused s ex body wrong = rw (ne-eqb (scope.setUpStatus ex body) done wrong) refl
-
-pub recorder-refused : (r : Recorder) (ex : Bool) (body : List ℕ) → (recorder.setUpStatus (recorderOf r) ex body ≡ done → ⊥) → r ≡ recorder.setUpNext r ex body
-unfolding recorder.setUpNext
-recorder-refused r ex body wrong = rw (ne-eqb (recorder.setUpStatus (recorderOf r) ex body) done wrong) refl
 
 -- a start and a stop change the run alone
 pub started-run : (r : Recorder) → record { ready = r .ready; plan = r .plan; run = startedState r .run } ≡ startedState r

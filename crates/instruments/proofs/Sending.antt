@@ -1,9 +1,9 @@
 -- What is said of the application command, and what a 0x10 leaves of it.
 use mathlib.Core.Path.{_≡_, refl, sym}
-use mathlib.Core.Bool.{Bool, true, false}
+use mathlib.Core.Bool.{true, false}
 use mathlib.Core.List.{List, [], _∷_}
 use Prim.Native.Nat.{ℕ}
-use borrow.Author.Tests.{eqb-true, eq-eqb, ne-eqb}
+use borrow.Author.Tests.{eq-eqb, ne-eqb}
 use lib.Dec.{eqb}
 use lib.ListN.{length}
 use Rattle.document.specs.Numbers.{done, busy, layoutWrong}
@@ -16,7 +16,7 @@ use Rattle.document.specs.declared.Service.{Service}
 use Rattle.document.proofs.Cases.{split, neither}
 use Rattle.application.specs.State.{isNone, isWaiting, isCollected, Command, applicationOf, sendNext, sentCommand}
 use Rattle.outcomes.specs.Known.{knownAs}
-use Rattle.instruments.proofs.Statuses.{alone}
+use Rattle.instruments.specs.Operates.{alone}
 
 -- ---- 0x10
 

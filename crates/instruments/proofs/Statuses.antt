@@ -1,39 +1,27 @@
--- What is said of scope and recorder: their own statuses, alone or with the data that they give.
+-- What is said of the recorder: its own statuses, alone or with the data that they give.
 use mathlib.Core.Path.{_≡_, refl, sym, ap}
-use mathlib.Core.Bool.{Bool, true, false}
-use mathlib.Core.List.{List, [], _∷_, _++_}
-use Prim.Native.Nat.{ℕ, _+_, _/_, _%_}
-use lib.ListN.{take, set, replicate}
+use mathlib.Core.List.{List, [], _++_}
+use Prim.Native.Nat.{ℕ}
 use native.Mathlib.Omega.{arith}
 use Rattle.document.specs.Numbers.{done}
 use Rattle.document.specs.Areas.{bufferBegin}
 use Rattle.document.specs.Values.{littleEndian}
 use Rattle.document.specs.Variables.{addressWidth}
-use Rattle.document.specs.Answer.{Answer}
-use Rattle.document.specs.Scope.{scopeSetUp}
 use Rattle.document.specs.Recorder.{Recorder, recorderAbsent, recorderSetUp, bufferAnswer}
 use Rattle.document.specs.Recorder.Recorder.{absent, planned}
-use Rattle.document.specs.Gate.{Gate, Outcome, says, withScope, withRecorder}
-use Rattle.document.specs.Refusals.{scopeSetUpLines, recorderSetUpLines, queryLines}
+use Rattle.document.specs.Gate.{Gate, Outcome, says, withRecorder}
+use Rattle.document.specs.Refusals.{recorderSetUpLines, queryLines}
 use Rattle.document.specs.Commands.{served}
-use Rattle.document.specs.declared.Operation.the-variants.{SetUpScope, SetUpRecorder, Start, Stop, Status, QueryBuffer}
+use Rattle.document.specs.declared.Operation.the-variants.{SetUpRecorder, Start, Stop, Status, QueryBuffer}
 use Rattle.document.specs.declared.Service.{Service}
 use Rattle.document.proofs.Cases.{split}
-use Rattle.scope.specs.Setup as scope
 use Rattle.recorder.specs.Setup as recorder
 use Rattle.recorder.specs.Calls.{startStatus, stopStatus, statusStatus, queryStatus, indexOf}
 use Rattle.outcomes.specs.Known.{knownAs}
 use Rattle.outcomes.proofs.Firsts.{unless-alone, unless-refused, unless-none}
-
-abbrev pub alone : ℕ → Answer
-alone status = record { status = status; body = [] }
+use Rattle.instruments.specs.Operates.{alone}
 
 module _ (g : Gate) (s : Service) (body : List ℕ) where
-  pub scope-set-up : alone (scope.setUpStatus (s .ex) body) ≡ served g (knownAs SetUpScope s) body .answer
-  unfolding served scope.setUpStatus
-  scope-set-up =
-      sym (unless-alone g (scopeSetUpLines (s .ex) body) (says (withScope g (scopeSetUp (s .ex) body)) done []) refl)
-
   pub recorder-set-up : alone (recorder.setUpStatus (g .recorder) (s .ex) body) ≡ served g (knownAs SetUpRecorder s) body .answer
   unfolding served recorder.setUpStatus
   recorder-set-up =
@@ -69,10 +57,3 @@ module _ (g : Gate) (s : Service) (body : List ℕ) where
 pub buffer-bytes : (n : ℕ) (r : Recorder) → queryStatus r ≡ done → littleEndian n bufferBegin ++ littleEndian 2 (indexOf r) ≡ bufferAnswer n r
 buffer-bytes n absent e = absurd (omega (arith, e))
 buffer-bytes n (planned p r) e = refl
-
--- the bytes of a reply that holds them
-pub buffer-front : (ex : Bool) (at low high : ℕ) → at ≡ addressWidth ex
-    → take (at + 1 + 1) (set (set (set (set (replicate 6 0) 0 (bufferBegin % 256)) 1 (bufferBegin / 256)) at low) (at + 1) high)
-    ≡ littleEndian (addressWidth ex) bufferBegin ++ (low ∷ high ∷ [])
-buffer-front true at low high e = rw e refl
-buffer-front false at low high e = rw e refl

@@ -3,21 +3,19 @@ ghost use mathlib.Core.Path.{_≡_};
 ghost use mathlib.Core.List.{List};
 ghost use Prim.Native.Nat.{ℕ, _≤_};
 ghost use lib.ListN.{length};
-ghost use Rattle.document.specs.Numbers.{mostData};
+ghost use Rattle.document.specs.Numbers.{answerRoom};
 ghost use Rattle.document.specs.Application.{resultByte};
 ghost use Rattle.document.specs.Commands.{served};
 ghost use Rattle.document.specs.declared.Operation.the-variants.{SendCommand, CommandResult};
 ghost use Rattle.document.specs.declared.Service.{Service};
 ghost use Rattle.outcomes.specs.Known.{knownAs};
-ghost use Rattle.answers.specs.IsReply.{IsReply};
+ghost use Rattle.line.specs.Told.{Told};
 ghost use Rattle.application.specs.State.{applicationOf};
 ghost use Rattle.state.specs.State.{gateOf};
 ghost use Rattle.target.specs.After.{instrumentsAfter};
 ghost use Rattle.blocks.specs.Places.{bodyPlace, scopePlace, stateLength};
 ghost use Rattle.blocks.specs.Layout.{dataTo, decodedApplication, decodedInstruments};
-ghost use Rattle.instruments.specs.Operates.{Operates};
-use answers::Reply;
-use answers::alone;
+ghost use Rattle.instruments.specs.Operates.{Settles};
 use answers::done_with;
 use application::NO_COMMAND;
 use application::NO_RESULT;
@@ -32,18 +30,18 @@ use codes::DONE;
 use codes::LAYOUT_WRONG;
 
 // The message's data stand in the block, up to a place. What is refused stores nothing.
-pub fn send_command(state: &mut [u8], to: usize) -> Reply
+pub fn send_command(state: &mut [u8], to: usize) -> u8
     requires { ⌜ (stateLength ≤ length (now state)) × (bodyPlace ≤ to) × (to ≤ scopePlace) ⌝ }
-    ensures { λ r. ⌜ ((memory out : List ℕ) (s : Service) → Operates (served (gateOf (decodedInstruments (now (state .entry))) memory) (knownAs SendCommand s) (dataTo (now (state .entry)) to)) (instrumentsAfter SendCommand (decodedInstruments (now (state .entry))) s (dataTo (now (state .entry)) to)) (now (state .entry)) r out (now (state .exit)) memory) ⌝ }
+    ensures { λ r. ⌜ ((memory : List ℕ) (s : Service) → Settles (served (gateOf (decodedInstruments (now (state .entry))) memory) (knownAs SendCommand s) (dataTo (now (state .entry)) to)) (instrumentsAfter SendCommand (decodedInstruments (now (state .entry))) s (dataTo (now (state .entry)) to)) (now (state .entry)) r (now (state .exit)) memory) ⌝ }
 {
     if is_pending(state) {
-        return alone(BUSY);
+        return BUSY;
     }
     if to == BODY {
-        return alone(LAYOUT_WRONG);
+        return LAYOUT_WRONG;
     }
     send(state, to);
-    alone(DONE)
+    DONE
 }
 
 // One byte: whether there was a command, whether its result is in, or the result.
@@ -60,9 +58,9 @@ fn result_byte(state: &[u8]) -> u8
     state[RESULT]
 }
 
-pub fn command_result(state: &[u8], out: &mut [u8]) -> Reply
-    requires { ⌜ (stateLength ≤ length (now state)) × (mostData ≤ length (now out)) ⌝ }
-    ensures { λ r. ⌜ ((memory : List ℕ) (s : Service) (body : List ℕ) → IsReply (served (gateOf (decodedInstruments (now (state .entry))) memory) (knownAs CommandResult s) body .answer) r (now (out .exit))) ⌝ }
+pub fn command_result(state: &[u8], out: &mut [u8]) -> usize
+    requires { ⌜ (stateLength ≤ length (now state)) × (answerRoom ≤ length (now out)) ⌝ }
+    ensures { λ r. ⌜ ((memory : List ℕ) (s : Service) (body : List ℕ) → Told (served (gateOf (decodedInstruments (now (state .entry))) memory) (knownAs CommandResult s) body .answer) (now (out .entry)) r (now (out .exit))) ⌝ }
 {
     done_with(&[result_byte(state)], out)
 }

@@ -1,9 +1,8 @@
-// The scope, the recorder, the application command and the tables in the block that holds the state, as their commands ask for them.
+// The recorder, the application command and the tables in the block that holds the state, as their commands ask for them.
 // Each command takes out what it looks at, and stores what it changes.
 mod commanding;
 mod listing;
 mod recording;
-mod scoping;
 
 pub use commanding::command_result;
 pub use commanding::send_command;
@@ -13,5 +12,3 @@ pub use recording::set_up_recorder;
 pub use recording::start;
 pub use recording::status;
 pub use recording::stop;
-pub use scoping::read_scope;
-pub use scoping::set_up_scope;

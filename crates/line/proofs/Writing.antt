@@ -1,18 +1,20 @@
 -- Bytes put one list behind the other, up to the sum byte, are a whole message or answer on the wire.
-use mathlib.Core.Path.{_≡_, refl, sym, ap, _∙_}
+use mathlib.Core.Path.{_≡_, refl, sym, ap, subst, _∙_}
 use mathlib.Core.List.{List, [], _∷_, _++_}
-use Prim.Native.Nat.{ℕ, _+_, _%_, _<_}
+use Prim.Native.Nat.{ℕ, _+_, _%_, _<_, _≤_}
 use native.Mathlib.Numerals.{add-one}
 use native.Mathlib.Omega.{arith}
-use lib.ListN.{length, getD, set, drop, length-append}
-use lib.Seq.{sets, drop-cons}
+use lib.ListN.{length, getD, drop, length-append, length-set}
+use lib.Seq.{sets, drop-cons, length-sets}
 use Rattle.document.specs.Doubling.{stuffed}
 use Rattle.document.specs.Sum.{total, sumByteOf}
+use Rattle.document.specs.Answer.{Answer, answerOnWire}
 use Rattle.line.specs.declared.doubling.Progress.{Progress}
-use Rattle.line.specs.Put.{progressed, Put, Ended}
+use Rattle.line.specs.Put.{progressed, front, Put, Ended}
+use Rattle.line.specs.Told.{fronted, Telling, Told}
 use Rattle.line.proofs.Pairing.{framed}
 use Rattle.line.proofs.RightSum.{total-append}
-use Rattle.line.proofs.Stuffed.{stuffed-append, sets-append}
+use Rattle.line.proofs.Stuffed.{stuffed-append, stuffed-length, sets-append}
 
 -- ---- one list behind the other
 
@@ -46,17 +48,13 @@ put-append p q r xs ys l₀ l₁ l₂ a b =
 
 -- ---- front, literals, sum byte
 
--- behind a start byte and the first literal
-abbrev pub front : ℕ → Progress
-front first = record { at = 2; sum = first }
-
 pub sum-front : (first : ℕ) (ls : List ℕ) (p : Progress) → p ≡ progressed (front first) ls →
     sumByteOf (p .sum ∷ []) ≡ sumByteOf (first ∷ ls)
 sum-front first ls p e =
     let s : p .sum ≡ (first + total ls) % 256 = ap (λ (t : Progress). t .sum) e in
     rw s (omega arith)
 
-module _ (first : ℕ) (ls out l₁ l₂ : List ℕ) (p : Progress) (n : ℕ) (put : Put (front first) ls (set (set out 0 0x2B) 1 first) p l₁) (ended : Ended p l₁ n l₂) where
+module _ (first : ℕ) (ls out l₁ l₂ : List ℕ) (p : Progress) (n : ℕ) (put : Put (front first) ls (fronted out first) p l₁) (ended : Ended p l₁ n l₂) where
   at-is : p .at ≡ 2 + length (stuffed ls)
   at-is = ap (λ (t : Progress). t .at) (put .progress)
 
@@ -72,4 +70,29 @@ module _ (first : ℕ) (ls out l₁ l₂ : List ℕ) (p : Progress) (n : ℕ) (p
   written-buffer =
       ended .buffer
       ∙ rw (sum-is, at-is, put .buffer, stuffed-append ls (sumByteOf (first ∷ ls) ∷ []))
-      (sym (sets-append (stuffed ls) (stuffed (sumByteOf (first ∷ ls) ∷ [])) (set (set out 0 0x2B) 1 first) 2))
+      (sym (sets-append (stuffed ls) (stuffed (sumByteOf (first ∷ ls) ∷ [])) (fronted out first) 2))
+
+-- ---- an answer in parts
+
+module _ (status : ℕ) (bytes before : List ℕ) (p : Progress) (l : List ℕ) (telling : Telling status bytes before p l) where
+  -- further data, and the sum byte, find room
+  pub telling-room : 132 ≤ length before → (more : List ℕ) → length bytes + length more ≤ 65 → p .at + length (stuffed more) ≤ length l
+  telling-room room more few =
+      let at : p .at ≡ 2 + length (stuffed bytes) = ap (λ (t : Progress). t .at) (telling .progress) in
+      let kept : length l ≡ length before = ap length (telling .buffer) ∙ simp (length-sets, length-set) in
+      omega (arith, at, kept, room, few, stuffed-length bytes, stuffed-length more)
+
+  pub word-room : 132 ≤ length before → length bytes ≤ 63 → p .at + 4 ≤ length l
+  word-room room few = telling-room room (0x2B ∷ 0x2B ∷ []) (omega (arith, few))
+
+  pub told-in-parts : (n : ℕ) (after : List ℕ) → Ended p l n after → Told (record { status = status; body = bytes }) before n after
+  unfolding answerOnWire
+  told-in-parts n after ended =
+      record {
+        length = written-length status bytes before l after p n telling ended;
+        buffer = written-buffer status bytes before l after p n telling ended;
+      }
+
+-- what tells an answer tells an equal one
+pub told-as : {before after : List ℕ} {n : ℕ} (a b : Answer) → a ≡ b → Told a before n after → Told b before n after
+told-as {before} {after} {n} a b same told = subst (λ (c : Answer). Told c before n after) same told

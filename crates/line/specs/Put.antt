@@ -12,6 +12,10 @@ use Rattle.line.specs.declared.doubling.Progress.{Progress}
 abbrev pub progressed : Progress → List ℕ → Progress
 progressed p bytes = record { at = p .at + length (stuffed bytes); sum = (p .sum + total bytes) % 256 }
 
+-- behind a start byte and the first literal
+abbrev pub front : ℕ → Progress
+front first = record { at = 2; sum = first }
+
 -- "neither changes others": the bytes from the writer's place on, and no other
 pub record Put (p : Progress) (bytes before : List ℕ) (r : Progress) (after : List ℕ) : Type 0 where
   pub progress : r ≡ progressed p bytes

@@ -1,12 +1,12 @@
-// The answer writer: straight into the lent buffer, so that no second copy of an answer is held.
+// The one way to write an answer: straight into the lent buffer, so that no second copy of it is held.
 ghost use mathlib.Core.Path.{_≡_};
-ghost use mathlib.Core.Bool.{true};
+ghost use mathlib.Core.List.{[]};
 ghost use Prim.Native.Nat.{_≤_};
 ghost use lib.ListN.{length};
-ghost use Rattle.document.specs.Numbers.{answerRoom};
+ghost use Rattle.document.specs.Numbers.{mostData, answerRoom};
 ghost use Rattle.document.specs.AnswerWriter.{answerFormed};
 ghost use Rattle.line.specs.AnswerWritten.{AnswerWritten};
-ghost use Rattle.line.specs.Told.{Told};
+ghost use Rattle.line.specs.Told.{Telling, Told};
 use crate::Written;
 use crate::doubling::PLUS;
 use crate::doubling::Progress;
@@ -37,14 +37,23 @@ fn is_formed(status: u8, body: &[u8]) -> bool
     body.len() == 0
 }
 
-// How many bytes an answer takes that can be formed; who asks knows that it can, and has measured the buffer.
-pub fn tell(status: u8, body: &[u8], out: &mut [u8]) -> usize
-    requires { ⌜ (answerFormed (record { status = status; body = now body }) ≡ true) × (answerRoom ≤ length (now out)) ⌝ }
-    ensures { λ r. ⌜ Told (record { status = status; body = now (body .entry) }) (now (out .entry)) r (now (out .exit)) ⌝ }
+// An answer's front. What is put behind it, and the sum byte, go straight into the lent buffer, each byte doubled and summed as it is
+// written; who tells has measured the buffer.
+pub fn begin(status: u8, out: &mut [u8]) -> Progress
+    requires { ⌜ answerRoom ≤ length (now out) ⌝ }
+    ensures { λ r. ⌜ Telling status [] (now (out .entry)) r (now (out .exit)) ⌝ }
 {
     out[0] = PLUS;
     out[1] = status;
-    let front = Progress { at: 2, sum: status };
+    Progress { at: 2, sum: status }
+}
+
+// A whole answer whose data stand in one place: how many bytes it takes on the wire.
+pub fn tell(status: u8, body: &[u8], out: &mut [u8]) -> usize
+    requires { ⌜ (length (now body) ≤ mostData) × (answerRoom ≤ length (now out)) ⌝ }
+    ensures { λ r. ⌜ Told (record { status = status; body = now (body .entry) }) (now (out .entry)) r (now (out .exit)) ⌝ }
+{
+    let front = begin(status, out);
     let behind = put_all(front, body, out);
     put_sum(behind, out)
 }

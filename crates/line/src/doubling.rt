@@ -1,10 +1,11 @@
 // Bytes go into a lent buffer doubled where the line asks it, and into the sum as they are.
-// The two writers call these once the buffer is measured: `tell` here, `write_command` of the other end.
+// Who tells an answer or writes a command calls these once the buffer is measured.
 ghost use mathlib.Core.List.{[], _∷_};
 ghost use Prim.Native.Nat.{_+_, _≤_};
 ghost use lib.ListN.{length};
 ghost use Rattle.document.specs.Doubling.{stuffed};
 ghost use Rattle.document.specs.Sum.{sumByteOf};
+ghost use Rattle.document.specs.Values.{littleEndian};
 ghost use Rattle.line.specs.Put.{Put, Ended};
 use crate::sum;
 
@@ -34,6 +35,15 @@ pub fn put(progress: Progress, byte: u8, out: &mut [u8]) -> Progress
         at: behind,
         sum: sum::added(progress.sum, byte),
     }
+}
+
+// Two bytes, low byte first.
+pub fn put_word(from: Progress, word: u16, out: &mut [u8]) -> Progress
+    requires { ⌜ from .at + 4 ≤ length (now out) ⌝ }
+    ensures { λ r. ⌜ Put from (littleEndian 2 word) (now (out .entry)) r (now (out .exit)) ⌝ }
+{
+    let low = put(from, (word % 256) as u8, out);
+    put(low, (word / 256 % 256) as u8, out)
 }
 
 pub fn put_all(from: Progress, bytes: &[u8], out: &mut [u8]) -> Progress

@@ -3,6 +3,7 @@ mod answer;
 pub mod doubling;
 pub mod sum;
 
+pub use answer::begin;
 pub use answer::tell;
 pub use answer::write_answer;
 

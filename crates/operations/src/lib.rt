@@ -3,7 +3,7 @@ ghost use mathlib.Core.Path.{_≡_};
 ghost use mathlib.Core.Bool.{true};
 ghost use Prim.Native.Nat.{_≤_};
 ghost use lib.ListN.{length};
-ghost use Rattle.document.specs.Numbers.{mostData};
+ghost use Rattle.document.specs.Numbers.{answerRoom};
 ghost use Rattle.document.specs.Areas.{memoryEnd};
 ghost use Rattle.document.specs.Message.{lengthFits};
 ghost use Rattle.scope.specs.State.{sound};
@@ -13,7 +13,6 @@ ghost use Rattle.blocks.specs.Places.{stateLength};
 ghost use Rattle.blocks.specs.Layout.{decodedBody, decodedScope, decodedInstruments};
 ghost use Rattle.instruments.specs.Operates.{Operates};
 ghost use Rattle.operations.specs.Held.{heldOf};
-use answers::Reply;
 use answers::alone;
 use blocks::BODY;
 use codes::MESSAGE_TOO_LONG;
@@ -30,16 +29,16 @@ pub struct Whole {
     pub sum: u8,
 }
 
-pub fn respond(whole: Whole, state: &mut [u8], memory: &mut [u8], out: &mut [u8]) -> Reply
-    requires { ⌜ (lengthFits (whole .command) (whole .length) ≡ true) × (stateLength ≤ length (now state)) × (sound (decodedScope (now state)) ≡ true) × (length (now memory) ≡ memoryEnd) × (mostData ≤ length (now out)) ⌝ }
-    ensures { λ r. ⌜ Operates (answeredHeld (gateOf (decodedInstruments (now (state .entry))) (now (memory .entry))) (heldOf whole (decodedBody (now (state .entry))))) (instrumentsHeld (decodedInstruments (now (state .entry))) (heldOf whole (decodedBody (now (state .entry))))) (now (state .entry)) r (now (out .exit)) (now (state .exit)) (now (memory .exit)) ⌝ }
+pub fn respond(whole: Whole, state: &mut [u8], memory: &mut [u8], out: &mut [u8]) -> usize
+    requires { ⌜ (lengthFits (whole .command) (whole .length) ≡ true) × (stateLength ≤ length (now state)) × (sound (decodedScope (now state)) ≡ true) × (length (now memory) ≡ memoryEnd) × (answerRoom ≤ length (now out)) ⌝ }
+    ensures { λ r. ⌜ Operates (answeredHeld (gateOf (decodedInstruments (now (state .entry))) (now (memory .entry))) (heldOf whole (decodedBody (now (state .entry))))) (instrumentsHeld (decodedInstruments (now (state .entry))) (heldOf whole (decodedBody (now (state .entry))))) (now (state .entry)) (now (out .entry)) r (now (out .exit)) (now (state .exit)) (now (memory .exit)) ⌝ }
 {
     if whole.sum != 0 {
-        return alone(SUM_WRONG);
+        return alone(SUM_WRONG, out);
     }
     let end = usize_of_u8(whole.length);
     if end > MOST_DATA {
-        return alone(MESSAGE_TOO_LONG);
+        return alone(MESSAGE_TOO_LONG, out);
     }
     serve(service_of(whole.command), state, BODY + end, memory, out)
 }

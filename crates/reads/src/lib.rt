@@ -4,16 +4,15 @@ mod measuring;
 ghost use mathlib.Core.Path.{_≡_};
 ghost use Prim.Native.Nat.{_≤_};
 ghost use lib.ListN.{length};
-ghost use Rattle.document.specs.Numbers.{mostData};
+ghost use Rattle.document.specs.Numbers.{answerRoom};
 ghost use Rattle.document.specs.Areas.{memoryEnd};
 ghost use Rattle.document.specs.Commands.{served};
 ghost use Rattle.document.specs.Gate.{Gate};
 ghost use Rattle.document.specs.declared.Operation.the-variants.{Read};
 ghost use Rattle.outcomes.specs.Known.{knownAs};
-ghost use Rattle.answers.specs.IsReply.{IsReply};
+ghost use Rattle.line.specs.Told.{Told};
 ghost use Rattle.fields.specs.Blocks.{OwnFits};
 ghost use Rattle.reads.specs.ReadStatus.{readStatus};
-use answers::Reply;
 use answers::alone;
 use answers::done_with;
 use codes::ANSWER_TOO_LONG;
@@ -42,14 +41,14 @@ fn read_status(block: Block) -> u8
     DONE
 }
 
-pub fn read(service: Service, body: &[u8], memory: &[u8], out: &mut [u8]) -> Reply
-    requires { ⌜ OwnFits service 0 (now body) × (length (now memory) ≡ memoryEnd) × (mostData ≤ length (now out)) ⌝ }
-    ensures { λ r. ⌜ ((g : Gate) → g .memory ≡ now (memory .entry) → IsReply (served g (knownAs Read service) (now (body .entry)) .answer) r (now (out .exit))) ⌝ }
+pub fn read(service: Service, body: &[u8], memory: &[u8], out: &mut [u8]) -> usize
+    requires { ⌜ OwnFits service 0 (now body) × (length (now memory) ≡ memoryEnd) × (answerRoom ≤ length (now out)) ⌝ }
+    ensures { λ r. ⌜ ((g : Gate) → g .memory ≡ now (memory .entry) → Told (served g (knownAs Read service) (now (body .entry)) .answer) (now (out .entry)) r (now (out .exit))) ⌝ }
 {
     let block = block_in(service, body, 0);
     let status = read_status(block);
     if status != DONE {
-        return alone(status);
+        return alone(status, out);
     }
     let from = usize_of_u32(block.address);
     let to = from + block.size;

@@ -2,16 +2,15 @@
 ghost use mathlib.Core.Path.{_≡_};
 ghost use Prim.Native.Nat.{_≤_};
 ghost use lib.ListN.{length};
-ghost use Rattle.document.specs.Numbers.{mostData};
+ghost use Rattle.document.specs.Numbers.{answerRoom};
 ghost use Rattle.document.specs.Areas.{memoryEnd};
 ghost use Rattle.document.specs.Commands.{served};
 ghost use Rattle.document.specs.Gate.{Gate};
 ghost use Rattle.document.specs.declared.Operation.the-variants.{MeasureString};
 ghost use Rattle.outcomes.specs.Known.{knownAs};
-ghost use Rattle.answers.specs.IsReply.{IsReply};
-use answers::Reply;
+ghost use Rattle.line.specs.Told.{Told};
 use answers::alone;
-use answers::done_with;
+use answers::done_word;
 use codes::LAYOUT_WRONG;
 use codes::RANGE_WRONG;
 use codes::SIZE_WRONG;
@@ -22,21 +21,21 @@ use strings::string_length;
 use widths::usize_of_u32;
 
 // The message's data are the address. What has no zero before memory's end is no string.
-pub fn measure_string(service: Service, body: &[u8], memory: &[u8], out: &mut [u8]) -> Reply
-    requires { ⌜ (length (now memory) ≡ memoryEnd) × (mostData ≤ length (now out)) ⌝ }
-    ensures { λ r. ⌜ ((g : Gate) → g .memory ≡ now (memory .entry) → IsReply (served g (knownAs MeasureString service) (now (body .entry)) .answer) r (now (out .exit))) ⌝ }
+pub fn measure_string(service: Service, body: &[u8], memory: &[u8], out: &mut [u8]) -> usize
+    requires { ⌜ (length (now memory) ≡ memoryEnd) × (answerRoom ≤ length (now out)) ⌝ }
+    ensures { λ r. ⌜ ((g : Gate) → g .memory ≡ now (memory .entry) → Told (served g (knownAs MeasureString service) (now (body .entry)) .answer) (now (out .entry)) r (now (out .exit))) ⌝ }
 {
     if body.len() != address_width(service.ex) {
-        return alone(LAYOUT_WRONG);
+        return alone(LAYOUT_WRONG, out);
     }
     let address = memory::number(body);
     if !may_be_read(address, 1) {
-        return alone(RANGE_WRONG);
+        return alone(RANGE_WRONG, out);
     }
     let from = usize_of_u32(address);
     let size = string_length(memory, from);
     if from + size == memory.len() {
-        return alone(SIZE_WRONG);
+        return alone(SIZE_WRONG, out);
     }
-    done_with(&[(size % 256) as u8, (size / 256 % 256) as u8], out)
+    done_word((size % 65536) as u16, out)
 }

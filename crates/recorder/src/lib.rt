@@ -5,5 +5,4 @@ mod state;
 
 pub use calls::Answered;
 pub use calls::Queried;
-pub use setup::SetUp;
 pub use state::Recorder;

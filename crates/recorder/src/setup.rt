@@ -1,16 +1,9 @@
-// The recorder's setup: the first refusal that applies, or a plan and a start.
+// The recorder's setup: the first refusal that applies.
 ghost use mathlib.Core.Path.{_≡_};
 ghost use Rattle.document.specs.Recorder.{isRunning};
 ghost use Rattle.recorder.specs.State.{recorderOf};
-ghost use Rattle.recorder.specs.Setup.{SetUpSettled};
+ghost use Rattle.recorder.specs.Setup.{setUpStatus};
 use crate::state::Recorder;
-use setups::read_setup;
-
-// A status, and the recorder after it.
-pub struct SetUp {
-    pub status: u8,
-    pub next: Recorder,
-}
 
 impl Recorder {
     fn is_running(self) -> bool
@@ -22,33 +15,13 @@ impl Recorder {
         self.run.running == 1
     }
 
-    // Any data part will do, and any state: refused, it comes back as it was; accepted, nothing of it is left.
-    pub fn set_up(self, ex: bool, body: &[u8]) -> SetUp
-        ensures { λ r. ⌜ SetUpSettled self ex (now (body .entry)) r ⌝ }
+    // Any data part will do, and any state.
+    pub fn set_up_status(self, ex: bool, body: &[u8]) -> u8
+        ensures { λ r. ⌜ r ≡ setUpStatus (recorderOf self) ex (now (body .entry)) ⌝ }
     {
         if self.is_running() {
-            return SetUp {
-                status: codes::BUSY,
-                next: self,
-            };
+            return codes::BUSY;
         }
-        let read = read_setup(ex, body);
-        if read.status != codes::DONE {
-            return SetUp {
-                status: read.status,
-                next: self,
-            };
-        }
-        let plan = read.plan;
-        let former = self.run;
-        let run = former.restarted();
-        SetUp {
-            status: codes::DONE,
-            next: Recorder {
-                ready: 1,
-                plan,
-                run,
-            },
-        }
+        setups::setup_status(ex, body)
     }
 }

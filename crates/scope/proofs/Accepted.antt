@@ -1,12 +1,11 @@
--- Setups: the status by the part that was read, and what an accepted one leaves.
+-- Setups: what an accepted one is, and what it leaves.
 use mathlib.Core.Path.{_≡_, refl, sym, ap, _∙_}
 use mathlib.Core.Bool.{Bool, true, false}
 use mathlib.Core.List.{List}
-use Prim.Native.Nat.{ℕ, _<_, _≤_}
-use native.Mathlib.Omega.{arith}
-use lib.Dec.{eqb, ltb}
+use Prim.Native.Nat.{ℕ, _≤_}
+use lib.Dec.{eqb}
 use lib.ListN.{length, drop}
-use borrow.Author.Tests.{eq-eqb, ne-eqb, lt-ltb, eqb-true, eqb-false, ltb-true, ltb-false, not-false}
+use borrow.Author.Tests.{eq-eqb, ne-eqb, eqb-true, eqb-false, not-false}
 use Rattle.document.specs.Areas.{mayBeRead}
 use Rattle.document.specs.Numbers.{done}
 use Rattle.document.specs.declared.Variable.{Variable}
@@ -15,13 +14,11 @@ use Rattle.document.specs.Scope.{scopeLayoutWrong, scopeSizeWrong, scopeRangeWr
 use Rattle.document.specs.Scope.Scope.{watching}
 use Rattle.variables.specs.State.{kept}
 use Rattle.variables.proofs.Wrong.{none-of, count-right}
-use Rattle.definitions.specs.declared.parts.Part.{Part}
-use Rattle.definitions.specs.Parts.{partRead}
 use Rattle.definitions.proofs.First.{none-applies}
-use Rattle.definitions.proofs.Read.{definitions-length, kept-all, read-other-length, read-too-many, read-kept}
+use Rattle.definitions.proofs.Read.{definitions-length, kept-all}
 use Rattle.scope.specs.declared.Scope.{Scope}
 use Rattle.scope.specs.State.{scopeOf, sound}
-use Rattle.scope.specs.Setup.{setUpStatus, partStatus, setUpNext}
+use Rattle.scope.specs.Setup.{setUpStatus, setUpNext}
 use Rattle.scope.proofs.Bounds.{within-bounds}
 
 -- definitions as they are kept stand for themselves
@@ -49,42 +46,6 @@ module _ (ex : Bool) (body : List ℕ) where
         sizes = z .1;
         ranges = not-false _ (n .2);
       }
-
-  -- ---- the part that was read decides
-
-  other-length : (length body ≡ lengthGiven ex body → ⊥) → partStatus (partRead ex body) ≡ setUpStatus ex body
-  unfolding setUpStatus
-  other-length n = ap partStatus (read-other-length ex body n) ∙ rw (ne-eqb (length body) (lengthGiven ex body) n)
-
-  many : length body ≡ lengthGiven ex body → 8 < countIn body → partStatus (partRead ex body) ≡ setUpStatus ex body
-  unfolding setUpStatus
-  many e m =
-      let z : eqb (countIn body) 0 ≡ false = ne-eqb (countIn body) 0 (λ h. omega arith) in
-      ap partStatus (read-too-many ex body e m) ∙ rw (eq-eqb (length body) (lengthGiven ex body) e, z, lt-ltb 8 (countIn body) m)
-
-  few : length body ≡ lengthGiven ex body → countIn body ≤ 8 → partStatus (partRead ex body) ≡ setUpStatus ex body
-  unfolding setUpStatus
-  few e m =
-      let l : length (variablesIn ex body) ≤ 8 = rw (definitions-length ex (countIn body)) m in
-      ap partStatus (read-kept ex body e m) ∙ rw (eq-eqb (length body) (lengthGiven ex body) e, kept-all (variablesIn ex body) l)
-
-  pub part-status : partStatus (partRead ex body) ≡ setUpStatus ex body
-  part-status = by-length (eqb (length body) (lengthGiven ex body)) refl
-    where
-      by-count : length body ≡ lengthGiven ex body → (t : Bool) → ltb 8 (countIn body) ≡ t → partStatus (partRead ex body) ≡ setUpStatus ex body
-      by-count e true m = many e (ltb-true _ _ m)
-      by-count e false m = few e (ltb-false _ _ m)
-
-      by-length : (t : Bool) → eqb (length body) (lengthGiven ex body) ≡ t → partStatus (partRead ex body) ≡ setUpStatus ex body
-      by-length true e = by-count (eqb-true _ _ e) (ltb 8 (countIn body)) refl
-      by-length false n = other-length (eqb-false _ _ n)
-
-  pub part-variables : setUpStatus ex body ≡ done → partRead ex body .variables ≡ kept (variablesIn ex body)
-  part-variables e =
-      let t = taken-facts e in
-      ap (λ (p : Part). p .variables) (read-kept ex body (t .right) (t .few))
-
-  -- ---- what is left
 
   module _ (s : Scope) where
     pub next-taken : setUpStatus ex body ≡ done → setUpNext s ex body ≡ record { variables = kept (variablesIn ex body) }

@@ -1,6 +1,4 @@
 -- What follows from the definitions, for the proofs of this crate and of those above it.
 pub mod Bounds
 pub mod Accepted
-pub mod Gathered
 pub mod Given
-pub mod Outcomes

@@ -1,4 +1,4 @@
--- The scope's state, and what its calls promise.
+-- The scope's state, its setup and its reading.
 pub mod State
 pub mod Setup
 pub mod Read

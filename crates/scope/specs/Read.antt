@@ -1,15 +1,12 @@
--- What a reading of the scope answers, and what it leaves in the buffer that it is lent.
-use mathlib.Core.Path.{_≡_}
+-- What a reading of the scope answers.
 use mathlib.Core.Bool.{cond}
 use mathlib.Core.List.{List, [], _∷_}
 use Prim.Native.Nat.{ℕ}
 use lib.Dec.{eqb}
 use Rattle.document.specs.Numbers.{done, notSetUp, answerTooLong}
-use Rattle.document.specs.Stores.{stored}
 use Rattle.document.specs.Scope.{scopeAbsent, scopeTooLong, scopeRead}
 use Rattle.document.specs.Refusals.{when, firstOf}
 use Rattle.scope.specs.declared.Scope.{Scope}
-use Rattle.scope.specs.declared.reading.Reading.{Reading}
 use Rattle.scope.specs.State.{scopeOf}
 
 -- "scope read with no accepted scope setup", then "the answer's data would exceed 64 bytes"
@@ -19,8 +16,3 @@ readStatus s = firstOf (when notSetUp (scopeAbsent (scopeOf s)) ∷ when answerT
 -- "the variables' bytes in that order", or none
 unfoldable pub readBytes : Scope → List ℕ → List ℕ
 readBytes s memory = cond (eqb (readStatus s) done) (scopeRead (scopeOf s) memory) []
-
-pub record IsRead (s : Scope) (memory before : List ℕ) (r : Reading) (after : List ℕ) : Type 0 where
-  pub status : r .status ≡ readStatus s
-  pub length : r .length ≡ lib.ListN.length (readBytes s memory)
-  pub out : after ≡ stored before 0 (readBytes s memory)

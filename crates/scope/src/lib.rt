@@ -1,9 +1,7 @@
 // The scope: up to eight variables that one short command reads together.
-mod reading;
 mod setup;
 
-pub use reading::Reading;
-pub use setup::SetUp;
+pub use setup::set_up_status;
 
 // The variables of the last accepted setup; a count of 0 says that there was none.
 #[repr(C)]

@@ -1,25 +1,26 @@
 -- An arm of the dispatch: what its operation promises, with the operation known, is what its service does.
-use mathlib.Core.Path.{_≡_, sym, ap, subst}
-use mathlib.Core.List.{List, []}
+use mathlib.Core.Path.{_≡_, refl, sym, ap, subst, _∙_}
+use mathlib.Core.List.{List}
 use Prim.Native.Nat.{ℕ, _<_, _≤_}
 use lib.ListN.{length, getD}
+use Rattle.document.specs.Numbers.{notServed}
 use Rattle.document.specs.Gate.{Gate}
 use Rattle.document.specs.Commands.{served}
 use Rattle.document.specs.declared.Operation.{Operation}
+use Rattle.document.specs.declared.Operation.the-variants.{Unserved}
 use Rattle.document.specs.declared.Service.{Service}
+use Rattle.line.specs.Told.{Told}
+use Rattle.line.proofs.Writing.{told-as}
 use Rattle.outcomes.specs.Known.{knownAs}
 use Rattle.outcomes.specs.Changes.{Change, changeOf}
 use Rattle.outcomes.specs.Changes.Change.{nothing}
 use Rattle.outcomes.proofs.Served.{served-same}
-use Rattle.answers.specs.declared.Reply.{Reply}
-use Rattle.answers.specs.IsReply.{IsReply}
-use Rattle.answers.proofs.Replies.{reply-as}
 use Rattle.writes.specs.Wrote.{Wrote}
 use Rattle.state.specs.State.{Instruments, gateOf}
 use Rattle.target.specs.After.{instrumentsChanged, instrumentsAfter}
 use Rattle.blocks.specs.Places.{stateLength}
 use Rattle.blocks.specs.Layout.{decodedInstruments}
-use Rattle.instruments.specs.Operates.{Operates}
+use Rattle.instruments.specs.Operates.{alone, Settles, Operates}
 use Rattle.instruments.proofs.Changing.{same-block}
 
 -- what a dispatch is asked
@@ -48,31 +49,60 @@ module _ (q : Asked) where
   g = gateOf i (q .memory)
 
   module _ (o : Operation) (is : s .operation ≡ o) where
-    pub known : {r : Reply} {out after left : List ℕ} → Operates (served g (knownAs o s) body) (instrumentsAfter o i (knownAs o s) body) block r out after left
-        → Operates (served g s body) (instrumentsAfter (s .operation) i s body) block r out after left
-    known {r} {out} {after} {left} done =
-        let same : knownAs o s ≡ s = λ j. record { operation = sym is j; ex = s .ex; size = s .size } in
-        subst (λ (t : Service). Operates (served g t body) (instrumentsAfter (t .operation) i t body) block r out after left) same done
+    same : knownAs o s ≡ s
+    same j = record { operation = sym is j; ex = s .ex; size = s .size }
 
-    -- one that only answers
-    pub replied : changeOf o ≡ nothing → {r : Reply} {out : List ℕ} → IsReply (served g (knownAs o s) body .answer) r out
-        → Operates (served g s body) (instrumentsAfter (s .operation) i s body) block r out block (q .memory)
-    replied none reply =
-        known
+    -- ---- the answer is told
+
+    -- one that changes nothing
+    pub tells : changeOf o ≡ nothing → {out : List ℕ} {n : ℕ} {sent : List ℕ} → Told (served g (knownAs o s) body .answer) out n sent
+        → Operates (served g s body) (instrumentsAfter (s .operation) i s body) block out n sent block (q .memory)
+    tells none {out} {n} {sent} told =
+        subst (λ (t : Service). Operates (served g t body) (instrumentsAfter (t .operation) i t body) block out n sent block (q .memory)) same
         (record {
-          reply = reply;
+          told = told;
           memory = ap (λ (t : Gate). t .memory) (sym (served-same g (knownAs o s) body none));
           kept = same-block block (q .long) (q .small) _ (ap (λ (c : Change). instrumentsChanged c i (knownAs o s) body) (sym none));
         })
 
-    -- one that writes, and says its status
-    pub wrote : i ≡ instrumentsAfter o i (knownAs o s) body → (status : ℕ) (left : List ℕ) {r : Reply} {out : List ℕ} → Wrote (served g (knownAs o s) body) status left
-        → IsReply (record { status = status; body = [] }) r out
-        → Operates (served g s body) (instrumentsAfter (s .operation) i s body) block r out block left
-    wrote kept status left written reply =
-        known
+    -- ---- a status is to be told
+
+    pub settles : (status : ℕ) (after left : List ℕ) → Settles (served g (knownAs o s) body) (instrumentsAfter o i (knownAs o s) body) block status after left
+        → Settles (served g s body) (instrumentsAfter (s .operation) i s body) block status after left
+    settles status after left done =
+        subst (λ (t : Service). Settles (served g t body) (instrumentsAfter (t .operation) i t body) block status after left) same done
+
+    -- one that changes nothing
+    pub says : changeOf o ≡ nothing → (status : ℕ) → alone status ≡ served g (knownAs o s) body .answer
+        → Settles (served g s body) (instrumentsAfter (s .operation) i s body) block status block (q .memory)
+    says none status said =
+        settles status block (q .memory)
         (record {
-          reply = reply-as _ _ (sym (written .answer)) reply;
-          memory = written .memory;
-          kept = same-block block (q .long) (q .small) _ kept;
+          answer = said;
+          memory = ap (λ (t : Gate). t .memory) (sym (served-same g (knownAs o s) body none));
+          kept = same-block block (q .long) (q .small) _ (ap (λ (c : Change). instrumentsChanged c i (knownAs o s) body) (sym none));
         })
+
+    -- one that writes
+    pub wrote : i ≡ instrumentsAfter o i (knownAs o s) body → (status : ℕ) (left : List ℕ) → Wrote (served g (knownAs o s) body) status left
+        → Settles (served g s body) (instrumentsAfter (s .operation) i s body) block status block left
+    wrote kept status left written =
+        settles status block left
+        (record { answer = sym (written .answer); memory = written .memory; kept = same-block block (q .long) (q .small) _ kept })
+
+  -- where the arms meet
+  pub met : {status : ℕ} {after left : List ℕ} {r : ℕ} {a l : List ℕ} → status ≡ r → after ≡ a → left ≡ l
+      → Settles (served g s body) (instrumentsAfter (s .operation) i s body) block r a l
+      → Settles (served g s body) (instrumentsAfter (s .operation) i s body) block status after left
+  met e f h done = record { answer = ap alone e ∙ done .answer; memory = h ∙ done .memory; kept = f ∙ done .kept }
+
+  -- the status is told
+  pub settled-told : (status : ℕ) {after left out : List ℕ} {n : ℕ} {sent : List ℕ} → Settles (served g s body) (instrumentsAfter (s .operation) i s body) block status after left
+      → Told (alone status) out n sent → Operates (served g s body) (instrumentsAfter (s .operation) i s body) block out n sent after left
+  settled-told status done told =
+      record { told = told-as (alone status) _ (done .answer) told; memory = done .memory; kept = done .kept }
+
+-- "not served"
+pub unserved-says : (g : Gate) (s : Service) (body : List ℕ) → alone notServed ≡ served g (knownAs Unserved s) body .answer
+unfolding served
+unserved-says g s body = refl

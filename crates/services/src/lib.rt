@@ -1,9 +1,10 @@
-// A service whose message has a right sum and length: one arm for each operation. The message's data stand in the block, up to a place.
+// A service whose message has a right sum and length: one arm for each operation, which tells its answer, or has a status to tell.
+// The message's data stand in the block, up to a place.
 ghost use mathlib.Core.Path.{_≡_};
 ghost use mathlib.Core.Bool.{true};
 ghost use Prim.Native.Nat.{_≤_};
 ghost use lib.ListN.{length};
-ghost use Rattle.document.specs.Numbers.{mostData};
+ghost use Rattle.document.specs.Numbers.{answerRoom};
 ghost use Rattle.document.specs.Areas.{memoryEnd};
 ghost use Rattle.document.specs.Commands.{served};
 ghost use Rattle.scope.specs.State.{sound};
@@ -13,26 +14,25 @@ ghost use Rattle.target.specs.After.{instrumentsAfter};
 ghost use Rattle.blocks.specs.Places.{bodyPlace, scopePlace, stateLength};
 ghost use Rattle.blocks.specs.Layout.{dataTo, decodedScope, decodedInstruments};
 ghost use Rattle.instruments.specs.Operates.{Operates};
-use answers::Reply;
 use answers::alone;
 use answers::describe;
 use answers::describe_briefly;
-use answers::unserved;
 use blocks::BODY;
+use codes::NOT_SERVED;
 use document::Operation;
 use document::Service;
 use instruments::command_result;
 use instruments::query_buffer;
-use instruments::read_scope;
 use instruments::send_command;
 use instruments::set_up_recorder;
-use instruments::set_up_scope;
 use instruments::start;
 use instruments::status;
 use instruments::stop;
 use instruments::tell_table;
 use reads::measure_string;
 use reads::read;
+use scoping::read_scope;
+use scoping::set_up_scope;
 use writes::write;
 use writes::write_masked;
 
@@ -42,28 +42,31 @@ pub fn serve(
     to: usize,
     memory: &mut [u8],
     out: &mut [u8],
-) -> Reply
-    requires { ⌜ Framed service (dataTo (now state) to) × (bodyPlace ≤ to) × (to ≤ scopePlace) × (stateLength ≤ length (now state)) × (sound (decodedScope (now state)) ≡ true) × (length (now memory) ≡ memoryEnd) × (mostData ≤ length (now out)) ⌝ }
-    ensures { λ r. ⌜ Operates (served (gateOf (decodedInstruments (now (state .entry))) (now (memory .entry))) service (dataTo (now (state .entry)) to)) (instrumentsAfter (service .operation) (decodedInstruments (now (state .entry))) service (dataTo (now (state .entry)) to)) (now (state .entry)) r (now (out .exit)) (now (state .exit)) (now (memory .exit)) ⌝ }
+) -> usize
+    requires { ⌜ Framed service (dataTo (now state) to) × (bodyPlace ≤ to) × (to ≤ scopePlace) × (stateLength ≤ length (now state)) × (sound (decodedScope (now state)) ≡ true) × (length (now memory) ≡ memoryEnd) × (answerRoom ≤ length (now out)) ⌝ }
+    ensures { λ r. ⌜ Operates (served (gateOf (decodedInstruments (now (state .entry))) (now (memory .entry))) service (dataTo (now (state .entry)) to)) (instrumentsAfter (service .operation) (decodedInstruments (now (state .entry))) service (dataTo (now (state .entry)) to)) (now (state .entry)) (now (out .entry)) r (now (out .exit)) (now (state .exit)) (now (memory .exit)) ⌝ }
 {
     let operation = service.operation;
-    match operation {
-        Operation::Unserved => unserved(),
-        Operation::Describe => describe(out),
-        Operation::DescribeBriefly => describe_briefly(out),
-        Operation::Read => read(service, &state[BODY..to], memory, out),
-        Operation::Write => alone(write(service, &state[BODY..to], memory)),
-        Operation::WriteMasked => alone(write_masked(service, &state[BODY..to], memory)),
+    let status = match operation {
+        Operation::Unserved => NOT_SERVED,
+        Operation::Describe => return describe(out),
+        Operation::DescribeBriefly => return describe_briefly(out),
+        Operation::Read => return read(service, &state[BODY..to], memory, out),
+        Operation::Write => write(service, &state[BODY..to], memory),
+        Operation::WriteMasked => write_masked(service, &state[BODY..to], memory),
         Operation::SetUpScope => set_up_scope(state, service, to),
-        Operation::ReadScope => read_scope(state, memory, out),
+        Operation::ReadScope => return read_scope(state, memory, out),
         Operation::SetUpRecorder => set_up_recorder(state, service, to),
         Operation::Start => start(state),
         Operation::Stop => stop(state),
         Operation::Status => status(state),
-        Operation::QueryBuffer => query_buffer(state, service, out),
+        Operation::QueryBuffer => return query_buffer(state, service, out),
         Operation::SendCommand => send_command(state, to),
-        Operation::CommandResult => command_result(state, out),
-        Operation::TellTable => tell_table(state, to, out),
-        Operation::MeasureString => measure_string(service, &state[BODY..to], memory, out),
-    }
+        Operation::CommandResult => return command_result(state, out),
+        Operation::TellTable => return tell_table(state, to, out),
+        Operation::MeasureString => {
+            return measure_string(service, &state[BODY..to], memory, out);
+        }
+    };
+    alone(status, out)
 }

@@ -1,19 +1,21 @@
 -- A set into its place: turns of the copy, which reads below the place and writes in it.
 use mathlib.Core.Path.{_≡_, refl, sym, ap, _∙_}
+use mathlib.Core.Bool.{Bool, true}
 use mathlib.Core.List.{List, [], _∷_, _++_}
-use Prim.Native.Nat.{ℕ, suc, zero, _+_, _<_, _≤_}
+use Prim.Native.Nat.{ℕ, suc, zero, _+_, _-_, _<_, _≤_}
 use native.Mathlib.Nat.{zero-add, suc-add}
 use native.Mathlib.Numerals.{add-one}
 use native.Mathlib.Omega.{arith}
 use lib.ListN.{length, getD, set, take, drop, length-set, take-append-drop}
 use lib.Seq.{drop-cons, drop-set-add, drop-set-lt, getD-drop, getD-take, take-nil, take-set-le, take-set-lt, take-take}
-use Rattle.document.specs.declared.Variable.{Variable}
 use Rattle.document.specs.Areas.{bytesAt}
+use Rattle.document.specs.Values.{number}
 use Rattle.document.specs.Stores.{stored}
-use Rattle.document.specs.Variables.{valuesOf}
+use Rattle.document.specs.Variables.{definitionsIn, allMay, setSize, valuesOf}
+use Rattle.document.proofs.Cases.{both}
 use Rattle.memory.proofs.Copies.{stored-append}
-use Rattle.variables.proofs.Each.{blank, next-variable}
-use Rattle.variables.proofs.Values.{range-length}
+use Rattle.block_fields.proofs.Ranges.{bytes-length}
+use Rattle.block_fields.proofs.Definitions.{definitions-first}
 
 -- ---- one byte
 
@@ -31,7 +33,7 @@ same-byte m m₀ at i e h = sym (getD-take at m i 0 h) ∙ ap (λ (l : List ℕ)
 byte-next : (m₀ m : List ℕ) (from size i o b : ℕ) → i < size → from + size ≤ length m₀ → b ≡ getD m₀ (from + i) 0
     → stored (set m o b) (o + 1) (drop (i + 1) (bytesAt m₀ from size)) ≡ stored m o (drop i (bytesAt m₀ from size))
 byte-next m₀ m from size i o b h r e =
-    let l : i < length (bytesAt m₀ from size) = rw (range-length m₀ from size r) h in
+    let l : i < length (bytesAt m₀ from size) = rw (bytes-length m₀ from size r) h in
     rw (add-one i, add-one o, e, drop-cons (bytesAt m₀ from size) i 0 l, getD-take size (drop from m₀) i 0 h, getD-drop from m₀ i 0)
 
 module _ (m₀ m m′ : List ℕ) (at done from size i b : ℕ) (h : i < size) (below : from + size ≤ at) (fits : at ≤ length m₀) where
@@ -67,13 +69,25 @@ same-range m m₀ at from size e h =
 pub stored-front : (m m′ vs : List ℕ) (at i : ℕ) → at ≤ i → m′ ≡ stored m i vs → take at m′ ≡ take at m
 stored-front m m′ vs at i h e = ap (take at) e ∙ front-kept vs m at i h
 
-module _ (list : List Variable) (count k : ℕ) (h : k < count) (room : count ≤ length list) (m₀ m m′ : List ℕ) (at done from size : ℕ) where
-  pub variable-kept : from ≡ getD list k blank .address → size ≡ getD list k blank .size → from + size ≤ at → from + size ≤ length m₀
-      → take at m ≡ take at m₀ → m′ ≡ stored m (at + done) (bytesAt m from size)
-      → stored m′ (at + (done + size)) (valuesOf m₀ (drop (k + 1) (take count list))) ≡ stored m (at + done) (valuesOf m₀ (drop k (take count list)))
-  variable-kept ea es below fits t e =
-      let a = getD list k blank .address in
-      let s = getD list k blank .size in
-      let v : bytesAt m from size ≡ bytesAt m₀ a s = same-range m m₀ at from size t below ∙ rw (ea, es) in
-      let p : at + (done + size) ≡ at + done + length (bytesAt m₀ a s) = omega (arith, range-length m₀ a s (omega arith)) in
-      rw (e, v, p, next-variable list count k h room, stored-append (bytesAt m₀ a s))
+-- a turn: the definition at this place of the block, and those behind it
+module _ (block : List ℕ) (next left size address : ℕ) (some : 0 < left)
+    (es : size ≡ getD block next 0) (ea : address ≡ number (bytesAt block (next + 1) 4)) where
+  first : definitionsIn true left (drop next block) ≡ record { address = address; size = size } ∷ definitionsIn true (left - 1) (drop (next + 5) block)
+  first = definitions-first block next left size address some es ea
+
+  pub size-first : setSize (definitionsIn true left (drop next block)) ≡ size + setSize (definitionsIn true (left - 1) (drop (next + 5) block))
+  size-first = ap setSize first
+
+  pub may-first : (may : ℕ → ℕ → Bool) → allMay may (definitionsIn true left (drop next block)) ≡ true
+      → (may address size ≡ true) × (allMay may (definitionsIn true (left - 1) (drop (next + 5) block)) ≡ true)
+  may-first may e =
+      both (may address size) (allMay may (definitionsIn true (left - 1) (drop (next + 5) block))) (sym (ap (allMay may) first) ∙ e)
+
+  module _ (m₀ m m′ : List ℕ) (at done : ℕ) where
+    pub variable-kept : address + size ≤ at → address + size ≤ length m₀ → take at m ≡ take at m₀ → m′ ≡ stored m (at + done) (bytesAt m address size)
+        → stored m′ (at + (done + size)) (valuesOf m₀ (definitionsIn true (left - 1) (drop (next + 5) block)))
+        ≡ stored m (at + done) (valuesOf m₀ (definitionsIn true left (drop next block)))
+    variable-kept below fits t e =
+        let v : bytesAt m address size ≡ bytesAt m₀ address size = same-range m m₀ at address size t below in
+        let p : at + (done + size) ≡ at + done + length (bytesAt m₀ address size) = omega (arith, bytes-length m₀ address size fits) in
+        rw (e, v, p, first, stored-append (bytesAt m₀ address size))

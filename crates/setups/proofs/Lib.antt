@@ -1,4 +1,3 @@
 -- What follows from the definitions, for the proofs of this crate and of those above it.
 pub mod Heads
 pub mod SetUps
-pub mod Answers

@@ -1,2 +1,2 @@
--- What reading a setup gives.
+-- What a setup is answered with, and what it leaves.
 pub mod Setup

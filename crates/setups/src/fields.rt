@@ -1,18 +1,21 @@
 // The fields of a setup's data part, in their order.
 ghost use mathlib.Core.Path.{_≡_};
+ghost use mathlib.Core.List.{[]};
 ghost use Prim.Native.Nat.{_+_, _*_, _^_, _≤_, _<_};
 ghost use lib.ListN.{length, take};
 ghost use Rattle.document.specs.Areas.{bytesAt};
 ghost use Rattle.document.specs.Values.{number};
 ghost use Rattle.document.specs.Plan.{headWidth, planIn};
+ghost use Rattle.variables.specs.State.{kept};
 ghost use Rattle.plans.specs.State.{planKept};
 use definitions::address_width;
 use memory::number_at;
 use plans::Plan;
+use variables::MOST_VARIABLES;
 use variables::Variables;
 use widths::usize_of_u8;
 
-fn word_at(body: &[u8], at: usize) -> u16
+pub(crate) fn word_at(body: &[u8], at: usize) -> u16
     requires { ⌜ at + 2 ≤ length (now body) ⌝ }
     ensures { λ r. ⌜ r ≡ number (bytesAt (now (body .entry)) at 2) ⌝ }
 {
@@ -31,10 +34,17 @@ fn threshold_at(body: &[u8], at: usize, size: usize) -> u32
     number_at(body, at, 4)
 }
 
-// The fields before the count, with the variables behind it. With mode 0 the trigger's fields are not looked at.
-pub(crate) fn read_plan(ex: bool, body: &[u8], v: Variables) -> Plan
+// How many bytes stand before the count.
+pub(crate) fn head_width(ex: bool) -> usize
+    ensures { λ r. ⌜ (r ≡ headWidth ex) × (r ≤ 17) ⌝ }
+{
+    13 + address_width(ex)
+}
+
+// The numbers before the count, without the variables. With mode 0 the trigger's fields are not looked at.
+pub fn read_plan(ex: bool, body: &[u8]) -> Plan
     requires { ⌜ headWidth ex ≤ length (now body) ⌝ }
-    ensures { λ r. ⌜ (r ≡ planKept (planIn ex (now (body .entry))) v) × (r .size ≤ 4 → r .threshold < 2 ^ (8 * r .size)) ⌝ }
+    ensures { λ r. ⌜ (r ≡ planKept (planIn ex (now (body .entry))) (kept [])) × (r .size ≤ 4 → r .threshold < 2 ^ (8 * r .size)) ⌝ }
 {
     let mut plan = Plan {
         samples: word_at(body, 1),
@@ -45,7 +55,13 @@ pub(crate) fn read_plan(ex: bool, body: &[u8], v: Variables) -> Plan
         sign: 0,
         address: 0,
         threshold: 0,
-        variables: v,
+        variables: Variables {
+            count: 0,
+            list: [document::Variable {
+                address: 0,
+                size: 0,
+            }; MOST_VARIABLES],
+        },
     };
     let mode = body[0];
     if mode == 0 {

@@ -1,47 +1,62 @@
-// What is wrong with a plan that was read from a setup.
+// What is wrong with a setup, line by line of the table.
 ghost use mathlib.Core.Path.{_≡_};
 ghost use mathlib.Core.Bool.{not, _&&_};
 ghost use mathlib.Core.List.{[], _∷_};
-ghost use Prim.Native.Nat.{_*_, _≤_};
+ghost use Prim.Native.Nat.{_+_, _*_, _≤_};
 ghost use lib.Dec.{eqb, ltb};
+ghost use lib.ListN.{length};
 ghost use Rattle.document.specs.Numbers.{isIn};
 ghost use Rattle.document.specs.Areas.{mayBeRecorded};
-ghost use Rattle.document.specs.Variables.{setSize};
-ghost use Rattle.variables.specs.State.{variablesOf};
-ghost use Rattle.setups.specs.Setup.{planLayoutWrong, planSizeWrong, planRangeWrong, planStatus};
+ghost use Rattle.document.specs.Variables.{lengthGiven};
+ghost use Rattle.document.specs.Plan.{headWidth, variablesPart, recorderLayoutWrong};
+ghost use Rattle.setups.specs.Setup.{seenSizeWrong, seenRangeWrong, bodyStatus};
+use crate::fields::head_width;
+use crate::fields::word_at;
+use definitions::Surveyed;
+use definitions::address_width;
+use definitions::is_whole;
+use definitions::survey;
 use memory::BUFFER_SIZE;
 use memory::RECORDED_END;
 use memory::may_be_recorded;
-use plans::Plan;
+use memory::number_at;
 use plans::is_trigger_size;
-use variables::Variables;
-use variables::all_within;
-use variables::any_size_zero;
 use variables::is_count_wrong;
-use variables::set_size;
 use widths::usize_of_u8;
 use widths::usize_of_u16;
 
-fn is_layout_wrong(whole: bool, mode: u8, sign: u8) -> bool
-    ensures { λ r. ⌜ r ≡ planLayoutWrong whole mode sign ⌝ }
+// Too short for the fields before the count, or not as long as the count gives.
+fn is_length_wrong(ex: bool, body: &[u8]) -> bool
+    ensures { λ r. ⌜ r ≡ not (eqb (length (now (body .entry))) (headWidth ex + lengthGiven ex (variablesPart ex (now (body .entry))))) ⌝ }
 {
-    if !whole {
+    let head = head_width(ex);
+    if body.len() < head {
         return true;
     }
+    !is_whole(&body[head..], ex)
+}
+
+fn is_layout_wrong(ex: bool, body: &[u8]) -> bool
+    ensures { λ r. ⌜ r ≡ recorderLayoutWrong ex (now (body .entry)) ⌝ }
+{
+    if is_length_wrong(ex, body) {
+        return true;
+    }
+    let mode = body[0];
     if mode > 2 {
         return true;
     }
     if mode == 0 {
         return false;
     }
-    sign > 1
+    body[8 + address_width(ex)] > 1
 }
 
-fn do_sets_overflow(samples: u16, v: Variables) -> bool
-    requires { ⌜ v .count ≤ 8 ⌝ }
-    ensures { λ r. ⌜ r ≡ ltb 4096 (samples * setSize (variablesOf v)) ⌝ }
+fn do_sets_overflow(samples: u16, size: usize) -> bool
+    requires { ⌜ size ≤ 2040 ⌝ }
+    ensures { λ r. ⌜ r ≡ ltb 4096 (samples * size) ⌝ }
 {
-    usize_of_u16(samples) * set_size(v) > BUFFER_SIZE
+    usize_of_u16(samples) * size > BUFFER_SIZE
 }
 
 fn is_trigger_size_wrong(mode: u8, size: u8) -> bool
@@ -53,24 +68,22 @@ fn is_trigger_size_wrong(mode: u8, size: u8) -> bool
     !is_trigger_size(size)
 }
 
-fn is_size_wrong(count: u8, plan: Plan) -> bool
-    requires { ⌜ plan .variables .count ≤ 8 ⌝ }
-    ensures { λ r. ⌜ r ≡ planSizeWrong count plan ⌝ }
+// Of variables whose count is right.
+fn is_size_wrong(ex: bool, body: &[u8], seen: Surveyed) -> bool
+    requires { ⌜ (headWidth ex ≤ length (now body)) × (seen .size ≤ 2040) ⌝ }
+    ensures { λ r. ⌜ r ≡ seenSizeWrong ex (now (body .entry)) seen ⌝ }
 {
-    let v = plan.variables;
-    if any_size_zero(v) {
+    if seen.zero {
         return true;
     }
-    if is_count_wrong(count) {
+    let samples = word_at(body, 1);
+    if samples == 0 {
         return true;
     }
-    if plan.samples == 0 {
+    if do_sets_overflow(samples, seen.size) {
         return true;
     }
-    if do_sets_overflow(plan.samples, v) {
-        return true;
-    }
-    is_trigger_size_wrong(plan.mode, plan.size)
+    is_trigger_size_wrong(body[0], body[7 + address_width(ex)])
 }
 
 fn is_trigger_range_wrong(mode: u8, address: u32, size: u8) -> bool
@@ -82,28 +95,33 @@ fn is_trigger_range_wrong(mode: u8, address: u32, size: u8) -> bool
     !may_be_recorded(address, usize_of_u8(size))
 }
 
-fn is_range_wrong(plan: Plan) -> bool
-    requires { ⌜ plan .variables .count ≤ 8 ⌝ }
-    ensures { λ r. ⌜ r ≡ planRangeWrong plan ⌝ }
+fn is_range_wrong(ex: bool, body: &[u8], seen: Surveyed) -> bool
+    requires { ⌜ headWidth ex ≤ length (now body) ⌝ }
+    ensures { λ r. ⌜ r ≡ seenRangeWrong ex (now (body .entry)) seen ⌝ }
 {
-    let v = plan.variables;
-    if !all_within(v, RECORDED_END) {
+    if !seen.within {
         return true;
     }
-    is_trigger_range_wrong(plan.mode, plan.address, plan.size)
+    let width = address_width(ex);
+    is_trigger_range_wrong(body[0], number_at(body, 7, width), body[7 + width])
 }
 
-pub(crate) fn status_of(whole: bool, count: u8, plan: Plan) -> u8
-    requires { ⌜ plan .variables .count ≤ 8 ⌝ }
-    ensures { λ r. ⌜ r ≡ planStatus whole count plan ⌝ }
+// Any data part will do.
+pub fn setup_status(ex: bool, body: &[u8]) -> u8
+    ensures { λ r. ⌜ r ≡ bodyStatus ex (now (body .entry)) ⌝ }
 {
-    if is_layout_wrong(whole, plan.mode, plan.sign) {
+    if is_layout_wrong(ex, body) {
         return codes::LAYOUT_WRONG;
     }
-    if is_size_wrong(count, plan) {
+    let head = head_width(ex);
+    if is_count_wrong(body[head]) {
         return codes::SIZE_WRONG;
     }
-    if is_range_wrong(plan) {
+    let seen = survey(&body[head..], ex, RECORDED_END);
+    if is_size_wrong(ex, body, seen) {
+        return codes::SIZE_WRONG;
+    }
+    if is_range_wrong(ex, body, seen) {
         return codes::RANGE_WRONG;
     }
     codes::DONE

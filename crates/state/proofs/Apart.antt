@@ -1,19 +1,16 @@
 -- Two sound states that differ in anything that is looked at stand for different gates: what a state stands for hides nothing.
 use mathlib.Core.Path.{_≡_, refl, sym, ap, _∙_}
-use mathlib.Core.Bool.{true, not, _&&_}
+use mathlib.Core.Bool.{true, not}
 use mathlib.Core.List.{List, [], _∷_, _++_}
-use Prim.Native.Nat.{ℕ, zero, suc, _*_, _/_, _≤_, _<_}
+use Prim.Native.Nat.{ℕ, zero, suc, _*_, _/_, _≤_}
 use native.Mathlib.Omega.{arith}
 use borrow.Author.Tests.{eqb-true, eqb-false, leb-true}
 use lib.Dec.{eqb, leb}
 use lib.ListN.{length, replicate, take, drop, length-take}
 use Rattle.document.specs.Numbers.{mostData}
 use Rattle.document.specs.Bytes.{AllBytes}
-use Rattle.document.specs.Values.{number, littleEndian}
 use Rattle.document.specs.Tables.{mostTables, pairSize, tablesIn}
-use Rattle.document.specs.declared.Variable.{Variable}
 use Rattle.document.proofs.Cases.{split, and-left, and-right}
-use Rattle.document.proofs.Values.{bytes-of-number}
 use Rattle.variables.specs.State.{kept}
 use Rattle.scope.specs.declared.Scope.{Scope}
 use Rattle.scope.specs.State.{scopeOf}
@@ -27,10 +24,11 @@ use Rattle.application.specs.State.{isNone, isWaiting, isCollected, isEnded, Co
 use Rattle.application.specs.State as application
 use Rattle.tables.specs.State as tables
 use Rattle.tables.specs.State.{Registered, listLength, tablesOf, registeredList}
+use Rattle.tables.proofs.Told.{pair-back}
 use Rattle.state.specs.State.{Instruments, gateOf}
 use Rattle.state.specs.Looked.{lookedScope, lookedRecorder, looked, scopeKept, recorderKept, lookedCommand, commandKept, lookedTables, listOf, tablesKept, instrumentsKept}
 use Rattle.state.specs.Within.{TablesWithin}
-use Rattle.state.proofs.ByteLaws.{all-at, all-take}
+use Rattle.state.proofs.ByteLaws.{all-take}
 
 scope-back : (s : Scope) → scopeKept (scopeOf s) ≡ lookedScope s
 scope-back s =
@@ -69,9 +67,6 @@ command-back c within size =
     rw phase refl)))
 
 -- a list of whole pairs is read back from its tables
-pair-back : (a b : ℕ) → a < 256 → b < 256 → littleEndian 2 (number (a ∷ b ∷ [])) ≡ a ∷ b ∷ []
-pair-back a b ha hb = bytes-of-number (a ∷ b ∷ []) (all-at (a ∷ b ∷ []) (ha, (hb, tt)))
-
 list-back : (n : ℕ) (l : List ℕ) → length l ≡ n * pairSize → AllBytes l → listOf (tablesIn l) ≡ l
 list-back zero [] e all = refl
 list-back zero (a ∷ l) e all = let x : ⊥ = omega arith in absurd x

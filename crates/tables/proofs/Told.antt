@@ -29,8 +29,9 @@ further a b c d l k =
     let q : List ℕ = a ∷ b ∷ c ∷ d ∷ l in
     λ i. 2 ∷ 0 ∷ getD q (e2 i) 0 ∷ getD q (e3 i) 0 ∷ getD q (e0 i) 0 ∷ getD q (e1 i) 0 ∷ []
 
-pair : (a b : ℕ) → a < 256 → b < 256 → littleEndian 2 (number (a ∷ b ∷ [])) ≡ a ∷ b ∷ []
-pair a b ha hb = bytes-of-number (a ∷ b ∷ []) small
+-- two bytes are read back from the number that they are
+pub pair-back : (a b : ℕ) → a < 256 → b < 256 → littleEndian 2 (number (a ∷ b ∷ [])) ≡ a ∷ b ∷ []
+pair-back a b ha hb = bytes-of-number (a ∷ b ∷ []) small
   where
     small : (i : ℕ) → getD (a ∷ b ∷ []) i 0 < 256
     small zero = ha
@@ -47,7 +48,7 @@ told-there (a ∷ b ∷ c ∷ []) (suc n) index small h long = let x : ⊥ = ome
 told-there (a ∷ b ∷ c ∷ d ∷ l) (suc n) zero small h long =
     sym
     (ap (λ (ts : List Table). tableAnswer ts 0) (more n a b c d l)
-    ∙ (λ i. 2 ∷ 0 ∷ (pair c d (small 2) (small 3) i ++ pair a b (small 0) (small 1) i)))
+    ∙ (λ i. 2 ∷ 0 ∷ (pair-back c d (small 2) (small 3) i ++ pair-back a b (small 0) (small 1) i)))
 told-there (a ∷ b ∷ c ∷ d ∷ l) (suc n) (suc index) small h long =
     further a b c d l index
     ∙ told-there l n index (λ i. small (suc (suc (suc (suc i))))) (omega arith) (omega arith)

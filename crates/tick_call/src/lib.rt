@@ -1,28 +1,67 @@
-// The gate's tick over a block.
+// The gate's tick over a block: a set every (time divider + 1)th, into its place of the ring.
 ghost use mathlib.Core.Path.{_≡_};
 ghost use mathlib.Core.Bool.{true};
 ghost use Prim.Native.Nat.{_≤_};
 ghost use lib.ListN.{length};
 ghost use lib.Seq.{sets};
 ghost use Rattle.document.specs.Areas.{memoryEnd};
+ghost use Rattle.document.specs.Stores.{stored};
+ghost use Rattle.document.specs.Run.{placeBegins, setOf, setTaken};
 ghost use Rattle.document.specs.Recorder.{tickedMemory};
+ghost use Rattle.plans.specs.State.{planOf};
+ghost use Rattle.plans.specs.Bounds.{planSound};
+ghost use Rattle.runs.specs.State.{runOf, runKept};
+ghost use Rattle.runs.specs.Bounds.{runSound};
 ghost use Rattle.recorder.specs.State.{recorderOf};
 ghost use Rattle.state.specs.Bounds.{sound};
 ghost use Rattle.blocks.specs.Places.{stateLength};
-ghost use Rattle.blocks.specs.Layout.{decoded, encoded, decodedRecorder};
+ghost use Rattle.blocks.specs.Layout.{decoded, encoded, decodedPlan, decodedRecorder};
 ghost use Rattle.tick_call.specs.Promises.{tickedTarget, TickTaken};
+use block_fields::put_word;
+use blocks::READY;
+use blocks::RECORDED;
+use blocks::RECORDED_DEFINITIONS;
+use blocks::WAIT;
+use blocks::plan_in;
+use blocks::put_run;
+use blocks::run_in;
 use checks::tick_refusal;
 use codes::TAKEN;
+use runs::Run;
+use ticks::take_set;
+use ticks::trigger_value;
+use widths::usize_of_u8;
 
-// A tick that nothing refuses: only the recorder's run changes.
+// A set that is due goes to its place of the ring, by the plan and the definitions in the block. The result is the run after it.
+fn take(state: &[u8], memory: &mut [u8], run: Run) -> Run
+    requires { ⌜ (stateLength ≤ length (now state)) × (planSound (decodedPlan (now state)) ≡ true) × (runSound (decodedPlan (now state)) run ≡ true) × (run .running ≡ 1) × (length (now memory) ≡ memoryEnd) ⌝ }
+    ensures { λ r. ⌜ (r ≡ runKept (setTaken (planOf (decodedPlan (now (state .entry)))) (runOf run) (now (memory .entry)))) × (now (memory .exit) ≡ stored (now (memory .entry)) (placeBegins (planOf (decodedPlan (now (state .entry)))) (run .place)) (setOf (planOf (decodedPlan (now (state .entry)))) (now (memory .entry)))) ⌝ }
+{
+    let plan = plan_in(state);
+    let value = trigger_value(plan, memory);
+    let count = usize_of_u8(state[RECORDED]);
+    take_set(memory, run.place, state, RECORDED_DEFINITIONS, count);
+    run.after_set(plan, value)
+}
+
+// A tick that nothing refuses: only the recorder's run changes, and while it waits only the wait.
 fn tick_within(state: &mut [u8], memory: &mut [u8])
     requires { ⌜ (stateLength ≤ length (now state)) × (sound (decoded (now state)) ≡ true) × (length (now memory) ≡ memoryEnd) ⌝ }
     ensures { λ _. ⌜ (now (state .exit) ≡ sets (now (state .entry)) 0 (encoded (tickedTarget (decoded (now (state .entry))) (now (memory .entry))))) × (now (memory .exit) ≡ tickedMemory (recorderOf (decodedRecorder (now (state .entry)))) (now (memory .entry))) ⌝ }
 {
-    let recorder = blocks::recorder_in(state);
-    let next = ticks::tick(recorder, memory);
-    let run = next.run;
-    blocks::put_run(state, run);
+    if state[READY] == 0 {
+        return;
+    }
+    let run = run_in(state);
+    if run.running == 0 {
+        return;
+    }
+    if 0 < run.wait {
+        put_word(state, WAIT, run.wait - 1);
+        return;
+    }
+    let next = take(state, memory, run);
+    put_run(state, next);
 }
 
 pub fn tick(state: &mut [u8], memory: &mut [u8]) -> u8

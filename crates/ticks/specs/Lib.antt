@@ -1,2 +1,2 @@
--- What a tick promises.
+-- What a tick leaves.
 pub mod Tick

@@ -1,37 +1,37 @@
-// The gate's tick: a set every (time divider + 1)th, into its place of the ring.
-mod taking;
-
+// What a tick takes of the memory when a set is due, and where it goes.
 ghost use mathlib.Core.Path.{_≡_};
 ghost use mathlib.Core.Bool.{true};
-ghost use lib.ListN.{length};
-ghost use Rattle.document.specs.Areas.{memoryEnd};
-ghost use Rattle.recorder.specs.Bounds.{sound};
-ghost use Rattle.ticks.specs.Tick.{TickTaken};
-use recorder::Recorder;
-use taking::take_set;
-use taking::trigger_value;
+ghost use Prim.Native.Nat.{_+_, _*_, _^_, _≤_, _<_};
+ghost use lib.ListN.{length, drop};
+ghost use Rattle.document.specs.Areas.{bufferBegin, memoryEnd, mayBeRecorded};
+ghost use Rattle.document.specs.Stores.{stored};
+ghost use Rattle.document.specs.Variables.{definitionWidth, definitionsIn, allMay, setSize, valuesOf};
+ghost use Rattle.document.specs.Trigger.{triggerValue};
+ghost use Rattle.plans.specs.State.{triggerOf};
+ghost use Rattle.plans.specs.Bounds.{planSound};
+use memory::BUFFER_BEGIN;
+use memory::number_at;
+use plans::Plan;
+use sets::copy_set;
+use sets::set_size;
+use widths::usize_of_u8;
+use widths::usize_of_u16;
+use widths::usize_of_u32;
 
-// Who holds the state and the memory has checked both.
-pub fn tick(mut recorder: Recorder, memory: &mut [u8]) -> Recorder
-    requires { ⌜ (sound recorder ≡ true) × (length (now memory) ≡ memoryEnd) ⌝ }
-    ensures { λ r. ⌜ TickTaken recorder (now (memory .entry)) r (now (memory .exit)) ⌝ }
+// What the trigger variable holds.
+pub fn trigger_value(plan: Plan, memory: &[u8]) -> u32
+    requires { ⌜ (planSound plan ≡ true) × (length (now memory) ≡ memoryEnd) ⌝ }
+    ensures { λ r. ⌜ (r ≡ triggerValue (triggerOf plan) (now (memory .entry))) × (r < 2 ^ (8 * plan .size)) ⌝ }
 {
-    if recorder.ready == 0 {
-        return recorder;
-    }
-    if recorder.run.running == 0 {
-        return recorder;
-    }
-    if 0 < recorder.run.wait {
-        let wait = recorder.run.wait - 1;
-        recorder.run.wait = wait;
-        return recorder;
-    }
-    let plan = recorder.plan;
-    let run = recorder.run;
-    let value = trigger_value(plan, memory);
-    take_set(plan, run.place, memory);
-    let next = run.after_set(plan, value);
-    recorder.run = next;
-    recorder
+    number_at(memory, usize_of_u32(plan.address), usize_of_u8(plan.size))
+}
+
+// The bytes of `count` variables, the first of which is defined at `from` in the block, go to a place of the ring.
+pub fn take_set(memory: &mut [u8], place: u16, block: &[u8], from: usize, count: usize)
+    requires { ⌜ (count ≤ 8) × (from + 8 * definitionWidth true ≤ length (now block)) × (allMay mayBeRecorded (definitionsIn true count (drop from (now block))) ≡ true) × (bufferBegin + place * setSize (definitionsIn true count (drop from (now block))) + setSize (definitionsIn true count (drop from (now block))) ≤ memoryEnd) × (length (now memory) ≡ memoryEnd) ⌝ }
+    ensures { λ _. ⌜ now (memory .exit) ≡ stored (now (memory .entry)) (bufferBegin + place * setSize (definitionsIn true count (drop from (now (block .entry))))) (valuesOf (now (memory .entry)) (definitionsIn true count (drop from (now (block .entry))))) ⌝ }
+{
+    let size = set_size(block, from, count);
+    let at = BUFFER_BEGIN + usize_of_u16(place) * size;
+    copy_set(memory, at, size, block, from, count);
 }

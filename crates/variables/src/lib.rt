@@ -1,10 +1,7 @@
-// Variables that a setup named: up to eight sizes and addresses, and what is asked of them.
+// Variables that a setup named: up to eight sizes and addresses, and how many may be named.
 mod questions;
 
-pub use questions::all_within;
-pub use questions::any_size_zero;
 pub use questions::is_count_wrong;
-pub use questions::set_size;
 
 pub const MOST_VARIABLES: usize = 8;
 

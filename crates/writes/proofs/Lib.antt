@@ -1,3 +1,2 @@
--- What follows from the definition of a write, and the words it takes.
+-- What follows from the definition of a write.
 pub mod WriteLaws
-pub mod Words

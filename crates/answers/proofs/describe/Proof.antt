@@ -1,5 +1,4 @@
 -- The bytes are the document's, by computation.
-use native.Mathlib.Omega.{arith}
 use borrow.Author.Needs.{needs}
 use Rattle.document.specs.Commands.{served}
 use Rattle.answers.proofs.describe.Statement.{statement}
@@ -19,4 +18,5 @@ unfolding served
 returns c = λ g s body. c .before .before .done-with .ensures
 
 pub describe-spec : {M : Type 1} → statement M
-describe-spec = tie.close (tie.spec slice-aggregate-done-with done-with-requires same-length returns)
+describe-spec =
+    tie.close (tie.spec slice-aggregate-done-with done-with-requires same-length returns)

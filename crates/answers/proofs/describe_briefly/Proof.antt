@@ -1,5 +1,4 @@
 -- The bytes are the document's, by computation.
-use native.Mathlib.Omega.{arith}
 use borrow.Author.Needs.{needs}
 use Rattle.document.specs.Commands.{served}
 use Rattle.answers.proofs.describe_briefly.Statement.{statement}
@@ -22,4 +21,11 @@ unfolding served
 returns c = λ g s body. c .before .before .done-with .ensures
 
 pub describe-briefly-spec : {M : Type 1} → statement M
-describe-briefly-spec = tie.close (tie.spec array-share-prefix-done-with slice-aggregate-done-with done-with-requires same-length returns)
+describe-briefly-spec =
+    tie.close
+    (tie.spec
+    array-share-prefix-done-with
+    slice-aggregate-done-with
+    done-with-requires
+    same-length
+    returns)

@@ -40,12 +40,17 @@ module _ (k : tie.After-struct-known) where
 alone-requires : tie.Need-alone-requires
 alone-requires c κs = search needs
 
+same-length : tie.Need-same-length
+same-length c = search needs
+
 returns : tie.Need-returns
 returns c =
-    let k = c .before .before in
+    let said = c .before .before in
+    let t = said .before .before in
+    let k = t .before in
     let i = decodedInstruments (block k) in
-    wrong-sum (gateOf i (begun k .args .memory .now)) i (held k) (c .before .if1 .taken)
-    (record { reply = c .alone .ensures _; memory = refl; kept = same-block k })
+    wrong-sum (gateOf i (begun k .args .memory .now)) i (held k) (t .if1 .taken)
+    (record { told = said .alone .ensures; memory = refl; kept = same-block k })
 
 usize-of-u8-requires : tie.Need-usize-of-u8-requires
 usize-of-u8-requires c κs = search needs
@@ -53,13 +58,18 @@ usize-of-u8-requires c κs = search needs
 alone-requires-2 : tie.Need-alone-requires-2
 alone-requires-2 c κs = search needs
 
+same-length-2 : tie.Need-same-length-2
+same-length-2 c = search needs
+
 returns-2 : tie.Need-returns-2
 returns-2 c =
-    let u = c .before .before in
+    let said = c .before .before in
+    let t = said .before .before in
+    let u = t .before in
     let k = u .before .before in
     let i = decodedInstruments (block k) in
-    too-long (gateOf i (begun k .args .memory .now)) i (held k) (u .before .if1 .left) (omega (arith, u .usize-of-u8 .ensures .0, c .before .if2 .taken))
-    (record { reply = c .alone2 .ensures _; memory = refl; kept = same-block k })
+    too-long (gateOf i (begun k .args .memory .now)) i (held k) (u .before .if1 .left) (omega (arith, u .usize-of-u8 .ensures .0, t .if2 .taken))
+    (record { told = said .alone2 .ensures; memory = refl; kept = same-block k })
 
 service-of-requires : tie.Need-service-of-requires
 service-of-requires c κs = search needs
@@ -108,14 +118,14 @@ serve-requires c κs =
     let s = begun (asked looked) in
     (framing looked, omega arith, omega (arith, few looked), s .pre .1, s .pre .2, s .pre .3, s .pre .4)
 
-same-length : tie.Need-same-length
-same-length c = search needs
-
-same-length-2 : tie.Need-same-length-2
-same-length-2 c = search needs
-
 same-length-3 : tie.Need-same-length-3
 same-length-3 c = search needs
+
+same-length-4 : tie.Need-same-length-4
+same-length-4 c = search needs
+
+same-length-5 : tie.Need-same-length-5
+same-length-5 c = search needs
 
 returns-3 : tie.Need-returns-3
 returns-3 c =
@@ -132,14 +142,16 @@ respond-spec =
     tie.close
     (tie.spec
     alone-requires
+    same-length
     returns
     usize-of-u8-requires
     alone-requires-2
+    same-length-2
     returns-2
     service-of-requires
     add-serve
     serve-requires
-    same-length
-    same-length-2
     same-length-3
+    same-length-4
+    same-length-5
     returns-3)

@@ -6,7 +6,7 @@ use native.Mathlib.Omega.{arith}
 use borrow.Author.Needs.{needs}
 use lib.ListN.{length, take, drop, length-take}
 use Rattle.document.specs.Areas.{bytesAt}
-use Rattle.answers.proofs.Replies.{reply-as}
+use Rattle.line.proofs.Writing.{told-as}
 use Rattle.fields.specs.Blocks.{IsBlock}
 use Rattle.reads.proofs.ReadLaws.{read-refused, read-few, read-inside, read-done}
 use Rattle.reads.proofs.read.Statement.{statement}
@@ -21,6 +21,9 @@ read-status-requires c κs = search needs
 alone-requires : tie.Need-alone-requires
 alone-requires c κs = search needs
 
+same-length : tie.Need-same-length
+same-length c = search needs
+
 -- what is asked
 abbrev begun : tie.After-block-in → tie.Start
 begun b = b .before .before .before .before
@@ -31,13 +34,14 @@ found b = b .block-in .ensures 0 (sym (zero-mul _))
 
 returns : tie.Need-returns
 returns c =
-    let r = c .before .before in
+    let said = c .before .before in
+    let r = said .before .before .before in
     let b = r .before in
     let a = begun b .args in
     λ g same.
-    reply-as _ _
-    (read-refused (a .service) (a .body .now) (b .block-in .result) (found b) (r .read-status .result) (r .read-status .ensures) g (c .before .if1 .taken))
-    (c .alone .ensures _)
+    told-as _ _
+    (read-refused (a .service) (a .body .now) (b .block-in .result) (found b) (r .read-status .result) (r .read-status .ensures) g (said .before .before .if1 .taken))
+    (said .alone .ensures)
 
 -- ---- nothing refuses it
 module _ (e : tie.Else1) where
@@ -76,10 +80,10 @@ part-done-with-end c =
 done-with-requires : tie.Need-done-with-requires
 done-with-requires c κs =
     let e = c .before .before .before .before in
-    simp length-take (omega (arith, few e, start e .pre .2))
+    (simp length-take (omega (arith, few e)), start e .pre .2)
 
-same-length : tie.Need-same-length
-same-length c = search needs
+same-length-2 : tie.Need-same-length-2
+same-length-2 c = search needs
 
 size-of : (from size : ℕ) → from + size - from ≡ size
 size-of from size = omega arith
@@ -95,7 +99,7 @@ returns-2 c =
     λ g same.
     let bytes : take (from .result + b .size - from .result) (drop (from .result) (a .memory .now)) ≡ bytesAt (g .memory) (b .address) (b .size) =
     (λ i. take (size-of (from .result) (b .size) i) (drop (from .ensures .0 i) (sym same i))) in
-    reply-as _ _
+    told-as _ _
     ((λ i. record { status = sym (e .if1 .left) i; body = bytes i })
     ∙ read-done (a .service) (a .body .now) b (found (looked e)) (e .before .read-status .result) (e .before .read-status .ensures) (e .if1 .left) g)
     (replied .ensures)
@@ -107,6 +111,7 @@ read-spec =
     block-in-requires
     read-status-requires
     alone-requires
+    same-length
     returns
     usize-of-u32-requires
     add-to
@@ -114,5 +119,5 @@ read-spec =
     part-done-with-start
     part-done-with-end
     done-with-requires
-    same-length
+    same-length-2
     returns-2)

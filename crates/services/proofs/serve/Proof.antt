@@ -1,15 +1,24 @@
 -- One arm for each operation: its function's promise, read with the operation known.
-use mathlib.Core.Path.{_≡_, refl, subst}
+use mathlib.Core.Path.{_≡_, refl, ap, subst, _∙_}
+use mathlib.Core.Logic.{⊎-elim}
 use mathlib.Core.List.{List}
 use Prim.Native.Nat.{ℕ}
 use borrow.Author.Needs.{needs}
+use lib.ListN.{length}
+use lib.Seq.{length-sets}
+use Rattle.document.specs.Numbers.{notServed}
 use Rattle.document.specs.declared.Operation.{Operation}
 use Rattle.document.specs.declared.Operation.the-variants.{Unserved, Describe, DescribeBriefly, Read, Write, WriteMasked, SetUpScope, ReadScope, SetUpRecorder, Start, Stop, Status, QueryBuffer, SendCommand, CommandResult, TellTable, MeasureString}
+use Rattle.document.specs.Commands.{served}
 use Rattle.outcomes.specs.Changes.{changeOf}
 use Rattle.fields.specs.Blocks.{OwnFits}
 use Rattle.fields.specs.Framed.{partsOf}
-use Rattle.blocks.specs.Layout.{dataTo}
-use Rattle.services.proofs.Arms.{Asked, known, replied, wrote}
+use Rattle.state.specs.State.{gateOf}
+use Rattle.target.specs.After.{instrumentsAfter}
+use Rattle.blocks.specs.Places.{scopePlace}
+use Rattle.blocks.specs.Layout.{dataTo, decodedInstruments, encodedInstruments}
+use Rattle.instruments.specs.Operates.{Settles}
+use Rattle.services.proofs.Arms.{Asked, tells, settles, says, wrote, met, settled-told, unserved-says}
 use Rattle.services.proofs.serve.Statement.{statement}
 use Rattle.services.proofs.serve.Tie as tie
 
@@ -41,20 +50,37 @@ asked m =
 enum-told : tie.Need-enum-told
 enum-told c = search needs
 
-unserved-requires : tie.Need-unserved-requires
-unserved-requires c κs = search needs
-
 enum-told-2 : tie.Need-enum-told-2
 enum-told-2 c = search needs
 
 describe-requires : tie.Need-describe-requires
 describe-requires c κs = search needs
 
+same-length : tie.Need-same-length
+same-length c = search needs
+
+returns : tie.Need-returns
+returns c =
+    let d = c .before .before in
+    let t = d .before .before in
+    let q = asked (t .before .before) in
+    tells q Describe (t .enum-told2 .given .1) refl (d .describe .ensures _ (q .service) _)
+
 enum-told-3 : tie.Need-enum-told-3
 enum-told-3 c = search needs
 
 describe-briefly-requires : tie.Need-describe-briefly-requires
 describe-briefly-requires c κs = search needs
+
+same-length-2 : tie.Need-same-length-2
+same-length-2 c = search needs
+
+returns-2 : tie.Need-returns-2
+returns-2 c =
+    let d = c .before .before in
+    let t = d .before .before in
+    let q = asked (t .before .before) in
+    tells q DescribeBriefly (t .enum-told3 .given .1) refl (d .describe-briefly .ensures _ (q .service) _)
 
 enum-told-4 : tie.Need-enum-told-4
 enum-told-4 c = search needs
@@ -74,6 +100,22 @@ read-requires c κs =
     let s = begun (t .before .before) in
     (framed (t .before .before) Read (t .enum-told4 .given .1), s .pre .5, s .pre .6)
 
+same-length-3 : tie.Need-same-length-3
+same-length-3 c = search needs
+
+same-length-4 : tie.Need-same-length-4
+same-length-4 c = search needs
+
+same-length-5 : tie.Need-same-length-5
+same-length-5 c = search needs
+
+returns-3 : tie.Need-returns-3
+returns-3 c =
+    let d = c .before .before in
+    let t = d .before .before .before .before .before in
+    let q = asked (t .before .before) in
+    tells q Read (t .enum-told4 .given .1) refl (d .read .ensures _ refl)
+
 enum-told-5 : tie.Need-enum-told-5
 enum-told-5 c = search needs
 
@@ -91,9 +133,6 @@ write-requires c κs =
     let t = c .before .before .before in
     let s = begun (t .before .before) in
     (framed (t .before .before) Write (t .enum-told5 .given .1), s .pre .5)
-
-alone-requires : tie.Need-alone-requires
-alone-requires c κs = search needs
 
 enum-told-6 : tie.Need-enum-told-6
 enum-told-6 c = search needs
@@ -113,9 +152,6 @@ write-masked-requires c κs =
     let s = begun (t .before .before) in
     (framed (t .before .before) WriteMasked (t .enum-told6 .given .1), s .pre .5)
 
-alone-requires-2 : tie.Need-alone-requires-2
-alone-requires-2 c κs = search needs
-
 enum-told-7 : tie.Need-enum-told-7
 enum-told-7 c = search needs
 
@@ -127,6 +163,22 @@ enum-told-8 c = search needs
 
 read-scope-requires : tie.Need-read-scope-requires
 read-scope-requires c κs = search needs
+
+same-length-6 : tie.Need-same-length-6
+same-length-6 c = search needs
+
+same-length-7 : tie.Need-same-length-7
+same-length-7 c = search needs
+
+same-length-8 : tie.Need-same-length-8
+same-length-8 c = search needs
+
+returns-4 : tie.Need-returns-4
+returns-4 c =
+    let d = c .before .before in
+    let t = d .before .before .before .before in
+    let q = asked (t .before .before) in
+    tells q ReadScope (t .enum-told8 .given .1) refl (d .read-scope .ensures (q .service) _)
 
 enum-told-9 : tie.Need-enum-told-9
 enum-told-9 c = search needs
@@ -158,6 +210,19 @@ enum-told-13 c = search needs
 query-buffer-requires : tie.Need-query-buffer-requires
 query-buffer-requires c κs = search needs
 
+same-length-9 : tie.Need-same-length-9
+same-length-9 c = search needs
+
+same-length-10 : tie.Need-same-length-10
+same-length-10 c = search needs
+
+returns-5 : tie.Need-returns-5
+returns-5 c =
+    let d = c .before .before in
+    let t = d .before .before .before in
+    let q = asked (t .before .before) in
+    tells q QueryBuffer (t .enum-told13 .given .1) refl (d .query-buffer .ensures _ _)
+
 enum-told-14 : tie.Need-enum-told-14
 enum-told-14 c = search needs
 
@@ -170,11 +235,37 @@ enum-told-15 c = search needs
 command-result-requires : tie.Need-command-result-requires
 command-result-requires c κs = search needs
 
+same-length-11 : tie.Need-same-length-11
+same-length-11 c = search needs
+
+same-length-12 : tie.Need-same-length-12
+same-length-12 c = search needs
+
+returns-6 : tie.Need-returns-6
+returns-6 c =
+    let d = c .before .before in
+    let t = d .before .before .before in
+    let q = asked (t .before .before) in
+    tells q CommandResult (t .enum-told15 .given .1) refl (d .command-result .ensures _ (q .service) _)
+
 enum-told-16 : tie.Need-enum-told-16
 enum-told-16 c = search needs
 
 tell-table-requires : tie.Need-tell-table-requires
 tell-table-requires c κs = search needs
+
+same-length-13 : tie.Need-same-length-13
+same-length-13 c = search needs
+
+same-length-14 : tie.Need-same-length-14
+same-length-14 c = search needs
+
+returns-7 : tie.Need-returns-7
+returns-7 c =
+    let d = c .before .before in
+    let t = d .before .before .before in
+    let q = asked (t .before .before) in
+    tells q TellTable (t .enum-told16 .given .1) refl (d .tell-table .ensures _ (q .service))
 
 enum-told-17 : tie.Need-enum-told-17
 enum-told-17 c = search needs
@@ -191,235 +282,115 @@ part-measure-string-end c = search needs
 measure-string-requires : tie.Need-measure-string-requires
 measure-string-requires c κs = search needs
 
-returns : tie.Need-returns
-returns c =
-    let t = c .before in
-    let q = asked (t .before .before) in
-    replied q Unserved (t .enum-told .given .1) refl (c .unserved .ensures _ (q .service) _ _)
-
-same-length : tie.Need-same-length
-same-length c = search needs
-
-returns-2 : tie.Need-returns-2
-returns-2 c =
-    let d = c .before .before in
-    let t = d .before .before in
-    let q = asked (t .before .before) in
-    replied q Describe (t .enum-told2 .given .1) refl (d .describe .ensures _ (q .service) _)
-
-same-length-2 : tie.Need-same-length-2
-same-length-2 c = search needs
-
-returns-3 : tie.Need-returns-3
-returns-3 c =
-    let d = c .before .before in
-    let t = d .before .before in
-    let q = asked (t .before .before) in
-    replied q DescribeBriefly (t .enum-told3 .given .1) refl (d .describe-briefly .ensures _ (q .service) _)
-
-same-length-3 : tie.Need-same-length-3
-same-length-3 c = search needs
-
-same-length-4 : tie.Need-same-length-4
-same-length-4 c = search needs
-
-same-length-5 : tie.Need-same-length-5
-same-length-5 c = search needs
-
-returns-4 : tie.Need-returns-4
-returns-4 c =
-    let d = c .before .before in
-    let t = d .before .before .before .before .before in
-    let q = asked (t .before .before) in
-    replied q Read (t .enum-told4 .given .1) refl (d .read .ensures _ refl)
-
-same-length-6 : tie.Need-same-length-6
-same-length-6 c = search needs
-
-same-length-7 : tie.Need-same-length-7
-same-length-7 c = search needs
-
-returns-5 : tie.Need-returns-5
-returns-5 c =
-    let w = c .before .before .before in
-    let t = w .before .before .before .before in
-    let q = asked (t .before .before) in
-    wrote q Write (t .enum-told5 .given .1) refl (w .write .result) _ (w .write .ensures _ refl) (c .alone .ensures _)
-
-same-length-8 : tie.Need-same-length-8
-same-length-8 c = search needs
-
-same-length-9 : tie.Need-same-length-9
-same-length-9 c = search needs
-
-returns-6 : tie.Need-returns-6
-returns-6 c =
-    let w = c .before .before .before in
-    let t = w .before .before .before .before in
-    let q = asked (t .before .before) in
-    wrote q WriteMasked (t .enum-told6 .given .1) refl (w .write-masked .result) _ (w .write-masked .ensures _ refl) (c .alone2 .ensures _)
-
-same-length-10 : tie.Need-same-length-10
-same-length-10 c = search needs
-
-returns-7 : tie.Need-returns-7
-returns-7 c =
-    let d = c .before .before in
-    let t = d .before .before in
-    let q = asked (t .before .before) in
-    known q SetUpScope (t .enum-told7 .given .1) (d .set-up-scope .ensures _ _)
-
-same-length-11 : tie.Need-same-length-11
-same-length-11 c = search needs
-
-same-length-12 : tie.Need-same-length-12
-same-length-12 c = search needs
-
-same-length-13 : tie.Need-same-length-13
-same-length-13 c = search needs
-
-returns-8 : tie.Need-returns-8
-returns-8 c =
-    let d = c .before .before in
-    let t = d .before .before .before .before in
-    let q = asked (t .before .before) in
-    replied q ReadScope (t .enum-told8 .given .1) refl (d .read-scope .ensures (q .service) _)
-
-same-length-14 : tie.Need-same-length-14
-same-length-14 c = search needs
-
-returns-9 : tie.Need-returns-9
-returns-9 c =
-    let d = c .before .before in
-    let t = d .before .before in
-    let q = asked (t .before .before) in
-    known q SetUpRecorder (t .enum-told9 .given .1) (d .set-up-recorder .ensures _ _)
-
 same-length-15 : tie.Need-same-length-15
 same-length-15 c = search needs
-
-returns-10 : tie.Need-returns-10
-returns-10 c =
-    let d = c .before .before in
-    let t = d .before .before in
-    let q = asked (t .before .before) in
-    known q Start (t .enum-told10 .given .1) (d .start .ensures _ _ (q .service) _)
 
 same-length-16 : tie.Need-same-length-16
 same-length-16 c = search needs
 
-returns-11 : tie.Need-returns-11
-returns-11 c =
-    let d = c .before .before in
-    let t = d .before .before in
-    let q = asked (t .before .before) in
-    known q Stop (t .enum-told11 .given .1) (d .stop .ensures _ _ (q .service) _)
-
 same-length-17 : tie.Need-same-length-17
 same-length-17 c = search needs
 
-returns-12 : tie.Need-returns-12
-returns-12 c =
-    let t = c .before .before in
+returns-8 : tie.Need-returns-8
+returns-8 c =
+    let d = c .before .before in
+    let t = d .before .before .before .before .before in
     let q = asked (t .before .before) in
-    replied q Status (t .enum-told12 .given .1) refl (c .status .ensures _ _ (q .service) _)
+    tells q MeasureString (t .enum-told17 .given .1) refl (d .measure-string .ensures _ refl)
+
+-- ---- where the arms meet that have a status to tell
+module _ (m : tie.At-match-came) where
+  abbrev q : Asked
+  q = asked (m .before)
+
+  settled : Settles (served (gateOf (decodedInstruments (q .block)) (q .memory)) (q .service) (q .body)) (instrumentsAfter (q .service .operation) (decodedInstruments (q .block)) (q .service) (q .body)) (q .block) (m .match .status) (m .match .state) (m .match .memory)
+  settled =
+      ⊎-elim (λ w. met q (w .4) (w .2) (w .3) (says q Unserved (w .1 .given .1) refl notServed (unserved-says _ (q .service) (q .body))))
+      (⊎-elim (λ w. met q (w .10) (w .8) (w .9) (wrote q Write (w .1 .given .1) refl (w .5 .result) _ (w .5 .ensures _ refl)))
+      (⊎-elim (λ w. met q (w .10) (w .8) (w .9) (wrote q WriteMasked (w .1 .given .1) refl (w .5 .result) _ (w .5 .ensures _ refl)))
+      (⊎-elim (λ w. met q (w .8) (w .6) (w .7) (settles q SetUpScope (w .1 .given .1) (w .3 .result) _ _ (w .3 .ensures _)))
+      (⊎-elim (λ w. met q (w .8) (w .6) (w .7) (settles q SetUpRecorder (w .1 .given .1) (w .3 .result) _ _ (w .3 .ensures _)))
+      (⊎-elim (λ w. met q (w .8) (w .6) (w .7) (settles q Start (w .1 .given .1) (w .3 .result) _ _ (w .3 .ensures _ (q .service) _)))
+      (⊎-elim (λ w. met q (w .8) (w .6) (w .7) (settles q Stop (w .1 .given .1) (w .3 .result) _ _ (w .3 .ensures _ (q .service) _)))
+      (⊎-elim (λ w. met q (w .6) (w .4) (w .5) (says q Status (w .1 .given .1) refl (w .3 .result) (w .3 .ensures _ (q .service) _))) (λ w. met q (w .8) (w .6) (w .7) (settles q SendCommand (w .1 .given .1) (w .3 .result) _ _ (w .3 .ensures _ (q .service)))))))))))
+      (m .match .came)
+
+  state-long : length (m .match .state) ≡ length (q .block)
+  state-long =
+      ap length (settled .kept)
+      ∙ length-sets (q .block) scopePlace (encodedInstruments (instrumentsAfter (q .service .operation) (decodedInstruments (q .block)) (q .service) (q .body)))
+
+  -- only a write changes the memory, and no length
+  memory-long : length (m .match .memory) ≡ length (q .memory)
+  memory-long =
+      ⊎-elim (λ w. ap length (w .3))
+      (⊎-elim (λ w. ap length (w .9) ∙ w .5 .kept .1 .1 .0)
+      (⊎-elim (λ w. ap length (w .9) ∙ w .5 .kept .1 .1 .0)
+      (⊎-elim (λ w. ap length (w .7))
+      (⊎-elim (λ w. ap length (w .7))
+      (⊎-elim (λ w. ap length (w .7))
+      (⊎-elim (λ w. ap length (w .7))
+      (⊎-elim (λ w. ap length (w .5)) (λ w. ap length (w .7)))))))))
+      (m .match .came)
+
+alone-requires : tie.Need-alone-requires
+alone-requires c κs = search needs
 
 same-length-18 : tie.Need-same-length-18
-same-length-18 c = search needs
+same-length-18 c = state-long (c .before .before .before .before)
 
 same-length-19 : tie.Need-same-length-19
-same-length-19 c = search needs
-
-returns-13 : tie.Need-returns-13
-returns-13 c =
-    let d = c .before .before in
-    let t = d .before .before .before in
-    let q = asked (t .before .before) in
-    replied q QueryBuffer (t .enum-told13 .given .1) refl (d .query-buffer .ensures _ _)
+same-length-19 c = memory-long (c .before .before .before .before)
 
 same-length-20 : tie.Need-same-length-20
 same-length-20 c = search needs
 
-returns-14 : tie.Need-returns-14
-returns-14 c =
-    let d = c .before .before in
-    let t = d .before .before in
-    let q = asked (t .before .before) in
-    known q SendCommand (t .enum-told14 .given .1) (d .send-command .ensures _ _ (q .service))
-
-same-length-21 : tie.Need-same-length-21
-same-length-21 c = search needs
-
-same-length-22 : tie.Need-same-length-22
-same-length-22 c = search needs
-
-returns-15 : tie.Need-returns-15
-returns-15 c =
-    let d = c .before .before in
-    let t = d .before .before .before in
-    let q = asked (t .before .before) in
-    replied q CommandResult (t .enum-told15 .given .1) refl (d .command-result .ensures _ (q .service) _)
-
-same-length-23 : tie.Need-same-length-23
-same-length-23 c = search needs
-
-same-length-24 : tie.Need-same-length-24
-same-length-24 c = search needs
-
-returns-16 : tie.Need-returns-16
-returns-16 c =
-    let d = c .before .before in
-    let t = d .before .before .before in
-    let q = asked (t .before .before) in
-    replied q TellTable (t .enum-told16 .given .1) refl (d .tell-table .ensures _ (q .service))
-
-same-length-25 : tie.Need-same-length-25
-same-length-25 c = search needs
-
-same-length-26 : tie.Need-same-length-26
-same-length-26 c = search needs
-
-same-length-27 : tie.Need-same-length-27
-same-length-27 c = search needs
-
-returns-17 : tie.Need-returns-17
-returns-17 c =
-    let d = c .before .before in
-    let t = d .before .before .before .before .before in
-    let q = asked (t .before .before) in
-    replied q MeasureString (t .enum-told17 .given .1) refl (d .measure-string .ensures _ refl)
+returns-9 : tie.Need-returns-9
+returns-9 c =
+    let told = c .before .before in
+    let m = told .before .before in
+    settled-told (q m) (m .match .status) (settled m) (told .alone .ensures)
 
 pub serve-spec : {M : Type 1} → statement M
 serve-spec =
     tie.close
     (tie.spec
     enum-told
-    unserved-requires
     enum-told-2
     describe-requires
+    same-length
+    returns
     enum-told-3
     describe-briefly-requires
+    same-length-2
+    returns-2
     enum-told-4
     sub-read
     part-read-start
     part-read-end
     read-requires
+    same-length-3
+    same-length-4
+    same-length-5
+    returns-3
     enum-told-5
     sub-write
     part-write-start
     part-write-end
     write-requires
-    alone-requires
     enum-told-6
     sub-write-masked
     part-write-masked-start
     part-write-masked-end
     write-masked-requires
-    alone-requires-2
     enum-told-7
     set-up-scope-requires
     enum-told-8
     read-scope-requires
+    same-length-6
+    same-length-7
+    same-length-8
+    returns-4
     enum-told-9
     set-up-recorder-requires
     enum-told-10
@@ -430,58 +401,32 @@ serve-spec =
     status-requires
     enum-told-13
     query-buffer-requires
+    same-length-9
+    same-length-10
+    returns-5
     enum-told-14
     send-command-requires
     enum-told-15
     command-result-requires
+    same-length-11
+    same-length-12
+    returns-6
     enum-told-16
     tell-table-requires
+    same-length-13
+    same-length-14
+    returns-7
     enum-told-17
     sub-measure-string
     part-measure-string-start
     part-measure-string-end
     measure-string-requires
-    returns
-    same-length
-    returns-2
-    same-length-2
-    returns-3
-    same-length-3
-    same-length-4
-    same-length-5
-    returns-4
-    same-length-6
-    same-length-7
-    returns-5
-    same-length-8
-    same-length-9
-    returns-6
-    same-length-10
-    returns-7
-    same-length-11
-    same-length-12
-    same-length-13
-    returns-8
-    same-length-14
-    returns-9
     same-length-15
-    returns-10
     same-length-16
-    returns-11
     same-length-17
-    returns-12
+    returns-8
+    alone-requires
     same-length-18
     same-length-19
-    returns-13
     same-length-20
-    returns-14
-    same-length-21
-    same-length-22
-    returns-15
-    same-length-23
-    same-length-24
-    returns-16
-    same-length-25
-    same-length-26
-    same-length-27
-    returns-17)
+    returns-9)

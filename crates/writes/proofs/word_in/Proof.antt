@@ -1,5 +1,5 @@
 -- A word is kept in the bytes it was read from.
-use Rattle.writes.proofs.Words.{bytes-of-number}
+use Rattle.document.proofs.Values.{bytes-of-number}
 use Rattle.document.specs.Values.{littleEndian}
 use Prim.Native.Nat.{ℕ, _*_, _^_, _<_}
 use mathlib.Core.Path.{sym, subst, _∙_}

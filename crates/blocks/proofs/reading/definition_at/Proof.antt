@@ -2,7 +2,7 @@
 use mathlib.Core.Path.{sym, _∙_}
 use lib.ListN.{getD}
 use borrow.Author.Needs.{needs}
-use Rattle.blocks.proofs.Definitions.{definition-here}
+use Rattle.block_fields.proofs.Definitions.{definition-here}
 use Rattle.blocks.proofs.reading.definition_at.Statement.{statement}
 use Rattle.blocks.proofs.reading.definition_at.Tie as tie
 

@@ -13,7 +13,8 @@ use Rattle.document.specs.Sum.{sumByteOf}
 use Rattle.document.specs.Message.{lengthPart, wellFormed, summed}
 use Rattle.document.specs.CommandWriter.{commandOnWire, commandRefusal, commandWritten, commandBuffer}
 use Rattle.line.specs.declared.doubling.Progress.{Progress}
-use Rattle.line.proofs.Writing.{front, put-append, written-length, written-buffer}
+use Rattle.line.specs.Put.{front}
+use Rattle.line.proofs.Writing.{put-append, written-length, written-buffer}
 use Rattle.commands.proofs.Commands.{between, command-framed, command-length, behind-sum, formed-short, command-taken, command-written, command-buffer}
 use borrow.Author.Needs.{needs}
 use Rattle.commands.proofs.command.write_command.Statement.{statement}

@@ -4,8 +4,7 @@ use mathlib.Core.List.{[], _∷_}
 use Prim.Native.Nat.{ℕ}
 use borrow.Author.Needs.{needs}
 use Rattle.document.specs.Numbers.{done}
-use Rattle.document.specs.Answer.{Answer}
-use Rattle.answers.proofs.Replies.{reply-as}
+use Rattle.line.proofs.Writing.{told-as}
 use Rattle.state.specs.State.{gateOf}
 use Rattle.blocks.specs.Layout.{decodedInstruments}
 use Rattle.instruments.proofs.Sending.{result-told}
@@ -30,7 +29,7 @@ returns c =
     let byte = put .before .before .before in
     let block = byte .before .before .before .args .state .now in
     λ memory s body.
-    reply-as _ _
+    told-as _ _
     (ap (λ (b : ℕ). record { status = done; body = b ∷ [] }) (byte .result-byte .ensures)
     ∙ result-told (gateOf (decodedInstruments block) memory) s body)
     (put .done-with .ensures)

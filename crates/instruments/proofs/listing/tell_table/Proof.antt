@@ -1,6 +1,5 @@
 -- An index of two bytes, or nothing is told.
 use mathlib.Core.Path.{_≡_, sym, ap, _∙_}
-use mathlib.Core.List.{List}
 use Prim.Native.Nat.{ℕ, _-_}
 use native.Mathlib.Omega.{arith}
 use borrow.Author.Needs.{needs}
@@ -10,7 +9,7 @@ use Rattle.document.specs.Tables.{tableAnswer}
 use Rattle.document.specs.Values.{number}
 use Rattle.document.specs.Areas.{bytesAt}
 use Rattle.block_fields.proofs.Ranges.{bytes-length}
-use Rattle.answers.proofs.Replies.{reply-as}
+use Rattle.line.proofs.Writing.{told-as}
 use Rattle.tables.specs.State.{tablesOf}
 use Rattle.state.specs.State.{gateOf}
 use Rattle.blocks.specs.Places.{bodyPlace}
@@ -29,15 +28,19 @@ add-if1 c = search needs
 alone-requires : tie.Need-alone-requires
 alone-requires c κs = search needs
 
+same-length : tie.Need-same-length
+same-length c = search needs
+
 returns : tie.Need-returns
 returns c =
-    let t = c .before in
+    let said = c .before .before in
+    let t = said .before .before in
     let s = t .before .before .before in
     let block = s .args .state .now in
     λ memory service.
-    reply-as _ _
+    told-as _ _
     (table-layout (gateOf (decodedInstruments block) memory) service (dataTo block (s .args .to)) (λ e. t .if1 .taken (omega (arith, e, data-length s, s .pre .1))))
-    (c .alone .ensures _)
+    (said .alone .ensures)
 
 word-at-requires : tie.Need-word-at-requires
 word-at-requires c κs = search needs
@@ -48,8 +51,8 @@ usize-of-u16-requires c κs = search needs
 told-requires : tie.Need-told-requires
 told-requires c κs = search needs
 
-same-length : tie.Need-same-length
-same-length c = search needs
+same-length-2 : tie.Need-same-length-2
+same-length-2 c = search needs
 
 returns-2 : tie.Need-returns-2
 returns-2 c =
@@ -63,7 +66,7 @@ returns-2 c =
     let index : u .usize-of-u16 .result ≡ number (dataTo block (s .args .to)) =
     u .usize-of-u16 .ensures .0 ∙ w .word-at .ensures ∙ ap (λ (n : ℕ). number (bytesAt block bodyPlace n)) (sym two) in
     λ memory service.
-    reply-as _ _
+    told-as _ _
     (ap (λ (n : ℕ). record { status = done; body = tableAnswer (tablesOf (decodedTables block)) n }) index
     ∙ table-told (gateOf (decodedInstruments block) memory) service (dataTo block (s .args .to)) (data-length s ∙ two))
     (put .told .ensures)
@@ -74,9 +77,10 @@ tell-table-spec =
     (tie.spec
     add-if1
     alone-requires
+    same-length
     returns
     word-at-requires
     usize-of-u16-requires
     told-requires
-    same-length
+    same-length-2
     returns-2)

@@ -1,14 +1,16 @@
--- Zeros beyond the last and beyond the list's room; else six bytes of the list.
-use mathlib.Core.Path.{refl, ap}
+-- Zeros beyond the last and beyond the list's room; else three words of the list.
+use mathlib.Core.Path.{refl, sym, ap, _∙_}
 use mathlib.Core.List.{List}
+use Prim.Native.Nat.{ℕ, _<_}
 use native.Mathlib.Omega.{arith}
 use borrow.Author.Needs.{needs}
+use borrow.Author.Tests.{not-true, not-false}
 use Rattle.document.specs.Numbers.{done}
+use Rattle.document.specs.Tables.{mostTables}
 use Rattle.document.specs.Answer.{Answer}
-use Prim.Native.Nat.{ℕ}
-use Rattle.answers.proofs.Replies.{reply-as}
+use Rattle.line.proofs.Writing.{told-as}
 use Rattle.blocks.specs.Layout.{decodedTables}
-use Rattle.instruments.proofs.Listed.{behind-last, behind-room, at-index}
+use Rattle.instruments.proofs.Listed.{listed-below, not-listed, at-index}
 use Rattle.instruments.proofs.listing.told.Statement.{statement}
 use Rattle.instruments.proofs.listing.told.Tie as tie
 
@@ -16,43 +18,52 @@ abbrev said : List ℕ → Answer
 said bytes = record { status = done; body = bytes }
 
 -- what is asked
-abbrev begun : tie.After-usize-of-u8 → tie.Start
-begun u = u .before .before .before .before
+abbrev begun : tie.After-is-listed → tie.Start
+begun l = l .before .before .before
 
-shared-slice-read-usize-of-u8 : tie.Need-shared-slice-read-usize-of-u8
-shared-slice-read-usize-of-u8 c = search needs
+is-listed-requires : tie.Need-is-listed-requires
+is-listed-requires c κs = search needs
 
-usize-of-u8-requires : tie.Need-usize-of-u8-requires
-usize-of-u8-requires c κs = search needs
-
-slice-aggregate-done-with : tie.Need-slice-aggregate-done-with
-slice-aggregate-done-with c = search needs
-
-done-with-requires : tie.Need-done-with-requires
-done-with-requires c κs = search needs
+done-three-words-requires : tie.Need-done-three-words-requires
+done-three-words-requires c κs = search needs
 
 same-length : tie.Need-same-length
 same-length c = search needs
 
 returns : tie.Need-returns
-unfolding decodedTables
 returns c =
     let put = c .before .before in
-    let t = put .before .before .before in
-    let u = t .before in
-    let s = begun u in
-    reply-as _ _
-    (ap said (behind-last (s .args .state .now) (s .args .index) (omega (arith, t .if1 .taken, u .usize-of-u8 .ensures .0))))
-    (put .done-with .ensures)
+    let t = put .before .before in
+    let s = begun (t .before) in
+    told-as _ _
+    (ap said (not-listed (s .args .state .now) (s .args .index) (s .pre .0) (sym (t .before .is-listed .ensures) ∙ not-true _ (t .if1 .taken))))
+    (put .done-three-words .ensures)
 
-usize-of-u8-requires-2 : tie.Need-usize-of-u8-requires-2
-usize-of-u8-requires-2 c κs = search needs
+-- ---- the list has it
+module _ (e : tie.Else1) where
+  abbrev start : tie.Start
+  start = begun (e .before)
 
-slice-aggregate-done-with-2 : tie.Need-slice-aggregate-done-with-2
-slice-aggregate-done-with-2 c = search needs
+  below : (start .args .index < decodedTables (start .args .state .now) .count) × (start .args .index < mostTables)
+  below = listed-below (start .args .state .now) (start .args .index) (sym (e .before .is-listed .ensures) ∙ not-false _ (e .if1 .left))
 
-done-with-requires-2 : tie.Need-done-with-requires-2
-done-with-requires-2 c κs = search needs
+mul-at : tie.Need-mul-at
+mul-at c = record { fits = omega (arith, below c .1) }
+
+add-at : tie.Need-add-at
+add-at c = record { fits = omega (arith, below c .1) }
+
+add-word-at : tie.Need-add-word-at
+add-word-at c = record { fits = omega (arith, below c .1) }
+
+word-at-requires : tie.Need-word-at-requires
+word-at-requires c κs = omega (arith, below c .1, start c .pre .0)
+
+word-at-requires-2 : tie.Need-word-at-requires-2
+word-at-requires-2 c κs = omega (arith, below (c .before) .1, start (c .before) .pre .0)
+
+done-three-words-requires-2 : tie.Need-done-three-words-requires-2
+done-three-words-requires-2 c κs = search needs
 
 same-length-2 : tie.Need-same-length-2
 same-length-2 c = search needs
@@ -60,88 +71,29 @@ same-length-2 c = search needs
 returns-2 : tie.Need-returns-2
 returns-2 c =
     let put = c .before .before in
-    let t = put .before .before .before in
-    let s = begun (t .before .before .before) in
-    reply-as _ _
-    (ap said (behind-room (s .args .state .now) (s .args .index) (s .pre .0) (omega (arith, t .if2 .taken, t .before .usize-of-u82 .ensures .0))))
-    (put .done-with2 .ensures)
-
-mul-at : tie.Need-mul-at
-mul-at c = search needs
-
-add-at : tie.Need-add-at
-add-at c = search needs
-
-add-t7 : tie.Need-add-t7
-add-t7 c = search needs
-
-shared-slice-read-t9 : tie.Need-shared-slice-read-t9
-shared-slice-read-t9 c = search needs
-
-add-t21 : tie.Need-add-t21
-add-t21 c = search needs
-
-shared-slice-read-t23 : tie.Need-shared-slice-read-t23
-shared-slice-read-t23 c = search needs
-
-shared-slice-read-t25 : tie.Need-shared-slice-read-t25
-shared-slice-read-t25 c = search needs
-
-add-t26 : tie.Need-add-t26
-add-t26 c = search needs
-
-shared-slice-read-t28 : tie.Need-shared-slice-read-t28
-shared-slice-read-t28 c = search needs
-
-slice-aggregate-done-with-3 : tie.Need-slice-aggregate-done-with-3
-slice-aggregate-done-with-3 c = search needs
-
-done-with-requires-3 : tie.Need-done-with-requires-3
-done-with-requires-3 c κs = search needs
-
-same-length-3 : tie.Need-same-length-3
-same-length-3 c = search needs
-
-returns-3 : tie.Need-returns-3
-unfolding decodedTables
-returns-3 c =
-    let put = c .before .before in
-    let f = put .before .before .before .before .before .before .before in
-    let e = f .before .before in
-    let u = e .before in
-    let s = begun u in
-    let block = s .args .state .now in
-    reply-as _ _
+    let address = put .before .before in
+    let size = address .before in
+    let e = size .before in
+    let s = start e in
+    told-as _ _
     (ap said
-    (at-index block (s .args .index) (s .pre .0) (λ i. u .before .before .before .shared-slice-known .given i .fits) (omega (arith, f .if2 .left, f .before .usize-of-u82 .ensures .0))
-    (omega (arith, e .if1 .left, u .usize-of-u8 .ensures .0)) _ refl))
-    (put .done-with3 .ensures)
+    (at-index (s .args .state .now) (s .args .index) (s .pre .0) (λ i. e .before .before .before .shared-slice-known .given i .fits) (below e .1) (below e .0) _ _ _ refl
+    (size .word-at .ensures) (address .word-at2 .ensures)))
+    (put .done-three-words2 .ensures)
 
 pub told-spec : {M : Type 1} → statement M
 told-spec =
     tie.close
     (tie.spec
-    shared-slice-read-usize-of-u8
-    usize-of-u8-requires
-    slice-aggregate-done-with
-    done-with-requires
+    is-listed-requires
+    done-three-words-requires
     same-length
     returns
-    usize-of-u8-requires-2
-    slice-aggregate-done-with-2
-    done-with-requires-2
-    same-length-2
-    returns-2
     mul-at
     add-at
-    add-t7
-    shared-slice-read-t9
-    add-t21
-    shared-slice-read-t23
-    shared-slice-read-t25
-    add-t26
-    shared-slice-read-t28
-    slice-aggregate-done-with-3
-    done-with-requires-3
-    same-length-3
-    returns-3)
+    add-word-at
+    word-at-requires
+    word-at-requires-2
+    done-three-words-requires-2
+    same-length-2
+    returns-2)

@@ -1,57 +1,21 @@
--- The bytes are those of the address and the index.
-use Prim.Native.Nat.{_/_, _%_}
-use Rattle.document.specs.Numbers.{done}
-use Rattle.answers.proofs.Replies.{reply-as}
-use Rattle.instruments.proofs.Statuses.{buffer-front}
-use native.Mathlib.Omega.{arith}
-use lib.ListN.{length-take, length-set}
+-- The words are those of the address and the index.
+use mathlib.Core.Path.{sym, ap}
+use mathlib.Core.Bool.{Bool}
+use mathlib.Core.List.{_++_}
 use borrow.Author.Needs.{needs}
+use Rattle.document.specs.Numbers.{done}
+use Rattle.document.specs.Areas.{bufferBegin}
+use Rattle.document.specs.Values.{littleEndian}
+use Rattle.document.specs.Variables.{addressWidth}
+use Rattle.line.proofs.Writing.{told-as}
 use Rattle.instruments.proofs.recording.buffer_from.Statement.{statement}
 use Rattle.instruments.proofs.recording.buffer_from.Tie as tie
 
-address-width-requires : tie.Need-address-width-requires
-address-width-requires c κs = search needs
+cast-done-three-words : tie.Need-cast-done-three-words
+cast-done-three-words c = search needs
 
-add-high : tie.Need-add-high
-add-high c = search needs
-
-cast-bytes : tie.Need-cast-bytes
-cast-bytes c = search needs
-
-array-write-bytes : tie.Need-array-write-bytes
-array-write-bytes c = search needs
-
-cast-bytes-2 : tie.Need-cast-bytes-2
-cast-bytes-2 c = search needs
-
-array-write-bytes-2 : tie.Need-array-write-bytes-2
-array-write-bytes-2 c = search needs
-
-cast-bytes-3 : tie.Need-cast-bytes-3
-cast-bytes-3 c = search needs
-
-array-write-bytes-3 : tie.Need-array-write-bytes-3
-array-write-bytes-3 c = search needs
-
-cast-bytes-4 : tie.Need-cast-bytes-4
-cast-bytes-4 c = search needs
-
-array-write-bytes-4 : tie.Need-array-write-bytes-4
-array-write-bytes-4 c = search needs
-
-add-end : tie.Need-add-end
-add-end c = search needs
-
-array-share-prefix-bytes : tie.Need-array-share-prefix-bytes
-array-share-prefix-bytes c = simp length-set (omega (arith, c .address-width .ensures .1))
-
-slice-aggregate-done-with : tie.Need-slice-aggregate-done-with
-slice-aggregate-done-with c = simp (length-take, length-set) (omega (arith, c .before .address-width .ensures .1))
-
-done-with-requires : tie.Need-done-with-requires
-done-with-requires c κs =
-    let found = c .before .before in
-    simp (length-take, length-set) (omega (arith, found .address-width .ensures .1, found .before .before .pre))
+done-three-words-requires : tie.Need-done-three-words-requires
+done-three-words-requires c κs = search needs
 
 same-length : tie.Need-same-length
 same-length c = search needs
@@ -59,28 +23,35 @@ same-length c = search needs
 returns : tie.Need-returns
 returns c =
     let told = c .before .before in
-    let found = told .before .before .before in
-    let a = found .before .before .args in
-    let bytes = buffer-front (a .ex) (found .address-width .result) (a .index % 256) (a .index / 256 % 256) (found .address-width .ensures .0) in
-    reply-as _ _ (λ i. record { status = done; body = bytes i }) (told .done-with .ensures)
+    let t = told .before .before in
+    let index = t .before .before .args .index in
+    told-as _ _ (ap (λ (ex : Bool). record { status = done; body = littleEndian (addressWidth ex) bufferBegin ++ littleEndian 2 index }) (sym (t .if1 .taken))) (told .done-three-words .ensures)
+
+cast-done-two-words : tie.Need-cast-done-two-words
+cast-done-two-words c = search needs
+
+done-two-words-requires : tie.Need-done-two-words-requires
+done-two-words-requires c κs = search needs
+
+same-length-2 : tie.Need-same-length-2
+same-length-2 c = search needs
+
+returns-2 : tie.Need-returns-2
+returns-2 c =
+    let told = c .before .before in
+    let e = told .before .before in
+    let index = e .before .before .args .index in
+    told-as _ _ (ap (λ (ex : Bool). record { status = done; body = littleEndian (addressWidth ex) bufferBegin ++ littleEndian 2 index }) (sym (e .if1 .left))) (told .done-two-words .ensures)
 
 pub buffer-from-spec : {M : Type 1} → statement M
 buffer-from-spec =
     tie.close
     (tie.spec
-    address-width-requires
-    add-high
-    cast-bytes
-    array-write-bytes
-    cast-bytes-2
-    array-write-bytes-2
-    cast-bytes-3
-    array-write-bytes-3
-    cast-bytes-4
-    array-write-bytes-4
-    add-end
-    array-share-prefix-bytes
-    slice-aggregate-done-with
-    done-with-requires
+    cast-done-three-words
+    done-three-words-requires
     same-length
-    returns)
+    returns
+    cast-done-two-words
+    done-two-words-requires
+    same-length-2
+    returns-2)

@@ -11,10 +11,11 @@ use Rattle.document.specs.Variables.{addressWidth}
 use Rattle.recorder.specs.declared.state.Recorder.{Recorder as RecorderState}
 use Rattle.recorder.specs.State.{recorderOf}
 use Rattle.recorder.specs.Calls.{queryStatus, indexOf, QuerySettled}
-use Rattle.answers.proofs.Replies.{reply-as}
+use Rattle.line.proofs.Writing.{told-as}
 use Rattle.state.specs.State.{gateOf}
 use Rattle.blocks.specs.Layout.{decodedRecorder, decodedInstruments}
-use Rattle.instruments.proofs.Statuses.{alone, query-refused, query-answered, buffer-bytes}
+use Rattle.instruments.specs.Operates.{alone}
+use Rattle.instruments.proofs.Statuses.{query-refused, query-answered, buffer-bytes}
 use Rattle.instruments.proofs.recording.query_buffer.Statement.{statement}
 use Rattle.instruments.proofs.recording.query_buffer.Tie as tie
 
@@ -38,22 +39,27 @@ said : (q : tie.After-query) → QuerySettled (decodedRecorder (block q)) (q .qu
 unfolding block
 said q = subst (λ (r : RecorderState). QuerySettled r (q .query .result)) (q .before .recorder-in .ensures) (q .query .ensures)
 
+same-length : tie.Need-same-length
+same-length c = search needs
+
 returns : tie.Need-returns
 unfolding block
 returns c =
-    let q = c .before .before .before in
+    let said-so = c .before .before in
+    let t = said-so .before .before in
+    let q = t .before .before in
     let service = begun q .args .service in
     λ memory body.
-    reply-as _ _
+    told-as _ _
     (ap alone (said q .status)
-    ∙ query-refused (gateOf (decodedInstruments (block q)) memory) service body (λ e. c .before .if1 .taken (said q .status ∙ e)))
-    (c .alone .ensures _)
+    ∙ query-refused (gateOf (decodedInstruments (block q)) memory) service body (λ e. t .if1 .taken (said q .status ∙ e)))
+    (said-so .alone .ensures)
 
 buffer-from-requires : tie.Need-buffer-from-requires
 buffer-from-requires c κs = search needs
 
-same-length : tie.Need-same-length
-same-length c = search needs
+same-length-2 : tie.Need-same-length-2
+same-length-2 c = search needs
 
 returns-2 : tie.Need-returns-2
 unfolding block
@@ -66,7 +72,7 @@ returns-2 c =
     let index : q .query .result .index ≡ indexOf r = said q .index ∙ rw (eq-eqb (queryStatus r) done right) in
     let n = addressWidth (service .ex) in
     λ memory body.
-    reply-as _ _
+    told-as _ _
     ((λ i. record { status = done; body = littleEndian n bufferBegin ++ littleEndian 2 (index i) })
     ∙ (λ i. record { status = done; body = buffer-bytes n r right i })
     ∙ query-answered (gateOf (decodedInstruments (block q)) memory) service body right)
@@ -79,7 +85,8 @@ query-buffer-spec =
     recorder-in-requires
     query-requires
     alone-requires
+    same-length
     returns
     buffer-from-requires
-    same-length
+    same-length-2
     returns-2)

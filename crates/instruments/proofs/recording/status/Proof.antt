@@ -4,10 +4,10 @@ use borrow.Author.Needs.{needs}
 use Rattle.recorder.specs.declared.state.Recorder.{Recorder}
 use Rattle.recorder.specs.State.{recorderOf}
 use Rattle.recorder.specs.Calls.{statusStatus}
-use Rattle.answers.proofs.Replies.{reply-as}
 use Rattle.state.specs.State.{gateOf}
 use Rattle.blocks.specs.Layout.{decodedInstruments}
-use Rattle.instruments.proofs.Statuses.{alone, recorder-asked}
+use Rattle.instruments.specs.Operates.{alone}
+use Rattle.instruments.proofs.Statuses.{recorder-asked}
 use Rattle.instruments.proofs.recording.status.Statement.{statement}
 use Rattle.instruments.proofs.recording.status.Tie as tie
 
@@ -17,19 +17,13 @@ recorder-in-requires c κs = search needs
 status-requires : tie.Need-status-requires
 status-requires c κs = search needs
 
-alone-requires : tie.Need-alone-requires
-alone-requires c κs = search needs
-
 returns : tie.Need-returns
 returns c =
-    let asked = c .before in
-    let found = asked .before in
+    let found = c .before in
     let block = found .before .before .args .state .now in
-    λ memory out s body.
-    reply-as _ _
-    (ap alone (asked .status .ensures ∙ ap (λ (q : Recorder). statusStatus (recorderOf q)) (found .recorder-in .ensures))
-    ∙ recorder-asked (gateOf (decodedInstruments block) memory) s body)
-    (c .alone .ensures out)
+    λ memory s body.
+    ap alone (c .status .ensures ∙ ap (λ (q : Recorder). statusStatus (recorderOf q)) (found .recorder-in .ensures))
+    ∙ recorder-asked (gateOf (decodedInstruments block) memory) s body
 
 pub status-spec : {M : Type 1} → statement M
-status-spec = tie.close (tie.spec recorder-in-requires status-requires alone-requires returns)
+status-spec = tie.close (tie.spec recorder-in-requires status-requires returns)

@@ -3,16 +3,16 @@ use mathlib.Core.Path.{refl, ap, _∙_}
 use borrow.Author.Needs.{needs}
 use lib.Seq.{sets}
 use Rattle.document.specs.declared.Operation.the-variants.{Stop}
-use Rattle.runs.specs.declared.run.Run.{Run}
 use Rattle.recorder.specs.declared.state.Recorder.{Recorder}
 use Rattle.recorder.specs.State.{recorderOf}
 use Rattle.recorder.specs.Calls.{stopStatus, haltedState}
 use Rattle.state.specs.State.{gateOf, withRecorder}
 use Rattle.blocks.specs.Places.{scopePlace, runPlace}
-use Rattle.blocks.specs.Layout.{decodedScope, decodedRecorder, decodedInstruments, decodedApplication, encodedRun, encodedInstruments}
+use Rattle.blocks.specs.Layout.{decodedRecorder, decodedInstruments, encodedRun, encodedInstruments}
 use Rattle.blocks.proofs.Stored.{run-stored}
-use Rattle.instruments.proofs.Statuses.{alone, recorder-stopped}
-use Rattle.instruments.proofs.Changing.{operates, halted-run}
+use Rattle.instruments.specs.Operates.{alone}
+use Rattle.instruments.proofs.Statuses.{recorder-stopped}
+use Rattle.instruments.proofs.Changing.{settles, halted-run}
 use Rattle.instruments.proofs.recording.stop.Statement.{statement}
 use Rattle.instruments.proofs.recording.stop.Tie as tie
 
@@ -25,15 +25,12 @@ stop-requires c κs = search needs
 put-run-requires : tie.Need-put-run-requires
 put-run-requires c κs = search needs
 
-alone-requires : tie.Need-alone-requires
-alone-requires c κs = search needs
-
 same-length : tie.Need-same-length
 same-length c = search needs
 
 returns : tie.Need-returns
 returns c =
-    let put = c .before .before .before in
+    let put = c .before .before in
     let done = put .before .before .before in
     let found = done .before in
     let known = found .before .before in
@@ -46,10 +43,10 @@ returns c =
     ∙ (λ i. sets block runPlace (encodedRun (next i .run)))
     ∙ run-stored block (known .before .pre) (λ i. known .slice-known .given i .fits) (haltedState (decodedRecorder block) .run)
     ∙ (λ i. sets block scopePlace (encodedInstruments (withRecorder (decodedInstruments block) (halted-run (decodedRecorder block) i)))) in
-    λ memory out s body.
-    operates Stop refl block memory s body (done .stop .result .status) _ out _
-    (ap alone status ∙ recorder-stopped (gateOf (decodedInstruments block) memory) s body) (c .alone .ensures out) stored
+    λ memory s body.
+    settles Stop refl block memory s body (done .stop .result .status) _
+    (ap alone status ∙ recorder-stopped (gateOf (decodedInstruments block) memory) s body) stored
 
 pub stop-spec : {M : Type 1} → statement M
 stop-spec =
-    tie.close (tie.spec recorder-in-requires stop-requires put-run-requires alone-requires same-length returns)
+    tie.close (tie.spec recorder-in-requires stop-requires put-run-requires same-length returns)

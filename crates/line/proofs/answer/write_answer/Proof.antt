@@ -5,6 +5,7 @@ use borrow.Author.Needs.{needs}
 use borrow.Author.Tests.{ltb-false, not-false}
 use Rattle.document.specs.Answer.{Answer}
 use Rattle.document.specs.AnswerWriter.{answerFormed, answerRefusal, answerWritten, answerBuffer}
+use Rattle.line.proofs.Statuses.{formed-few}
 use Rattle.line.proofs.answer.write_answer.Statement.{statement}
 use Rattle.line.proofs.answer.write_answer.Tie as tie
 
@@ -34,7 +35,7 @@ returns-2 c =
     record { result = simp (formed e, c .if2 .taken); buffer = simp (formed e, c .if2 .taken) }
 
 tell-requires : tie.Need-tell-requires
-tell-requires c κs = (formed (c .before .before), ltb-false _ _ (c .before .if2 .left))
+tell-requires c κs = (formed-few (asked (c .before .before)) (formed (c .before .before)), ltb-false _ _ (c .before .if2 .left))
 
 same-length : tie.Need-same-length
 same-length c = search needs

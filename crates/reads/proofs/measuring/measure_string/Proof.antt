@@ -1,8 +1,8 @@
 -- Refused by the data's length, by the address, or without an end; else two bytes, low byte first.
 use mathlib.Core.Path.{_≡_, sym, ap, _∙_}
-use mathlib.Core.Bool.{true, false}
-use mathlib.Core.List.{List, [], _∷_}
-use Prim.Native.Nat.{ℕ, _+_, _≤_, _/_, _%_}
+use mathlib.Core.Bool.{true}
+use mathlib.Core.List.{List}
+use Prim.Native.Nat.{ℕ, _+_, _≤_, _%_}
 use native.Mathlib.Omega.{arith}
 use borrow.Author.Needs.{needs}
 use borrow.Author.Tests.{not-true, not-false, leb-true}
@@ -12,7 +12,7 @@ use Rattle.document.specs.Areas.{memoryEnd, mayBeRead}
 use Rattle.document.specs.Values.{number, littleEndian}
 use Rattle.document.specs.Variables.{addressWidth}
 use Rattle.document.specs.Strings.{stringLength, stringEnds}
-use Rattle.answers.proofs.Replies.{reply-as}
+use Rattle.line.proofs.Writing.{told-as}
 use Rattle.reads.proofs.Strings.{ends-within, ends-not, string-layout, string-outside, string-unended, string-told}
 use Rattle.reads.proofs.measuring.measure_string.Statement.{statement}
 use Rattle.reads.proofs.measuring.measure_string.Tie as tie
@@ -27,15 +27,19 @@ address-width-requires c κs = search needs
 alone-requires : tie.Need-alone-requires
 alone-requires c κs = search needs
 
+same-length : tie.Need-same-length
+same-length c = search needs
+
 returns : tie.Need-returns
 returns c =
-    let t = c .before in
+    let said = c .before .before in
+    let t = said .before .before in
     let w = t .before in
     let a = begun w .args in
     λ g same.
-    reply-as _ _
+    told-as _ _
     (string-layout g (a .service) (a .body .now) (λ e. t .if1 .taken (e ∙ sym (w .address-width .ensures .0))))
-    (c .alone .ensures _)
+    (said .alone .ensures)
 
 number-requires : tie.Need-number-requires
 number-requires c κs = search needs
@@ -61,13 +65,18 @@ module _ (r : tie.After-may-be-read) where
 alone-requires-2 : tie.Need-alone-requires-2
 alone-requires-2 c κs = search needs
 
+same-length-2 : tie.Need-same-length-2
+same-length-2 c = search needs
+
 returns-2 : tie.Need-returns-2
 returns-2 c =
-    let r = c .before .before in
+    let said = c .before .before in
+    let t = said .before .before in
+    let r = t .before in
     λ g same.
-    reply-as _ _
-    (string-outside g (asked r .args .service) (body r) (whole r) (sym (read-at r) ∙ not-true _ (c .before .if2 .taken)))
-    (c .alone2 .ensures _)
+    told-as _ _
+    (string-outside g (asked r .args .service) (body r) (whole r) (sym (read-at r) ∙ not-true _ (t .if2 .taken)))
+    (said .alone2 .ensures)
 
 usize-of-u32-requires : tie.Need-usize-of-u32-requires
 usize-of-u32-requires c κs = search needs
@@ -108,46 +117,45 @@ add-if3 c = search needs
 alone-requires-3 : tie.Need-alone-requires-3
 alone-requires-3 c κs = search needs
 
+same-length-3 : tie.Need-same-length-3
+same-length-3 c = search needs
+
 returns-3 : tie.Need-returns-3
 returns-3 c =
-    let t = c .before in
+    let said = c .before .before in
+    let t = said .before .before in
     let l = t .before in
     let e = looked l in
     let at = number (body (e .before)) in
     λ g same.
-    reply-as _ _
+    told-as _ _
     (string-unended g (asked (e .before) .args .service) (body (e .before)) (whole (e .before)) (inside e)
     (ap (λ (m : List ℕ). stringEnds m at) same ∙ ends-not (memory l) at (omega (arith, t .if3 .taken, from l, measured l))))
-    (c .alone3 .ensures _)
+    (said .alone3 .ensures)
 
-cast-t13 : tie.Need-cast-t13
-cast-t13 c = search needs
+cast-done-word : tie.Need-cast-done-word
+cast-done-word c = search needs
 
-cast-t15 : tie.Need-cast-t15
-cast-t15 c = search needs
+done-word-requires : tie.Need-done-word-requires
+done-word-requires c κs = search needs
 
-slice-aggregate-done-with : tie.Need-slice-aggregate-done-with
-slice-aggregate-done-with c = search needs
-
-done-with-requires : tie.Need-done-with-requires
-done-with-requires c κs = search needs
-
-same-length : tie.Need-same-length
-same-length c = search needs
+same-length-4 : tie.Need-same-length-4
+same-length-4 c = search needs
 
 returns-4 : tie.Need-returns-4
 returns-4 c =
-    let put = c .before .before in
-    let f = put .before .before .before in
+    let told = c .before .before in
+    let f = told .before .before in
     let l = f .before in
     let e = looked l in
     let at = number (body (e .before)) in
+    let size : l .string-length .result % 65536 ≡ stringLength (memory l) at = omega (arith, measured l, within l, asked (e .before) .pre .0) in
     λ g same.
-    reply-as _ _
-    (ap (λ (n : ℕ). record { status = done; body = n % 256 ∷ n / 256 % 256 ∷ [] }) (measured l ∙ ap (λ (m : List ℕ). stringLength m at) (sym same))
+    told-as _ _
+    (ap (λ (n : ℕ). record { status = done; body = littleEndian 2 n }) (size ∙ ap (λ (m : List ℕ). stringLength m at) (sym same))
     ∙ string-told g (asked (e .before) .args .service) (body (e .before)) (whole (e .before)) (inside e)
     (ap (λ (m : List ℕ). stringEnds m at) same ∙ ends-within (memory l) at (omega (arith, within l)) (λ h. f .if3 .left (omega (arith, h, from l, measured l))) (within l)))
-    (put .done-with .ensures)
+    (told .done-word .ensures)
 
 pub measure-string-spec : {M : Type 1} → statement M
 measure-string-spec =
@@ -155,19 +163,20 @@ measure-string-spec =
     (tie.spec
     address-width-requires
     alone-requires
+    same-length
     returns
     number-requires
     may-be-read-requires
     alone-requires-2
+    same-length-2
     returns-2
     usize-of-u32-requires
     string-length-requires
     add-if3
     alone-requires-3
+    same-length-3
     returns-3
-    cast-t13
-    cast-t15
-    slice-aggregate-done-with
-    done-with-requires
-    same-length
+    cast-done-word
+    done-word-requires
+    same-length-4
     returns-4)

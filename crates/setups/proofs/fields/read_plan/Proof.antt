@@ -1,10 +1,12 @@
 -- Field by field; without a trigger its fields are 0.
 use mathlib.Core.Path.{refl, ap, _∙_}
+use mathlib.Core.List.{[]}
 use Prim.Native.Nat.{ℕ, _+_}
 use lib.ListN.{getD, take}
 use Rattle.document.specs.Areas.{bytesAt}
 use Rattle.document.specs.Values.{number}
 use Rattle.document.specs.Plan.{noTrigger, planIn}
+use Rattle.variables.specs.State.{kept}
 use Rattle.setups.proofs.Heads.{triggerFields, trigger-none, trigger-some, plan-kept}
 use native.Mathlib.Omega.{arith}
 use borrow.Author.Needs.{needs}
@@ -28,7 +30,7 @@ unfolding planIn
 returns c =
     let w = c .before .before in
     let s = w .before .before .before .before in (
-      plan-kept (planIn (s .args .ex) (s .args .body .now)) noTrigger (s .args .v) _ _ _ 0 0 0 0 0
+      plan-kept (planIn (s .args .ex) (s .args .body .now)) noTrigger (kept []) _ _ _ 0 0 0 0 0
           (w .before .before .word-at .ensures) (w .before .word-at2 .ensures) (w .word-at3 .ensures)
           (trigger-none (s .args .ex) (s .args .body .now) (c .if1 .taken)) refl refl refl refl refl,
       λ h. omega arith,
@@ -72,7 +74,7 @@ returns-2 c =
     let body = s .args .body .now in
     let ex = s .args .ex in
     let wide = a .address-width .ensures .0 in (
-      plan-kept (planIn ex body) (triggerFields ex body) (s .args .v) _ _ _ _ _ _ _ _
+      plan-kept (planIn ex body) (triggerFields ex body) (kept []) _ _ _ _ _ _ _ _
           (w .before .before .word-at .ensures) (w .before .word-at2 .ensures) (w .word-at3 .ensures)
           (trigger-some ex body (e .if1 .left))
           refl

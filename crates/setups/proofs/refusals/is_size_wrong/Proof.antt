@@ -1,79 +1,85 @@
 -- In the order of the table's words.
-use mathlib.Core.Path.{sym, _∙_}
+use mathlib.Core.Path.{_≡_, sym, ap, _∙_}
+use mathlib.Core.Bool.{not, _&&_, false}
+use mathlib.Core.List.{[], _∷_}
+use Prim.Native.Nat.{ℕ, _+_, _*_}
+use lib.Dec.{eqb, ltb}
+use lib.ListN.{getD}
 use borrow.Author.Tests.{ne-eqb}
 use borrow.Author.Needs.{needs}
+use Rattle.document.specs.Numbers.{isIn}
+use Rattle.document.specs.Plan.{samplesField}
 use Rattle.setups.proofs.refusals.is_size_wrong.Statement.{statement}
 use Rattle.setups.proofs.refusals.is_size_wrong.Tie as tie
 
-any-size-zero-requires : tie.Need-any-size-zero-requires
-any-size-zero-requires c κs = search needs
+abbrev start : tie.After-word-at → tie.Start
+start w = w .before .before .before
+
+some : (c : tie.Else2) → eqb (samplesField (start (c .before) .args .body .now)) 0 ≡ false
+some c = ne-eqb (samplesField (start (c .before) .args .body .now)) 0 (λ z. c .if2 .left (c .before .word-at .ensures ∙ z))
+
+-- the code's product is that of the fields
+overflows : (c : tie.After-do-sets-overflow) → c .do-sets-overflow .result ≡ ltb 4096 (samplesField (start (c .before .before) .args .body .now) * start (c .before .before) .args .seen .size)
+overflows c =
+    let w = c .before .before in
+    c .do-sets-overflow .ensures ∙ ap (λ (n : ℕ). ltb 4096 (n * start w .args .seen .size)) (w .word-at .ensures)
 
 returns : tie.Need-returns
-returns c = rw (sym (c .before .any-size-zero .ensures) ∙ c .if1 .taken)
+returns c = rw (c .if1 .taken)
 
-is-count-wrong-requires : tie.Need-is-count-wrong-requires
-is-count-wrong-requires c κs = search needs
+word-at-requires : tie.Need-word-at-requires
+word-at-requires c κs = search needs
 
 returns-2 : tie.Need-returns-2
 returns-2 c =
-    let n = c .before in
-    let z = n .before .before in
-    rw (sym (z .any-size-zero .ensures) ∙ n .before .if1 .left, sym (n .is-count-wrong .ensures) ∙ c .if2 .taken)
-
-returns-3 : tie.Need-returns-3
-returns-3 c =
-    let e = c .before .before in
-    let n = e .before in
-    let z = n .before .before in
-    rw (
-      sym (z .any-size-zero .ensures) ∙ n .before .if1 .left,
-      sym (n .is-count-wrong .ensures) ∙ e .if2 .left,
-      c .if3 .taken,
-    )
+    let w = c .before in
+    rw (w .before .if1 .left, sym (w .word-at .ensures) ∙ c .if2 .taken)
 
 do-sets-overflow-requires : tie.Need-do-sets-overflow-requires
 do-sets-overflow-requires c κs = search needs
 
-returns-4 : tie.Need-returns-4
-returns-4 c =
+returns-3 : tie.Need-returns-3
+returns-3 c =
     let o = c .before in
-    let e = o .before .before .before in
-    let n = e .before in
-    let z = n .before .before in
-    rw (
-      sym (z .any-size-zero .ensures) ∙ n .before .if1 .left,
-      sym (n .is-count-wrong .ensures) ∙ e .if2 .left,
-      ne-eqb (z .before .before .args .plan .samples) 0 (o .before .if3 .left),
-      sym (o .do-sets-overflow .ensures) ∙ c .if4 .taken,
-    )
+    rw (o .before .before .before .if1 .left, some (o .before), sym (overflows o) ∙ c .if3 .taken)
+
+shared-slice-read-is-trigger-size-wrong : tie.Need-shared-slice-read-is-trigger-size-wrong
+shared-slice-read-is-trigger-size-wrong c = search needs
+
+address-width-requires : tie.Need-address-width-requires
+address-width-requires c κs = search needs
+
+add-is-trigger-size-wrong : tie.Need-add-is-trigger-size-wrong
+add-is-trigger-size-wrong c = search needs
+
+shared-slice-read-is-trigger-size-wrong-2 : tie.Need-shared-slice-read-is-trigger-size-wrong-2
+shared-slice-read-is-trigger-size-wrong-2 c = search needs
 
 is-trigger-size-wrong-requires : tie.Need-is-trigger-size-wrong-requires
 is-trigger-size-wrong-requires c κs = search needs
 
-returns-5 : tie.Need-returns-5
-returns-5 c =
-    let o = c .before .before in
-    let e = o .before .before .before in
-    let n = e .before in
-    let z = n .before .before in
-    rw (
-      sym (z .any-size-zero .ensures) ∙ n .before .if1 .left,
-      sym (n .is-count-wrong .ensures) ∙ e .if2 .left,
-      ne-eqb (z .before .before .args .plan .samples) 0 (o .before .if3 .left),
-      sym (o .do-sets-overflow .ensures) ∙ c .before .if4 .left,
-    )
-    (c .is-trigger-size-wrong .ensures)
+returns-4 : tie.Need-returns-4
+returns-4 c =
+    let a = c .before .before in
+    let e = a .before .before in
+    let o = e .before in
+    let body = start (o .before .before) .args .body .now in
+    rw (o .before .before .before .if1 .left, some (o .before), sym (overflows o) ∙ e .if3 .left)
+    (c .is-trigger-size-wrong .ensures
+    ∙ ap (λ (k : ℕ). not (eqb (getD body 0 0) 0) && not (isIn (getD body (7 + k) 0) (1 ∷ 2 ∷ 4 ∷ []))) (a .address-width .ensures .0))
 
 pub is-size-wrong-spec : {M : Type 1} → statement M
 is-size-wrong-spec =
     tie.close
     (tie.spec
-    any-size-zero-requires
     returns
-    is-count-wrong-requires
+    word-at-requires
     returns-2
-    returns-3
     do-sets-overflow-requires
-    returns-4
+    returns-3
+    shared-slice-read-is-trigger-size-wrong
+    address-width-requires
+    add-is-trigger-size-wrong
+    shared-slice-read-is-trigger-size-wrong-2
     is-trigger-size-wrong-requires
-    returns-5)
+    returns-4)

@@ -1,2 +1,0 @@
--- What follows from the promise of a reply.
-pub mod Replies

@@ -1,0 +1,6 @@
+-- What follows from the definitions, for the proofs of this crate.
+pub mod Fronts
+pub mod Turns
+pub mod Padded
+pub mod Places
+pub mod Joined

@@ -1,0 +1,46 @@
+// A part of a setup's data, a count and the definitions behind it, stored as the block has them: every address in four bytes, and zeros
+// behind the last of up to eight.
+ghost use mathlib.Core.Path.{_≡_};
+ghost use Prim.Native.Nat.{_+_, _*_, _≤_};
+ghost use lib.ListN.{length, drop};
+ghost use lib.Seq.{sets};
+ghost use Rattle.document.specs.Variables.{definitionWidth, definitionsIn, countIn, variablesIn, lengthGiven};
+ghost use Rattle.variables.specs.State.{kept};
+ghost use Rattle.blocks.specs.Layout.{encodedDefinitions, encodedVariables};
+ghost use Rattle.blocks.specs.Places.{variablesLength};
+use block_fields::clear;
+use block_fields::put_long;
+use definitions::address_width;
+use memory::number_at;
+use variables::MOST_VARIABLES;
+use widths::usize_of_u8;
+
+// All that is read lies in front of all that is written.
+fn store_definitions(block: &mut [u8], at: usize, from: usize, n: usize, ex: bool)
+    requires { ⌜ (from + n * definitionWidth ex ≤ at) × (at + n * 5 ≤ length (now block)) ⌝ }
+    ensures { λ _. ⌜ now (block .exit) ≡ sets (now (block .entry)) at (encodedDefinitions (definitionsIn ex n (drop from (now (block .entry))))) ⌝ }
+{
+    let width = address_width(ex);
+    let mut read = from;
+    let mut write = at;
+    let mut k = 0;
+    while k < n {
+        let address = number_at(block, read + 1, width);
+        block[write] = block[read];
+        put_long(block, write + 1, address);
+        read += 1 + width;
+        write += 5;
+        k += 1;
+    }
+}
+
+pub(crate) fn store_variables(block: &mut [u8], at: usize, from: usize, ex: bool)
+    requires { ⌜ (countIn (drop from (now block)) ≤ 8) × (from + lengthGiven ex (drop from (now block)) ≤ at) × (at + variablesLength ≤ length (now block)) ⌝ }
+    ensures { λ _. ⌜ now (block .exit) ≡ sets (now (block .entry)) at (encodedVariables (kept (variablesIn ex (drop from (now (block .entry)))))) ⌝ }
+{
+    let count = block[from];
+    let n = usize_of_u8(count);
+    store_definitions(block, at + 1, from + 1, n, ex);
+    block[at] = count;
+    clear(block, at + 1 + n * 5, (MOST_VARIABLES - n) * 5);
+}
