@@ -1,2 +1,4 @@
--- A byte, by its event, refused and taken.
+-- What the block holds behind a byte.
+pub mod Stores
+pub mod Framed
 pub mod Turns

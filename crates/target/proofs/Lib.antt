@@ -4,3 +4,5 @@ pub mod Changed
 pub mod HeldLaws
 pub mod TurnLaws
 pub mod Keeps
+pub mod Walks
+pub mod Quiet

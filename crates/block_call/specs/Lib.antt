@@ -1,0 +1,2 @@
+-- What a block promises.
+pub mod Promises
