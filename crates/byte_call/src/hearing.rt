@@ -29,7 +29,7 @@ pub enum Heard {
 }
 
 // The receiver is stored, and at most one byte of the body.
-pub fn hear(state: &mut [u8], byte: u8) -> Heard
+pub(crate) fn hear(state: &mut [u8], byte: u8) -> Heard
     requires { ⌜ stateLength ≤ length (now state) ⌝ }
     ensures { λ r. ⌜ (r ≡ heardOf (stepped (decodedReceiver (now (state .entry))) byte .event)) × (now (state .exit) ≡ sets (now (state .entry)) 0 (encoded (hearing (decoded (now (state .entry))) byte))) ⌝ }
 {
@@ -57,7 +57,7 @@ pub fn hear(state: &mut [u8], byte: u8) -> Heard
 }
 
 // The state has heard the byte; without a message nothing more is done.
-pub fn answered(heard: Heard, state: &mut [u8], memory: &mut [u8], answer: &mut [u8]) -> usize
+pub(crate) fn answered(heard: Heard, state: &mut [u8], memory: &mut [u8], answer: &mut [u8]) -> usize
     requires { ⌜ (isFramed heard ≡ true) × (stateLength ≤ length (now state)) × (length (now memory) ≡ memoryEnd) × (scope.sound (decodedScope (now state)) ≡ true) × (answerRoom ≤ length (now answer)) ⌝ }
     ensures { λ r. ⌜ Turned (answeredBy (decoded (now (state .entry))) heard (now (memory .entry)) (now (answer .entry))) (now (state .entry)) r (now (state .exit)) (now (memory .exit)) (now (answer .exit)) ⌝ }
 {
