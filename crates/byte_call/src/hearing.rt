@@ -57,7 +57,12 @@ pub(crate) fn hear(state: &mut [u8], byte: u8) -> Heard
 }
 
 // The state has heard the byte; without a message nothing more is done.
-pub(crate) fn answered(heard: Heard, state: &mut [u8], memory: &mut [u8], answer: &mut [u8]) -> usize
+pub(crate) fn answered(
+    heard: Heard,
+    state: &mut [u8],
+    memory: &mut [u8],
+    answer: &mut [u8],
+) -> usize
     requires { ⌜ (isFramed heard ≡ true) × (stateLength ≤ length (now state)) × (length (now memory) ≡ memoryEnd) × (scope.sound (decodedScope (now state)) ≡ true) × (answerRoom ≤ length (now answer)) ⌝ }
     ensures { λ r. ⌜ Turned (answeredBy (decoded (now (state .entry))) heard (now (memory .entry)) (now (answer .entry))) (now (state .entry)) r (now (state .exit)) (now (memory .exit)) (now (answer .exit)) ⌝ }
 {

@@ -33,6 +33,11 @@ ahead-most zero bs = omega arith
 ahead-most (suc n) [] = omega arith
 ahead-most (suc n) (b ∷ bs) = split (eqb b 0x2B) (λ e. rw e (omega arith)) (λ e. rw e (omega (arith, ahead-most n bs)))
 
+ahead-inside : (n : ℕ) (bs : List ℕ) → plainAhead n bs ≤ length bs
+ahead-inside zero bs = omega arith
+ahead-inside (suc n) [] = omega arith
+ahead-inside (suc n) (b ∷ bs) = split (eqb b 0x2B) (λ e. rw e (omega arith)) (λ e. rw e (omega (arith, ahead-inside n bs)))
+
 ahead-length : (n : ℕ) (bs : List ℕ) → length (take (plainAhead n bs) bs) ≡ plainAhead n bs
 ahead-length zero bs = refl
 ahead-length (suc n) [] = refl
@@ -118,6 +123,14 @@ module _ (t : Target) (bs : List ℕ) {P : Type 0} (nothing : passedOver t bs �
       (λ inner. inside (eqb-true (t .receiver .waiting) 0 calm) (eqb-false (t .receiver .phase) idle other) (eqb-true (t .receiver .phase) dataNext inner) (eqb-false (passedOver t bs) 0 some))
       (λ never. nothing (over-other t bs (eqb-true (t .receiver .waiting) 0 calm) (eqb-false (t .receiver .phase) idle other) (eqb-false (t .receiver .phase) dataNext never)))))
       (λ waits. nothing (over-waiting t bs (eqb-false (t .receiver .waiting) 0 waits))))
+
+-- no more than there are
+pub over-inside : (t : Target) (bs : List ℕ) → passedOver t bs ≤ length bs
+over-inside t bs =
+    over-cases t bs
+    (λ none. omega (arith, none))
+    (λ calm outside. omega (arith, over-idle t bs calm outside, ahead-inside (length bs) bs))
+    (λ calm other inside some. omega (arith, over-data t bs calm other inside, ahead-inside (dataAhead (t .receiver)) bs))
 
 -- what the code passes over, whatever the phase
 pub passed-walk : (w : Walk) (bs : List ℕ) → answerRoom ≤ room w → w .next .receiver .sum < 256
