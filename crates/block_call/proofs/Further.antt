@@ -2,9 +2,10 @@
 use mathlib.Core.Path.{_≡_, refl, sym, ap, subst, _∙_}
 use mathlib.Core.List.{List, [], _∷_, _++_, append-nil}
 use Prim.Native.Nat.{ℕ, suc, _+_, _-_, _<_, _≤_}
+use native.Mathlib.Nat.{add-zero}
 use native.Mathlib.Numerals.{add-one}
 use native.Mathlib.Omega.{arith}
-use lib.ListN.{length, getD, take, drop, length-drop, drop-of-length-le}
+use lib.ListN.{length, getD, take, drop, length-drop, drop-of-length-le, take-append-drop}
 use lib.Seq.{sets, drop-cons, drop-drop, take-all}
 use Rattle.document.specs.Numbers.{answerRoom}
 use Rattle.document.specs.Bytes.{AllBytes}
@@ -23,7 +24,7 @@ use Rattle.blocks.specs.Layout.{decodedReceiver, decoded, encoded}
 use Rattle.blocks.proofs.Back.{stored-decoded}
 use Rattle.passing.proofs.Passed.{over-inside, passed-walk, passed-keeps}
 use Rattle.byte_call.specs.Promises.{Turned}
-use Rattle.byte_call.proofs.Turns.{turned-over}
+use Rattle.byte_call.proofs.Stores.{target-over}
 use Rattle.block_call.specs.Going.{walkAt, Further}
 
 -- what stands behind a place is lent whole, and nothing behind it is left
@@ -88,11 +89,14 @@ module _ (bytes : List ℕ) (from at : ℕ) (block memory buffer : List ℕ) (lo
       next-within : Within (turn (decoded between) (getD bytes next 0) memory (drop at buffer) .next) (turn (decoded between) (getD bytes next 0) memory (drop at buffer) .memory)
       next-within = byte-keeps (decoded between) memory (drop at buffer) between-within byte byte-small
 
-      over : Turned (turn (decoded between) (getD bytes next 0) memory (drop at buffer)) block written after left told
-      over = turned-over block passed u between after left told written long (within-fits passed memory passed-within) (within-fits (u .next) (u .memory) next-within) stored done
+      over : after ≡ sets block 0 (encoded (turn (decoded between) (getD bytes next 0) memory (drop at buffer) .next))
+      over =
+          done .state
+          ∙ ap (λ (l : List ℕ). sets l 0 (encoded (u .next))) stored
+          ∙ target-over block passed (u .next) long (within-fits passed memory passed-within) (within-fits (u .next) (u .memory) next-within)
 
       decoded-next : decoded after ≡ turn (decoded between) (getD bytes next 0) memory (drop at buffer) .next
-      decoded-next = ap decoded (over .state) ∙ stored-decoded block (u .next) long (within-fits (u .next) (u .memory) next-within)
+      decoded-next = ap decoded (over) ∙ stored-decoded block (u .next) long (within-fits (u .next) (u .memory) next-within)
 
       takes : walked (walkAt next at between memory buffer) (drop next bytes) ≡ walked (walkAt (next + 1) (at + written) after left (take at buffer ++ told)) (drop (next + 1) bytes)
       takes =
@@ -105,9 +109,18 @@ module _ (bytes : List ℕ) (from at : ℕ) (block memory buffer : List ℕ) (lo
       one-more =
           record {
             goes = passes ∙ takes;
-            state = over .state ∙ ap (λ (t : Target). sets block 0 (encoded t)) (sym decoded-next);
+            state = over ∙ ap (λ (t : Target). sets block 0 (encoded t)) (sym decoded-next);
             within = subst (λ (m : List ℕ). Within (decoded after) m) (sym (done .memory-left)) (subst (λ (t : Target). Within t (u .memory)) (sym decoded-next) next-within);
             onward = omega (arith, is);
             inside = omega (arith, more);
             room = omega (arith, room, done .length, turn-fits (decoded between) byte memory (drop at buffer));
           }
+
+    -- which gets no answer
+    pub quiet-more : next < length bytes → getD bytes next 0 < 256 → (after : List ℕ)
+        → Turned (turn (decoded between) (getD bytes next 0) memory (drop at buffer)) between 0 after memory (drop at buffer)
+        → Further bytes from at (record { taken = next + 1; written = at }) block memory buffer after memory buffer
+    quiet-more more byte-small after done =
+        subst (λ (n : ℕ). Further bytes from at (record { taken = next + 1; written = n }) block memory buffer after memory buffer) (add-zero at)
+        (subst (λ (l : List ℕ). Further bytes from at (record { taken = next + 1; written = at + 0 }) block memory buffer after memory l) (take-append-drop at buffer)
+        (one-more more byte-small 0 after memory (drop at buffer) done))

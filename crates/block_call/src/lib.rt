@@ -8,10 +8,12 @@ ghost use Rattle.blocks.specs.Places.{stateLength};
 ghost use Rattle.blocks.specs.Layout.{decoded};
 ghost use Rattle.block_call.specs.Going.{Further, Gone};
 ghost use Rattle.block_call.specs.Promises.{BlockDone};
-use byte_call::take;
+use byte_call::Heard;
+use byte_call::hear;
 use checks::byte_refusal;
 use codes::ANSWER_ROOM;
 use codes::TAKEN;
+use operations::respond;
 use passing::pass_over;
 
 // The number with which a block is refused, or 0; how many of its bytes were taken, and how many bytes of answers were written.
@@ -47,10 +49,19 @@ fn go_on(
             written: at,
         };
     }
-    let length = take(state, bytes[next], memory, &mut answers[at..]);
-    Going {
-        taken: next + 1,
-        written: at + length,
+    let heard = hear(state, bytes[next]);
+    match heard {
+        Heard::Quiet => Going {
+            taken: next + 1,
+            written: at,
+        },
+        Heard::Message(whole) => {
+            let length = respond(whole, state, memory, &mut answers[at..]);
+            Going {
+                taken: next + 1,
+                written: at + length,
+            }
+        }
     }
 }
 
