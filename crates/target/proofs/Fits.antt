@@ -1,11 +1,14 @@
 -- Every answer fits the room for one.
-use mathlib.Core.Path.{_≡_, refl, sym, subst}
+use mathlib.Core.Path.{_≡_, refl, sym, ap, subst, _∙_}
 use mathlib.Core.Bool.{true}
 use mathlib.Core.List.{List}
 use Prim.Native.Nat.{ℕ, _≤_}
 use native.Mathlib.Omega.{arith}
 use lib.Dec.{eqb, ltb}
+use lib.ListN.{length}
+use lib.Seq.{length-sets}
 use Rattle.document.specs.Numbers.{mostData, answerRoom, sumWrong, messageTooLong}
+use Rattle.document.specs.Answer.{answerOnWire}
 use Rattle.document.specs.AnswerWriter.{answerFormed}
 use Rattle.document.specs.Services.{serviceOf}
 use Rattle.document.specs.Gate.{Gate}
@@ -40,3 +43,15 @@ turn-fits t b memory buffer = by (stepped (t .receiver) b .event) refl
         let h : Held = heldBy (nextOf t b memory buffer) c n sum in
         subst (λ (u : Turn). u .length ≤ answerRoom) (sym (by-event t b memory buffer (Whole c n sum) e))
         (answer-fits (answeredHeld (gateOf (t .instruments) memory) h .answer) (held-formed (gateOf (t .instruments) memory) h))
+
+-- the lent buffer keeps its length
+pub turn-size : (t : Target) (b : ℕ) (memory buffer : List ℕ) → length (turn t b memory buffer .buffer) ≡ length buffer
+turn-size t b memory buffer = by (stepped (t .receiver) b .event) refl
+  where
+    by : (e : Event) → stepped (t .receiver) b .event ≡ e → length (turn t b memory buffer .buffer) ≡ length buffer
+    by Nothing e = ap (λ (u : Turn). length (u .buffer)) (by-event t b memory buffer Nothing e)
+    by (Keep at v) e = ap (λ (u : Turn). length (u .buffer)) (by-event t b memory buffer (Keep at v) e)
+    by (Whole c n sum) e =
+        let h : Held = heldBy (nextOf t b memory buffer) c n sum in
+        ap (λ (u : Turn). length (u .buffer)) (by-event t b memory buffer (Whole c n sum) e)
+        ∙ length-sets buffer 0 (answerOnWire (answeredHeld (gateOf (t .instruments) memory) h .answer))
