@@ -45,6 +45,20 @@ static void send_whole(void)
     send(&message, message.length);
 }
 
+/* As a receiver with a buffer hands them over. The messages of these cases fill whole blocks, but for their sum byte. */
+enum { BLOCK = 64 };
+
+static void send_blocks(void)
+{
+    for (size_t at = 0; at + BLOCK <= message.length; at += BLOCK)
+        log_gate_block(state, sizeof state, message.wire + at, BLOCK, memory, sizeof memory, answer, sizeof answer);
+}
+
+static void send_in_one(void)
+{
+    log_gate_block(state, sizeof state, message.wire, message.length, memory, sizeof memory, answer, sizeof answer);
+}
+
 static void send_both(void)
 {
     send(&message, message.length);
@@ -161,6 +175,38 @@ static void prepare_long_set_up(void)
 {
     set_up_all();
     prepare_long();
+}
+
+/* Start, command, length and 61 data: one block. */
+static void prepare_blocks(void)
+{
+    uint8_t bytes[61] = {58, 64, 0};
+    form(&message, LOG_GATE_WRITE_BYTES, bytes, 61);
+    expect_done(&message);
+}
+
+static void prepare_blocks_set_up(void)
+{
+    set_up_all();
+    prepare_blocks();
+}
+
+/* Start, command, length, size and address, and 61 times 2B 2B: two blocks. */
+static void prepare_blocks_doubled(void)
+{
+    uint8_t bytes[64] = {61, 64, 0};
+    memset(bytes + 3, 0x2B, 61);
+    form(&message, LOG_GATE_WRITE_BYTES, bytes, 64);
+    expect_done(&message);
+}
+
+static void prepare_noise(void)
+{
+    for (size_t i = 0; i < BLOCK; i++)
+        message.wire[i] = (uint8_t)(0x80 + i);
+    message.length = BLOCK;
+    if (send(&message, message.length) != 0)
+        exit(1);
 }
 
 static void prepare_read(void)
@@ -312,9 +358,14 @@ static const struct bench_case {
     {"byte-long-16", 67, "the same, 16 tables registered", prepare_long_tables, send_unfinished},
     {"byte-short", 4, "a byte of a short message (2 data)", prepare_read, send_unfinished},
     {"byte-short-8", 4, "the same, all set up", prepare_read_set_up, send_unfinished},
+    {"blocks", 64, "a byte of a long message in blocks of 64", prepare_blocks, send_blocks},
+    {"blocks-8", 64, "the same, all set up", prepare_blocks_set_up, send_blocks},
+    {"blocks-2b", 128, "the same, 0x2B data (doubled)", prepare_blocks_doubled, send_blocks},
+    {"blocks-noise", 64, "noise outside a message in blocks of 64", prepare_noise, send_blocks},
     {"describe", 1, "0xC8, short description (3 bytes)", prepare_describe, send_whole},
     {"read", 1, "0xD0, read of 1 (5 bytes)", prepare_read, send_whole},
     {"read-8", 1, "the same, all set up", prepare_read_set_up, send_whole},
+    {"read-block", 1, "0xD0 in one block (5 bytes)", prepare_read, send_in_one},
     {"masked", 1, "0xE5, masked write of 1 (7 bytes)", prepare_masked, send_whole},
     {"block-read", 1, "0x01, read of 64 (7 bytes)", prepare_block_read, send_whole},
     {"block-write", 1, "0x02, write of 59 (66 bytes)", prepare_block_write, send_whole},

@@ -56,10 +56,10 @@ void gate_tick(struct gate *g)
     g->ticks++;
 }
 
-size_t gate_byte(struct gate *g, uint8_t byte)
+log_gate_block_taken gate_block(struct gate *g, const uint8_t *block, size_t length)
 {
-    log_gate_taken taken =
-        log_gate_byte(g->state, sizeof g->state, byte, g->memory, sizeof g->memory, g->answer, sizeof g->answer);
-    expect_taken(taken.refusal);
-    return taken.length;
+    log_gate_block_taken done =
+        log_gate_block(g->state, sizeof g->state, block, length, g->memory, sizeof g->memory, g->answers, sizeof g->answers);
+    expect_taken(done.refusal);
+    return done;
 }

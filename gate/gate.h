@@ -9,15 +9,18 @@
 /* The codes of 0x10 that the gate's program knows, and what it reports of any other. */
 enum { SELF_TEST_CODE = 1, UNKNOWN_CODE = 0xFD };
 
+/* Room for the answers to one block: four of the longest, or more short ones. */
+enum { GATE_ANSWERS = 4 * LOG_GATE_ANSWER_ROOM };
+
 struct gate {
     uint8_t state[LOG_GATE_STATE];
     uint8_t memory[LOG_GATE_MEMORY];
-    uint8_t answer[LOG_GATE_ANSWER_ROOM];
+    uint8_t answers[GATE_ANSWERS];
     struct scene scene;
     struct self_test self_test;
     uint64_t ticks; /* made */
     uint64_t lost;  /* ticks that came too late to be made */
-    uint64_t bytes, answers;
+    uint64_t came, went; /* bytes at the service port, and bytes of answers */
 };
 
 void gate_begin(struct gate *gate, uint64_t seed);
@@ -25,7 +28,7 @@ void gate_begin(struct gate *gate, uint64_t seed);
 /* A millisecond has passed. */
 void gate_tick(struct gate *gate);
 
-/* A byte came. Returns how many bytes of gate->answer are to be sent. */
-size_t gate_byte(struct gate *gate, uint8_t byte);
+/* Bytes came. Tells how many were taken, and how many bytes of gate->answers are to be sent before the rest is given again. */
+log_gate_block_taken gate_block(struct gate *gate, const uint8_t *block, size_t length);
 
 #endif

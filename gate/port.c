@@ -75,11 +75,15 @@ int port_wait(struct port *p, int milliseconds)
     return ready.revents == 0;
 }
 
-int port_next(struct port *p)
+const uint8_t *port_block(const struct port *p, size_t *length)
 {
-    if (p->out_at < p->out_end || p->in_at == p->in_end)
-        return -1;
-    return p->in[p->in_at++];
+    *length = p->out_at < p->out_end ? 0 : p->in_end - p->in_at;
+    return p->in + p->in_at;
+}
+
+void port_take(struct port *p, size_t length)
+{
+    p->in_at += length;
 }
 
 void port_send(struct port *p, const uint8_t *bytes, size_t length)

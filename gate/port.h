@@ -10,20 +10,23 @@ struct port {
     int theirs; /* the technician's end, kept open so that one may leave and another come */
     uint8_t in[256];
     size_t in_at, in_end;
-    uint8_t out[256];
+    uint8_t out[1024];
     size_t out_at, out_end;
 };
 
 /* Opens the port and gives its path, or NULL; errno says why. */
 const char *port_open(struct port *port);
 
-/* Waits so many milliseconds for bytes to come, or for room where an answer is still to be sent. Returns 0 when the port is lost. */
+/* Waits so many milliseconds for bytes to come, or for room where answers are still to be sent. Returns 0 when the port is lost. */
 int port_wait(struct port *port, int milliseconds);
 
-/* The next byte that came, or -1. While an answer is not fully sent, no further byte is taken. */
-int port_next(struct port *port);
+/* What came and is not taken yet, `length` bytes; none while answers are not fully sent, so that their buffer is free. */
+const uint8_t *port_block(const struct port *port, size_t *length);
 
-/* An answer to be sent; `port_wait` sends what does not go at once. */
+/* So many of the first of these bytes are taken. */
+void port_take(struct port *port, size_t length);
+
+/* Answers to be sent, as many bytes as port->out has at most; `port_wait` sends what does not go at once. */
 void port_send(struct port *port, const uint8_t *bytes, size_t length);
 
 void port_close(struct port *port);

@@ -46,13 +46,11 @@ static void print_example(struct gate *g, const char *path)
 {
     const uint8_t address[] = {COIL_1, 0};
     uint8_t wire[LOG_GATE_COMMAND_ROOM];
-    size_t sent = form(LOG_GATE_READ_2, address, sizeof address, wire), length = 0;
-    for (size_t i = 0; i < sent; i++)
-        length = gate_byte(g, wire[i]);
+    size_t sent = form(LOG_GATE_READ_2, address, sizeof address, wire), length = gate_block(g, wire, sent).written;
     printf("For example, two bytes at address %d, which are coil 1:\n", COIL_1);
     print_bytes("  send    ", wire, sent);
-    print_bytes("  answer  ", g->answer, length);
-    printf("  so coil 1 reads %u\n", (unsigned)number_at(g->answer + 2, 2));
+    print_bytes("  answer  ", g->answers, length);
+    printf("  so coil 1 reads %u\n", (unsigned)number_at(g->answers + 2, 2));
     printf("From a shell, the same:\n");
     print_shell_line(wire, sent, length, path);
 }
@@ -88,9 +86,9 @@ void print_welcome(struct gate *g, const char *path)
 
 void print_farewell(const struct gate *g)
 {
-    printf("\nThe gate is closed: %llu ticks, %u logs, %u alarms; %llu bytes came, %llu answers went.\n",
+    printf("\nThe gate is closed: %llu ticks, %u logs, %u alarms; %llu bytes came, %llu bytes of answers went.\n",
            (unsigned long long)g->ticks, (unsigned)number_at(g->memory + LOGS, 4),
-           (unsigned)number_at(g->memory + ALARMS, 4), (unsigned long long)g->bytes, (unsigned long long)g->answers);
+           (unsigned)number_at(g->memory + ALARMS, 4), (unsigned long long)g->came, (unsigned long long)g->went);
     if (g->lost > 0)
         printf("The machine was late, and %llu ticks were lost.\n", (unsigned long long)g->lost);
 }

@@ -16,6 +16,8 @@
 #include <string.h>
 #include <time.h>
 
+_Static_assert(GATE_ANSWERS <= sizeof((struct port){0}).out, "the port can hold the answers to a block");
+
 /* How many ticks are made up for when the machine was late; beyond that they are lost, as in a gate that stood still. */
 enum { MOST_LATE = 1000 };
 
@@ -45,15 +47,16 @@ static void tick_until(struct gate *g, uint64_t now, uint64_t most_ticks)
         gate_tick(g);
 }
 
+/* What came is given whole; what was not taken for want of room is given again once the answers are sent. */
 static void serve(struct gate *g, struct port *port)
 {
-    for (int byte = port_next(port); byte >= 0; byte = port_next(port)) {
-        size_t length = gate_byte(g, (uint8_t)byte);
-        g->bytes++;
-        if (length == 0)
-            continue;
-        g->answers++;
-        port_send(port, g->answer, length);
+    size_t length;
+    for (const uint8_t *block = port_block(port, &length); length > 0; block = port_block(port, &length)) {
+        log_gate_block_taken done = gate_block(g, block, length);
+        port_take(port, done.taken);
+        port_send(port, g->answers, done.written);
+        g->came += done.taken;
+        g->went += done.written;
     }
 }
 

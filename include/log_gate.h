@@ -29,7 +29,7 @@ extern "C" {
  * number, a state's layout), the minor one additions. It counts apart from the protocol's version, 3, and from what 0xC0 answers.
  */
 #define LOG_GATE_VERSION_MAJOR 3
-#define LOG_GATE_VERSION_MINOR 0
+#define LOG_GATE_VERSION_MINOR 1
 #define LOG_GATE_VERSION (LOG_GATE_VERSION_MAJOR * 256 + LOG_GATE_VERSION_MINOR)
 
 /* Bytes of a target's state and of an answer reader's state; docs/STATE.md has their layout. More may be lent. */
@@ -159,6 +159,26 @@ log_gate_result log_gate_check(const uint8_t *state, size_t state_length);
 log_gate_taken log_gate_byte(uint8_t *state, size_t state_length, uint8_t byte, uint8_t *memory, size_t memory_length,
                              uint8_t *answer, size_t answer_length);
 
+/*
+ * What became of a block: a refusal or LOG_GATE_TAKEN, how many of its first bytes were taken, and how many bytes of the lent
+ * buffer are their answers, to be sent. Both are 0 where it is refused.
+ */
+typedef struct {
+    log_gate_result refusal;
+    size_t taken;
+    size_t written;
+} log_gate_block_taken;
+
+/*
+ * A block of bytes came over the port. State, memory and answers are those of giving its bytes singly. The answers stand one behind
+ * another from the buffer's beginning; the bytes behind them keep their values, and the block is only read. A byte is taken while
+ * LOG_GATE_ANSWER_ROOM bytes of the buffer are left, answered or not, and no longer: the caller sends the answers and gives the
+ * rest again. Refuses as the single byte does: LOG_GATE_STATE_REFUSED, LOG_GATE_MEMORY_REFUSED, and LOG_GATE_ROOM_REFUSED for a
+ * buffer that has less than LOG_GATE_ANSWER_ROOM at the start, with an empty block too.
+ */
+log_gate_block_taken log_gate_block(uint8_t *state, size_t state_length, const uint8_t *block, size_t block_length,
+                                    uint8_t *memory, size_t memory_length, uint8_t *answers, size_t answers_length);
+
 /* A tick, each millisecond. */
 log_gate_result log_gate_tick(uint8_t *state, size_t state_length, uint8_t *memory, size_t memory_length);
 
@@ -206,6 +226,9 @@ log_gate_read log_gate_reader_byte(uint8_t *reader, size_t reader_length, uint8_
 LOG_GATE_ASSERT(CHAR_BIT == 8, "a byte has 8 bits");
 LOG_GATE_ASSERT(sizeof(log_gate_taken) == 2 * sizeof(size_t), "log_gate_taken is two words");
 LOG_GATE_ASSERT(offsetof(log_gate_taken, length) == sizeof(size_t), "its length is the second");
+LOG_GATE_ASSERT(sizeof(log_gate_block_taken) == 3 * sizeof(size_t), "log_gate_block_taken is three words");
+LOG_GATE_ASSERT(offsetof(log_gate_block_taken, taken) == sizeof(size_t), "what was taken is the second");
+LOG_GATE_ASSERT(offsetof(log_gate_block_taken, written) == 2 * sizeof(size_t), "what was written is the third");
 LOG_GATE_ASSERT(sizeof(log_gate_read) == 4, "log_gate_read is four bytes");
 #ifdef __x86_64__
 LOG_GATE_ASSERT(sizeof(size_t) == 8 && sizeof(void *) == 8, "lengths and pointers have 64 bits in the library");

@@ -29,17 +29,21 @@ static void expect(int holds, const char *what)
 /* ---- counts, and a digest of all that the calls gave, by which two archives can be compared */
 
 enum call {
-    RESET, REGISTER, CHECK, BYTE, TICK, COLLECT, REPORT, WRITE_ANSWER, WRITE_COMMAND, READER_BEGIN, READER_BYTE, CALLS
+    RESET, REGISTER, CHECK, BYTE, BLOCK, TICK, COLLECT, REPORT, WRITE_ANSWER, WRITE_COMMAND, READER_BEGIN, READER_BYTE, CALLS
 };
 
 enum { MOST_REFUSAL = LOG_GATE_LIST_REFUSED };
 
-static const char *const names[CALLS] = {"reset",  "register",     "check",         "byte",         "tick",       "collect",
-                                         "report", "write_answer", "write_command", "reader_begin", "reader_byte"};
+static const char *const names[CALLS] = {"reset",   "register", "check",        "byte",          "block",        "tick",
+                                         "collect", "report",   "write_answer", "write_command", "reader_begin", "reader_byte"};
 
 /* The refusals each call can give, 0 for none. Each of them has to come, and no other. */
-static const char *const reachable[CALLS] = {"01", "0128", "01", "0123", "012", "013", "017", "034", "034", "015", "0136"};
+static const char *const reachable[CALLS] = {"01", "0128", "01", "0123", "0123", "012", "013", "017", "034", "034", "015", "0136"};
 static uint64_t counts[CALLS][MOST_REFUSAL + 1], answers[256], handed_out, registered, told;
+
+/* How blocks that were taken ended. */
+enum { NO_BYTES, ALL_TAKEN, STOPPED, ENDS };
+static uint64_t ends[ENDS];
 static uint64_t digest = 14695981039346656037ull;
 
 static void digest_bytes(const uint8_t *bytes, size_t length)
@@ -58,7 +62,7 @@ static void count(enum call call, uint8_t refusal)
 /* ---- what is thrown: a live gate and a live reader that take random traffic, and states made from them or from nothing */
 
 static uint8_t live[LOG_GATE_STATE], live_reader[LOG_GATE_READER];
-static struct lent state, mem, out;
+static struct lent state, mem, out, block;
 
 /* Mostly the length that is right, sometimes another. */
 static size_t some_length(size_t right, size_t more)
@@ -355,6 +359,87 @@ static void throw_byte(void)
         look_at_unfinished();
     else
         look_at_answer(taken.length);
+    keep_live(is_live);
+}
+
+/* ---- blocks, beside the same bytes given singly to copies */
+
+enum { MOST_BLOCK = 160, MOST_BLOCK_ROOM = 900 };
+
+static struct singly {
+    uint8_t state[LOG_GATE_STATE], memory[LOG_GATE_MEMORY], answers[MOST_BLOCK_ROOM];
+    size_t taken, written;
+} singly;
+
+/* Often just enough room for some short answers, or for a long one, and then a byte more or less; now and then too little. */
+static size_t some_block_room(void)
+{
+    if (one_in(8))
+        return below(LOG_GATE_ANSWER_ROOM);
+    return LOG_GATE_ANSWER_ROOM + (one_in(2) ? below(24) : below(MOST_BLOCK_ROOM - LOG_GATE_ANSWER_ROOM));
+}
+
+static size_t some_block_length(void)
+{
+    return one_in(8) ? 0 : one_in(4) ? 1 + below(4) : 1 + below(MOST_BLOCK);
+}
+
+/* The wire's next bytes as long as they are taken, so that none of them is lost; behind them anything. */
+static void give_singly(uint8_t *bytes, size_t length, int is_live)
+{
+    memcpy(singly.state, lent_bytes(&state), sizeof singly.state);
+    memcpy(singly.memory, lent_bytes(&mem), sizeof singly.memory);
+    singly.taken = singly.written = 0;
+    random_fill(bytes, length);
+    while (singly.taken < length && out.length - singly.written >= LOG_GATE_ANSWER_ROOM) {
+        uint8_t byte = is_live ? next_wire_byte() : one_in(4) ? 0x2B : random_byte();
+        log_gate_taken taken = log_gate_byte(singly.state, sizeof singly.state, byte, singly.memory, sizeof singly.memory,
+                                             singly.answers + singly.written, LOG_GATE_ANSWER_ROOM);
+        expect(taken.refusal == LOG_GATE_TAKEN, "a byte that a block would take is refused");
+        if (taken.length > 0)
+            answers[singly.answers[singly.written + 1]]++;
+        bytes[singly.taken++] = byte;
+        singly.written += taken.length;
+    }
+}
+
+static void look_at_block(log_gate_block_taken came)
+{
+    expect(came.taken == singly.taken && came.written == singly.written, "block: other counts than singly");
+    expect(memcmp(lent_bytes(&state), singly.state, sizeof singly.state) == 0, "block: another state than singly");
+    expect(same(lent_bytes(&mem), singly.memory, sizeof singly.memory), "block: another memory than singly");
+    expect(memcmp(lent_bytes(&out), singly.answers, came.written) == 0, "block: other answers than singly");
+    expect(kept_but(&state, 0, LOG_GATE_STATE) && kept_but(&mem, 0, VARIABLES_END), "block: a byte that is not its own");
+    expect(kept_but(&out, 0, came.written), "block: bytes behind the answers");
+    ends[block.length == 0 ? NO_BYTES : came.taken == block.length ? ALL_TAKEN : STOPPED]++;
+    digest_bytes(lent_bytes(&out), came.written);
+    keep_memory(0, came.written > 0 ? VARIABLES_END : 0);
+}
+
+static void throw_block(void)
+{
+    uint8_t bytes[MOST_BLOCK];
+    int is_live = lend_state(&state, live, sizeof live);
+    lend_memory();
+    lend_room(some_block_room());
+    size_t length = some_block_length();
+    uint8_t due = byte_refusal();
+    if (due == LOG_GATE_TAKEN)
+        give_singly(bytes, length, is_live);
+    else
+        random_fill(bytes, length);
+    lend(&block, bytes, length, length);
+    log_gate_block_taken came = log_gate_block(lent_bytes(&state), state.length, lent_bytes(&block), length, lent_bytes(&mem),
+                                               mem.length, lent_bytes(&out), out.length);
+    count(BLOCK, came.refusal);
+    expect(came.refusal == due, "block: another refusal");
+    expect(kept(&block), "block: changes the block");
+    if (due != LOG_GATE_TAKEN) {
+        expect(came.taken == 0 && came.written == 0, "block: refused and counted");
+        expect(kept(&state) && kept(&mem) && kept(&out), "block: refused and not untouched");
+        return;
+    }
+    look_at_block(came);
     keep_live(is_live);
 }
 
@@ -702,7 +787,7 @@ static void throw_reader_byte(void)
 
 static void throw_one(void)
 {
-    uint32_t which = below(35);
+    uint32_t which = below(36);
     if (which < 18)
         throw_byte();
     else if (which < 24)
@@ -721,6 +806,8 @@ static void throw_one(void)
         throw_report();
     else if (which == 32)
         throw_register();
+    else if (which == 33)
+        throw_block();
     else if (one_in(2))
         throw_reset();
     else
@@ -742,6 +829,8 @@ static void report_counts(void)
             printf(", %02X %llu", (unsigned)status, (unsigned long long)answers[status]);
     printf("; commands handed out %llu, lists with tables registered %llu, tables told %llu\n", (unsigned long long)handed_out,
            (unsigned long long)registered, (unsigned long long)told);
+    printf("blocks without bytes %llu, taken whole %llu, stopped %llu\n", (unsigned long long)ends[NO_BYTES],
+           (unsigned long long)ends[ALL_TAKEN], (unsigned long long)ends[STOPPED]);
 }
 
 /* After few rounds something may not have come yet; the rounds of a run without words are enough for any seed. */
@@ -750,6 +839,7 @@ static void look_at_counts(void)
     char what[80];
     expect(handed_out > 0, "no command was ever handed out");
     expect(registered > 0 && told > 0, "no table was ever registered and told");
+    expect(ends[NO_BYTES] > 0 && ends[ALL_TAKEN] > 0 && ends[STOPPED] > 0, "blocks never ended in one of the three ways");
     for (int call = 0; call < CALLS; call++)
         for (int refusal = 0; refusal <= MOST_REFUSAL; refusal++) {
             int can_come = strchr(reachable[call], '0' + refusal) != NULL, came = counts[call][refusal] > 0;

@@ -24,11 +24,10 @@ static void expect(int holds, const char *what)
 static uint8_t status_of(uint8_t command, const uint8_t *data, size_t length)
 {
     uint8_t wire[LOG_GATE_COMMAND_ROOM];
-    size_t sent = log_gate_write_command(command, data, length, wire, sizeof wire).length, answered = 0;
-    for (size_t i = 0; i < sent; i++)
-        answered = gate_byte(&gate, wire[i]);
-    expect(answered > 2, "every command is answered");
-    return gate.answer[1];
+    size_t sent = log_gate_write_command(command, data, length, wire, sizeof wire).length;
+    log_gate_block_taken done = gate_block(&gate, wire, sent);
+    expect(done.taken == sent && done.written > 2, "every command is answered");
+    return gate.answers[1];
 }
 
 /* Where a coil reads metal, its belt stopped. */

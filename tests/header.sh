@@ -10,7 +10,7 @@ for dialect in c99 c11 c17 c++98 c++11 c++17; do
         { cat $built/complained; fail "the header as $dialect"; }
 done
 
-sed -n 's/^log_gate_[a-z]* \(log_gate_[a-z_]*\)(.*/\1/p' include/log_gate.h | sort >$built/declared
+sed -n 's/^log_gate_[a-z_]* \(log_gate_[a-z_]*\)(.*/\1/p' include/log_gate.h | sort >$built/declared
 $NM_X86 --defined-only -g "$archive" | awk 'NF == 3 { print $3 }' | sort >$built/defined
 cmp $built/declared $built/defined || fail "the archive's calls are not the header's"
 [ "$($NM_X86 -u "$archive" | awk '$1 == "U" { print $2 }' | sort -u | xargs)" = "memset" ] || fail "the archive needs other than memset"

@@ -8,7 +8,7 @@
 #include <stdlib.h>
 #include <string.h>
 
-enum { LINE = 16384, MOST_ROOM = 600, MOST_UNLIMITED = 65535, MOST_TABLES = 40, FILLING = 0xEE };
+enum { LINE = 16384, MOST_ROOM = 600, MOST_BLOCK_ROOM = 2000, MOST_UNLIMITED = 65535, MOST_TABLES = 40, FILLING = 0xEE };
 
 static uint8_t state[LOG_GATE_STATE], memory[LOG_GATE_MEMORY], answer[LOG_GATE_ANSWER_ROOM];
 static uint8_t reader[LOG_GATE_READER], lent[MOST_UNLIMITED], bytes[LINE];
@@ -79,6 +79,17 @@ static void give(char *text)
             print_bytes(answer, taken.length);
         }
     }
+}
+
+/* Bytes that are not taken are not given again, and count as given. */
+static void give_block(char *text)
+{
+    size_t room = next_room(&text, MOST_BLOCK_ROOM), count = next_bytes(text);
+    fill_lent(room);
+    log_gate_block_taken came = log_gate_block(state, sizeof state, bytes, count, memory, sizeof memory, lent, room);
+    given += count;
+    printf("K %u %zu %zu", came.refusal, came.taken, came.written);
+    print_bytes(lent, room);
 }
 
 static void tick(char *text)
@@ -186,7 +197,7 @@ static void read_bytes(char *text)
 static void play(char *text)
 {
     char letter = *text;
-    memory_used |= strchr("BTPMCYG", letter) != NULL;
+    memory_used |= strchr("BTPMCYGK", letter) != NULL;
     switch (letter) {
     case 'B': give(text + 1); break;
     case 'T': tick(text + 1); break;
@@ -198,6 +209,7 @@ static void play(char *text)
     case 'C': collect(text + 1); break;
     case 'Y': report(text + 1); break;
     case 'G': register_tables(text + 1); break;
+    case 'K': give_block(text + 1); break;
     default: fail("no operation");
     }
 }

@@ -1,7 +1,7 @@
 /*
  * A technician at the virtual gate's service port: port_test PATH. Commands are written and answers read with the header's other
- * end of the line. It looks that the coils are live, that a recorder triggers on one, that a written threshold counts, and that the
- * self-test finds a coil whose wire is cut.
+ * end of the line. It looks that commands sent in one go are all answered, that the coils are live, that a recorder triggers on
+ * one, that a written threshold counts, and that the self-test finds a coil whose wire is cut.
  */
 #define _XOPEN_SOURCE 700
 #include "../gate/gate.h"
@@ -10,6 +10,7 @@
 
 #include <stdio.h>
 #include <stdlib.h>
+#include <string.h>
 #include <time.h>
 #include <unistd.h>
 
@@ -70,6 +71,48 @@ static void write_word(unsigned address, unsigned value)
 {
     const uint8_t body[] = {(uint8_t)address, (uint8_t)(address >> 8), (uint8_t)value, (uint8_t)(value >> 8)};
     expect(ask(LOG_GATE_WRITE_2, body, sizeof body, 0) == LOG_GATE_DONE, "two bytes can be written");
+}
+
+/* ---- more commands in one go than the gate has room to answer at once: it takes the rest when the answers are sent */
+
+enum { IN_ONE_GO = 12, CALIBRATION = 8192, PART = 64 };
+
+static size_t form_reads(uint8_t *out, size_t room)
+{
+    size_t length = 0;
+    for (unsigned i = 0; i < IN_ONE_GO; i++) {
+        unsigned address = CALIBRATION + i;
+        const uint8_t body[] = {PART, (uint8_t)address, (uint8_t)(address >> 8)};
+        length += log_gate_write_command(LOG_GATE_READ_BYTES, body, sizeof body, out + length, room - length).length;
+    }
+    return length;
+}
+
+static void read_part(uint8_t part[PART])
+{
+    uint8_t reader[LOG_GATE_READER];
+    log_gate_read came = {0, 0, 0, 0};
+    log_gate_reader_begin(reader, sizeof reader, PART);
+    while (!came.whole) {
+        int byte = line_byte(&line);
+        expect(byte >= 0, "every one of the commands in one go is answered");
+        came = log_gate_reader_byte(reader, sizeof reader, (uint8_t)byte, part, PART);
+        expect(came.refusal == LOG_GATE_TAKEN, "the answers come one behind another");
+    }
+    expect(came.status == LOG_GATE_DONE && came.length == PART, "64 bytes can be read");
+}
+
+/* Parts of the calibration area, where nobody writes, each a byte further on: two answers in a row tell whether one was lost. */
+static void test_in_one_go(void)
+{
+    uint8_t wire[256], parts[2][PART];
+    size_t length = form_reads(wire, sizeof wire);
+    expect(write(line.port, wire, length) == (ssize_t)length, "commands can be sent in one go");
+    read_part(parts[0]);
+    for (unsigned i = 1; i < IN_ONE_GO; i++) {
+        read_part(parts[i % 2]);
+        expect(memcmp(parts[(i - 1) % 2] + 1, parts[i % 2], PART - 1) == 0, "the answers come in the order of the commands");
+    }
 }
 
 /* ---- the scene */
@@ -166,6 +209,7 @@ int main(int argc, char **argv)
     expect(argc == 2, "one word is given, the port's path");
     expect(line_open(&line, argv[1]), "the port can be opened, and is raw");
     test_staple();
+    test_in_one_go();
     test_live();
     test_recorder();
     test_alarm();

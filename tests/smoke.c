@@ -663,9 +663,138 @@ static void test_longest(void)
     EXPECT(status_of(LOG_GATE_WRITE_BYTES, data) == LOG_GATE_MESSAGE_TOO_LONG && gate.memory[77] == 0);
 }
 
-/* ---- refusals of the calls: each number with all higher ones also due, and nothing lent is touched */
+/* ---- a gate as it was before */
 
 static struct gate before;
+
+/* ---- a whole receive block at once */
+
+enum { BLOCK_ROOM = 600, UNWRITTEN = 0xA5 };
+
+static uint8_t block_answers[BLOCK_ROOM];
+
+static log_gate_block_taken give_block(const char *wire, size_t room)
+{
+    uint8_t bytes[300];
+    size_t n = bytes_of(wire, bytes);
+    memset(block_answers, UNWRITTEN, sizeof block_answers);
+    return log_gate_block(gate.state, sizeof gate.state, bytes, n, gate.memory, sizeof gate.memory, block_answers, room);
+}
+
+/* The bytes behind the answers keep their values. */
+static bool unwritten_from(size_t from)
+{
+    while (from < sizeof block_answers && block_answers[from] == UNWRITTEN)
+        from++;
+    return from == sizeof block_answers;
+}
+
+static void expect_block(const char *wire, size_t room, size_t taken, const char *answers)
+{
+    uint8_t due[300];
+    size_t written = bytes_of(answers, due);
+    log_gate_block_taken came = give_block(wire, room);
+    bool as_due = came.refusal == LOG_GATE_TAKEN && came.taken == taken && came.written == written;
+    checks++;
+    if (as_due && memcmp(block_answers, due, written) == 0 && unwritten_from(written))
+        return;
+    failures++;
+    printf("smoke.c: a block %s with a room of %zu: refusal %u, %zu taken, %zu written, or other bytes\n", wire, room,
+           came.refusal, came.taken, came.written);
+}
+
+/* Of 0xC3 nothing stands but its status: an answer of three bytes each. 0xC8 has nine. */
+static void test_block_rooms(void)
+{
+    static const struct {
+        const char *wire;
+        size_t room, taken;
+        const char *answers;
+    } rooms[] = {
+        {"", 132, 0, ""},
+        {"2B C3", 132, 2, ""},
+        {"2B C3 3D", 132, 3, "2B 88 78"},
+        {"2B C3 3D 2B C3 3D", 132, 3, "2B 88 78"},
+        {"2B C3 3D 00", 134, 3, "2B 88 78"},
+        {"2B C3 3D 2B C3 3D", 134, 3, "2B 88 78"},
+        {"2B C3 3D 00", 135, 4, "2B 88 78"},
+        {"2B C3 3D 2B C3 3D", 135, 6, "2B 88 78 2B 88 78"},
+        {"2B C3 3D 2B C3 3D 2B C3 3D", 135, 6, "2B 88 78 2B 88 78"},
+        {"2B C3 3D 2B C8 38 2B C3 3D", 138, 6, "2B 88 78 2B 00 03 00 01 01 00 40 BB"},
+        {"2B C3 3D 2B C8 38 2B C3 3D", 143, 6, "2B 88 78 2B 00 03 00 01 01 00 40 BB"},
+        {"2B C3 3D 2B C8 38 2B C3 3D", 144, 9, "2B 88 78 2B 00 03 00 01 01 00 40 BB 2B 88 78"},
+        {"07 2B C3 3E 2B 2B 2B C7 39 2B C3", 600, 11, "2B 82 7E 2B 81 7F"},
+    };
+    for (size_t i = 0; i < sizeof rooms / sizeof rooms[0]; i++) {
+        reset();
+        expect_block(rooms[i].wire, rooms[i].room, rooms[i].taken, rooms[i].answers);
+    }
+}
+
+/* The longest answer is 131 bytes: 64 of 2B doubled, and then the sum byte is 40. */
+static void test_block_longest(void)
+{
+    static const struct {
+        size_t room, taken, written;
+    } rooms[] = {{132, 7, 131}, {261, 7, 131}, {262, 7, 131}, {263, 14, 262}, {264, 14, 262}, {394, 15, 262}};
+    for (size_t i = 0; i < sizeof rooms / sizeof rooms[0]; i++) {
+        reset();
+        memset(gate.memory + 16, 0x2B, 64);
+        log_gate_block_taken came = give_block("2B 01 03 40 10 00 AC 2B 01 03 40 10 00 AC 00", rooms[i].room);
+        EXPECT(came.refusal == LOG_GATE_TAKEN && came.taken == rooms[i].taken && came.written == rooms[i].written);
+        EXPECT(block_answers[130] == 0x40 && unwritten_from(came.written));
+        EXPECT(came.written == 131 || memcmp(block_answers, block_answers + 131, 131) == 0);
+    }
+}
+
+/* Data above 64 are run over and not kept: what stands behind the body stays. */
+static void test_block_too_long(void)
+{
+    uint8_t data[255], wire[LOG_GATE_COMMAND_ROOM];
+    reset();
+    before = gate;
+    memset(data, 0x11, sizeof data);
+    size_t length = log_gate_write_command(LOG_GATE_WRITE_BYTES, data, sizeof data, wire, sizeof wire).length;
+    log_gate_block_taken came = log_gate_block(gate.state, sizeof gate.state, wire, length, gate.memory, sizeof gate.memory,
+                                               block_answers, sizeof block_answers);
+    EXPECT(came.taken == length && came.written == 3 && block_answers[1] == LOG_GATE_MESSAGE_TOO_LONG);
+    EXPECT(memcmp(gate.state + 6, data, 64) == 0 && memcmp(gate.state + 70, before.state + 70, LOG_GATE_STATE - 70) == 0);
+}
+
+/* Blocks that begin and end inside messages, single bytes and ticks between; what one command writes, the next in the block reads. */
+static void test_block_pieces(void)
+{
+    reset();
+    expect_block("2B E3 10 00 2B 2B 00 E2 2B D0 10", 600, 11, "2B 00 00");
+    EXPECT(gate.memory[16] == 0x2B);
+    tick();
+    expect_block("", 600, 0, "");
+    expect_block("00 20 2B C3 3D 2B", 600, 6, "2B 00 2B 2B D5 2B 88 78");
+    expect_answer("C3", "");
+    expect_block("3D 2B C3", 132, 1, "2B 88 78");
+    expect_answer("3D 2B C3 3D", "2B 88 78");
+}
+
+/* A setup, the answer of the running recorder and its stop in one block; the rest of a block is given again. */
+static void test_block_again(void)
+{
+    const char *wire = "2B 09 13 00 04 00 00 00 00 00 10 00 02 00 00 70 00 00 01 02 10 00 4B 2B C3 3D 2B C2 3E 2B C4 3C";
+    reset();
+    expect_block(wire, 132, 23, "2B 00 00");
+    tick();
+    expect_block("2B C3 3D 2B C2 3E 2B C4 3C", 600, 9, "2B 01 FF 2B 00 00 2B 00 00 30 00 00 D0");
+}
+
+static void test_blocks(void)
+{
+    test_block_rooms();
+    test_block_longest();
+    test_block_too_long();
+    test_block_pieces();
+    test_block_again();
+}
+
+/* ---- refusals of the calls: each number with all higher ones also due, and nothing lent is touched */
 
 static bool untouched(void)
 {
@@ -694,6 +823,35 @@ static void test_target_refusals(void)
     EXPECT(log_gate_tick(gate.state, sound, gate.memory, whole - 1) == LOG_GATE_MEMORY_REFUSED);
     EXPECT(untouched());
     EXPECT(byte_refused(sound, whole, room) == LOG_GATE_TAKEN && !untouched());
+}
+
+/* What is refused leaves the block too. */
+static log_gate_result block_refused(size_t state, size_t memory, size_t length, size_t room)
+{
+    uint8_t block[] = {0x2B, 0xC8, 0x38};
+    memset(block_answers, UNWRITTEN, sizeof block_answers);
+    log_gate_block_taken came = log_gate_block(gate.state, state, block, length, gate.memory, memory, block_answers, room);
+    EXPECT(came.refusal == LOG_GATE_TAKEN || (came.taken == 0 && came.written == 0 && unwritten_from(0)));
+    EXPECT(memcmp(block, "\x2B\xC8\x38", sizeof block) == 0);
+    return came.refusal;
+}
+
+/* Of an empty block too. */
+static void test_block_refusals(void)
+{
+    size_t sound = LOG_GATE_STATE, whole = LOG_GATE_MEMORY, room = LOG_GATE_ANSWER_ROOM;
+    for (size_t length = 0; length <= 3; length += 3) {
+        reset();
+        before = gate;
+        EXPECT(block_refused(sound - 1, whole - 1, length, room - 1) == LOG_GATE_STATE_REFUSED);
+        EXPECT(block_refused(sound, whole - 1, length, room - 1) == LOG_GATE_MEMORY_REFUSED);
+        EXPECT(block_refused(sound, whole + 1, length, room) == LOG_GATE_MEMORY_REFUSED);
+        EXPECT(block_refused(sound, 0, length, room) == LOG_GATE_MEMORY_REFUSED);
+        EXPECT(block_refused(sound, whole, length, room - 1) == LOG_GATE_ROOM_REFUSED);
+        EXPECT(block_refused(sound, whole, length, 0) == LOG_GATE_ROOM_REFUSED);
+        EXPECT(untouched());
+        EXPECT(block_refused(sound, whole, length, room) == LOG_GATE_TAKEN && untouched() == (length == 0));
+    }
 }
 
 static log_gate_result collect_refused(size_t state, size_t room)
@@ -853,6 +1011,7 @@ static void test_short_blocks(void)
         EXPECT(log_gate_reset(gate.state, n) == LOG_GATE_STATE_REFUSED);
         EXPECT(log_gate_check(gate.state, n) == LOG_GATE_STATE_REFUSED);
         EXPECT(byte_refused(n, LOG_GATE_MEMORY, LOG_GATE_ANSWER_ROOM) == LOG_GATE_STATE_REFUSED);
+        EXPECT(block_refused(n, LOG_GATE_MEMORY, 3, LOG_GATE_ANSWER_ROOM) == LOG_GATE_STATE_REFUSED);
         EXPECT(log_gate_tick(gate.state, n, gate.memory, LOG_GATE_MEMORY) == LOG_GATE_STATE_REFUSED);
         EXPECT(collect_refused(n, LOG_GATE_DATA_ROOM) == LOG_GATE_STATE_REFUSED);
         EXPECT(log_gate_report(gate.state, n, 0) == LOG_GATE_STATE_REFUSED);
@@ -866,6 +1025,8 @@ static void expect_all_refuse(void)
     before = gate;
     EXPECT(log_gate_check(gate.state, sizeof gate.state) == LOG_GATE_STATE_REFUSED);
     EXPECT(byte_refused(LOG_GATE_STATE, LOG_GATE_MEMORY, LOG_GATE_ANSWER_ROOM) == LOG_GATE_STATE_REFUSED);
+    EXPECT(block_refused(LOG_GATE_STATE, LOG_GATE_MEMORY, 3, LOG_GATE_ANSWER_ROOM) == LOG_GATE_STATE_REFUSED);
+    EXPECT(block_refused(LOG_GATE_STATE, LOG_GATE_MEMORY, 0, LOG_GATE_ANSWER_ROOM) == LOG_GATE_STATE_REFUSED);
     EXPECT(log_gate_tick(gate.state, LOG_GATE_STATE, gate.memory, LOG_GATE_MEMORY) == LOG_GATE_STATE_REFUSED);
     EXPECT(collect_refused(LOG_GATE_STATE, LOG_GATE_DATA_ROOM - 1) == LOG_GATE_STATE_REFUSED);
     EXPECT(report(0xFF) == LOG_GATE_STATE_REFUSED);
@@ -941,6 +1102,10 @@ static void test_odd_blocks(void)
             EXPECT(taken.refusal == LOG_GATE_TAKEN && taken.length == (i + 1 < sizeof wire ? 0u : 4u));
         }
         EXPECT(memcmp(answer + odd, expected, sizeof expected) == 0 && answer[odd - 1] == 0xA5);
+        memset(answer, 0xA5, sizeof answer);
+        EXPECT(log_gate_block(state + odd, LOG_GATE_STATE + 92, wire, sizeof wire, memory + odd, LOG_GATE_MEMORY, answer + odd, 200)
+                   .written == 4);
+        EXPECT(memcmp(answer + odd, expected, sizeof expected) == 0 && answer[odd - 1] == 0xA5);
         EXPECT(log_gate_check(state + odd, LOG_GATE_STATE) == LOG_GATE_TAKEN);
         for (size_t i = 0; i < 92; i++)
             EXPECT(state[odd + LOG_GATE_STATE + i] == 0xA5);
@@ -970,7 +1135,9 @@ int main(void)
     test_wrong_messages();
     test_served();
     test_order();
+    test_blocks();
     test_target_refusals();
+    test_block_refusals();
     test_application_refusals();
     test_register_refusals();
     test_answer_writer();

@@ -100,4 +100,39 @@ static bool take_byte(struct receiver *r, uint8_t *body, uint8_t byte)
     return take_literal(r, body, byte);
 }
 
+static size_t run_outside(const uint8_t *bytes, size_t length)
+{
+    size_t n = 0;
+    while (n < length && bytes[n] != START)
+        n++;
+    return n;
+}
+
+/* All but the last of a message's data: that one moves the phase on. */
+static size_t run_of_data(struct receiver *r, uint8_t *body, const uint8_t *bytes, size_t length)
+{
+    size_t n = 0, have = r->have, most = (size_t)r->length - have - 1;
+    uint8_t sum = r->sum;
+    if (most > length)
+        most = length;
+    for (; n < most && bytes[n] != START; n++) {
+        if (have + n < MOST_DATA)
+            body[have + n] = bytes[n];
+        sum = (uint8_t)(sum + bytes[n]);
+    }
+    r->have = (uint8_t)(have + n);
+    r->sum = sum;
+    return n;
+}
+
+/* How many bytes were run over that only stand in a row: data, or noise outside a message. None of them ends anything. */
+static size_t take_run(struct receiver *r, uint8_t *body, const uint8_t *bytes, size_t length)
+{
+    if (r->waiting)
+        return 0;
+    if (r->phase == IDLE)
+        return run_outside(bytes, length);
+    return r->phase == DATA_NEXT ? run_of_data(r, body, bytes, length) : 0;
+}
+
 #endif

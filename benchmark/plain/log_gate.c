@@ -70,6 +70,31 @@ log_gate_taken log_gate_byte(uint8_t *state, size_t state_length, uint8_t byte, 
     return (log_gate_taken){LOG_GATE_TAKEN, answer_message(t, memory, answer)};
 }
 
+/* In a run no answer is written, so the room need not be looked at again. */
+static log_gate_block_taken take_block(struct target *t, const uint8_t *block, size_t block_length, uint8_t *memory,
+                                       uint8_t *answers, size_t answers_length)
+{
+    size_t taken = 0, written = 0;
+    while (taken < block_length && answers_length - written >= LOG_GATE_ANSWER_ROOM) {
+        taken += take_run(&t->receiver, t->body, block + taken, block_length - taken);
+        if (taken < block_length && take_byte(&t->receiver, t->body, block[taken++]))
+            written += answer_message(t, memory, answers + written);
+    }
+    return (log_gate_block_taken){LOG_GATE_TAKEN, taken, written};
+}
+
+log_gate_block_taken log_gate_block(uint8_t *state, size_t state_length, const uint8_t *block, size_t block_length,
+                                    uint8_t *memory, size_t memory_length, uint8_t *answers, size_t answers_length)
+{
+    if (!state_taken(state, state_length))
+        return (log_gate_block_taken){LOG_GATE_STATE_REFUSED, 0, 0};
+    if (memory_length != LOG_GATE_MEMORY)
+        return (log_gate_block_taken){LOG_GATE_MEMORY_REFUSED, 0, 0};
+    if (answers_length < LOG_GATE_ANSWER_ROOM)
+        return (log_gate_block_taken){LOG_GATE_ROOM_REFUSED, 0, 0};
+    return take_block((struct target *)state, block, block_length, memory, answers, answers_length);
+}
+
 log_gate_result log_gate_tick(uint8_t *state, size_t state_length, uint8_t *memory, size_t memory_length)
 {
     if (!state_taken(state, state_length))

@@ -12,7 +12,7 @@ const COLLECT_ROOM: usize = 64;
 /// "a result from 0 to 0xFD"
 const MOST_RESULT: u8 = 0xFD;
 
-#[derive(Default)]
+#[derive(Clone, Default)]
 pub struct Application {
     /// Every command accepted: "one code byte and up to 63 argument bytes".
     sent: Vec<Vec<u8>>,

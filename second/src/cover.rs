@@ -1,15 +1,19 @@
-//! Counts what scripts reached: which statuses answered which commands, and
-//! which refusals the calls gave; and holds it against what can be reached.
+//! Counts what scripts reached: which statuses answered which commands, which
+//! refusals the calls gave and how blocks ended; and holds it against what can
+//! be reached.
 
 use crate::message::fast_length;
-use crate::play::Watch;
-use crate::reachable::{CALLS, OTHER_FAST, OTHER_STANDARD, SERVED};
+use crate::play::{End, Watch};
+use crate::reachable::{BLOCKS, CALLS, OTHER_FAST, OTHER_STANDARD, SERVED};
 
-/// A command or a call, and how often each of its results occurred.
+/// The most answers to a block that are told apart.
+const MOST_ANSWERS: usize = 3;
+
+/// A command, a call or an end of blocks, and how often each of its results occurred.
 struct Row {
     name: String,
     reachable: &'static [u8],
-    /// At each result, a status or a refusal.
+    /// At each result: a status, a refusal or a number of answers.
     counts: Vec<u64>,
 }
 
@@ -60,6 +64,7 @@ pub struct Counts {
     /// The commands served in their order, then the others.
     commands: Vec<Row>,
     calls: Vec<Row>,
+    blocks: Vec<Row>,
 }
 
 impl Counts {
@@ -79,28 +84,34 @@ impl Counts {
         let calls = CALLS
             .iter()
             .map(|(letter, r)| Row::new(letter.to_string(), r));
+        let blocks = BLOCKS
+            .iter()
+            .map(|(end, answers)| Row::new(name_of(*end).to_string(), answers));
         Counts {
             commands: named.chain(others).collect(),
             calls: calls.collect(),
+            blocks: blocks.collect(),
         }
     }
 
-    /// The two tables.
+    /// The three tables.
     pub fn tell(&self) -> String {
-        table("command", &self.commands) + &table("call", &self.calls)
+        let blocks = table("block, answers", &self.blocks);
+        table("command", &self.commands) + &table("call", &self.calls) + &blocks
     }
 
     /// A line for each pair that was not reached or could not be.
     pub fn faults(&self) -> String {
         let commands = self.commands.iter().flat_map(|row| row.faults("status"));
         let calls = self.calls.iter().flat_map(|row| row.faults("refusal"));
-        commands.chain(calls).collect()
+        let blocks = self.blocks.iter().flat_map(|row| row.faults("answers"));
+        commands.chain(calls).chain(blocks).collect()
     }
 
-    /// How many pairs can be reached, of commands and of calls.
-    pub fn reachable(&self) -> (usize, usize) {
+    /// How many pairs can be reached, of commands, of calls and of blocks.
+    pub fn reachable(&self) -> [usize; 3] {
         let pairs = |rows: &[Row]| rows.iter().map(|row| row.reachable.len()).sum();
-        (pairs(&self.commands), pairs(&self.calls))
+        [&self.commands, &self.calls, &self.blocks].map(|rows| pairs(rows))
     }
 }
 
@@ -120,6 +131,21 @@ impl Watch for Counts {
         let name = letter.to_string();
         let row = self.calls.iter_mut().find(|row| row.name == name);
         row.expect("each call has a row").counts[usize::from(refusal)] += 1;
+    }
+
+    fn ended(&mut self, end: End, answers: usize) {
+        let name = name_of(end);
+        let row = self.blocks.iter_mut().find(|row| row.name == name);
+        row.expect("each end has a row").counts[answers.min(MOST_ANSWERS)] += 1;
+    }
+}
+
+fn name_of(end: End) -> &'static str {
+    match end {
+        End::Empty => "no bytes",
+        End::Whole => "all taken",
+        End::WholeAndFull => "all, no room",
+        End::Stopped => "stopped",
     }
 }
 
@@ -160,6 +186,8 @@ mod tests {
         counts.answered(0xC8, 0x89);
         counts.answered(0x12, 0x81);
         counts.called('E', 5);
+        counts.ended(End::Whole, 9);
+        counts.ended(End::Empty, 1);
         let faults = counts.faults();
         let has = |line: &str| faults.lines().any(|l| l == line);
         assert!(has("never reached: C8 with status 82"));
@@ -168,6 +196,10 @@ mod tests {
         assert!(!has("never reached: C8 with status 00"));
         assert!(!has("never reached: other standard with status 81"));
         assert!(!has("never reached: E with refusal 05"));
+        assert!(has("never reached: K with refusal 03"));
+        assert!(has("never reached: stopped with answers 01"));
+        assert!(has("not to be reached: no bytes with answers 01"));
+        assert!(!has("never reached: all taken with answers 03"));
     }
 
     #[test]
@@ -175,7 +207,7 @@ mod tests {
         let mut counts = Counts::none();
         counts.answered(0xFF, 0x81);
         let told = counts.tell();
-        assert_eq!(told.lines().count(), 1 + 36 + 1 + 7);
+        assert_eq!(told.lines().count(), 1 + 36 + 1 + 8 + 1 + 4);
         let last = told.lines().find(|l| l.starts_with("other fast")).unwrap();
         let cells: Vec<&str> = last.split_whitespace().collect();
         assert_eq!(cells[2..6], [".", ".", ".", "1"]);

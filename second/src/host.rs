@@ -9,7 +9,7 @@ use crate::message::fast_length;
 use crate::refusals::MOST_DATA;
 
 /// "start, status, and 65 bytes that may all be doubled"
-const ANSWER_ROOM: usize = 132;
+pub const ANSWER_ROOM: usize = 132;
 
 /// The number a call refuses with.
 pub type Refusal = u8;

@@ -100,7 +100,7 @@ fn settled(bytes: &[u8], rule: &impl Length) -> usize {
 
 /// The list of bytes since reset (or since a reading began), and the place
 /// from which it has to be read again.
-#[derive(Default)]
+#[derive(Clone, Default)]
 pub struct Heard {
     bytes: Vec<u8>,
     from: usize,

@@ -26,6 +26,8 @@ mod wrong;
 #[cfg(test)]
 mod application_test;
 #[cfg(test)]
+mod block_test;
+#[cfg(test)]
 mod order_test;
 #[cfg(test)]
 mod recorder_test;
@@ -112,9 +114,12 @@ fn cover_scripts(files: &[&str]) -> Result<ExitCode, String> {
         let played = play::play_watched(&mut open(file)?, &mut io::sink(), &mut counts);
         played.map_err(|wrong| format!("{file}: {wrong}"))?;
     }
-    let (commands, calls) = counts.reachable();
+    let [commands, calls, blocks] = counts.reachable();
     print!("{}", counts.tell());
-    println!("reachable: {commands} pairs of command and status, {calls} of call and refusal");
+    println!(
+        "reachable: {commands} pairs of command and status, {calls} of call and refusal, \
+         {blocks} of a block's end and answers"
+    );
     let faults = counts.faults();
     print!("{faults}");
     Ok(passed(faults.is_empty()))

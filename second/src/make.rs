@@ -3,9 +3,10 @@
 //! A script is a row of steps: single messages right and wrong, noise, whole
 //! recordings that are set up, triggered and read back, commands for the gate's
 //! own program with its calls, tables of names that are registered and asked
-//! for, and calls of the other end of the cable.
+//! for, blocks of wire bytes, and calls of the other end of the cable.
 
 mod application;
+mod blocks;
 mod entries;
 mod host;
 mod memory;
@@ -39,7 +40,7 @@ pub struct Maker {
 type Step = fn(&mut Maker);
 
 /// Each step with its weight.
-const STEPS: [(u64, Step); 30] = [
+const STEPS: [(u64, Step); 31] = [
     (8, Maker::fast_read),
     (8, Maker::fast_write),
     (10, Maker::block),
@@ -70,6 +71,7 @@ const STEPS: [(u64, Step); 30] = [
     (2, Maker::tables_asked),
     (3, Maker::string),
     (2, Maker::string_edges),
+    (8, Maker::blocks),
 ];
 
 /// The script of a seed: so many operations, then the memory shown.
@@ -194,7 +196,7 @@ mod tests {
     #[test]
     fn scripts_reach_everything() {
         let mut counts = Counts::none();
-        for seed in 0..40 {
+        for seed in 0..60 {
             let script = script(seed, 500);
             let played = play_watched(&mut script.as_bytes(), &mut sink(), &mut counts);
             assert_eq!(played, Ok(()));

@@ -3,10 +3,10 @@
 use std::io::{BufRead, Write};
 
 use crate::adler::adler32;
-use crate::host::{write_answer, write_command, Reader, Refusal};
+use crate::host::{write_answer, write_command, Reader, Refusal, ANSWER_ROOM};
 use crate::script::{parse, Call, Operation};
 use crate::tables::Table;
-use crate::target::Target;
+use crate::target::{Block, Target};
 
 /// What every lent buffer is filled with before each call.
 const FILL: u8 = 0xEE;
@@ -17,24 +17,54 @@ pub type Failure = String;
 /// A writer of the other end of the cable.
 type Writer = fn(u8, &[u8], &mut [u8]) -> Result<usize, Refusal>;
 
-/// Whoever is told of every answer and of every call at the other end.
+/// How a block ended that was not refused.
+#[derive(Clone, Copy, Debug, PartialEq, Eq)]
+pub enum End {
+    /// It had no bytes.
+    Empty,
+    /// All were taken, and there was room for more.
+    Whole,
+    /// All were taken, and no further one would have been.
+    WholeAndFull,
+    /// Bytes were left.
+    Stopped,
+}
+
+impl End {
+    /// Of a block of so many bytes, with so much room lent.
+    fn of(block: &Block, length: usize, room: usize) -> End {
+        let full = room - block.wire().len() < ANSWER_ROOM;
+        match (length, length - block.taken) {
+            (0, _) => End::Empty,
+            (_, 1..) => End::Stopped,
+            _ if full => End::WholeAndFull,
+            _ => End::Whole,
+        }
+    }
+}
+
+/// Whoever is told of every answer, of every call at the other end and of how
+/// blocks end.
 pub trait Watch {
     /// A message of a command was answered with a status.
     fn answered(&mut self, command: u8, status: u8);
     /// A call of a line with this letter gave a refusal, or 0.
     fn called(&mut self, letter: char, refusal: u8);
+    /// A block ended so, with so many answers.
+    fn ended(&mut self, end: End, answers: usize);
 }
 
 /// Nobody.
 impl Watch for () {
     fn answered(&mut self, _command: u8, _status: u8) {}
     fn called(&mut self, _letter: char, _refusal: u8) {}
+    fn ended(&mut self, _end: End, _answers: usize) {}
 }
 
 struct Player<'a, O: Write, W: Watch> {
     target: Target,
     reader: Reader,
-    /// Wire bytes given so far, on B lines and on R lines.
+    /// Wire bytes given so far, on B and K lines and on R lines.
     given: u64,
     read: u64,
     /// A line came that counts for the D line.
@@ -116,6 +146,7 @@ impl<O: Write, W: Watch> Player<'_, O, W> {
             Operation::Collect(room) => self.collect(room),
             Operation::Report(result) => self.report(result),
             Operation::Register(list) => self.register(list),
+            Operation::Block { room, bytes } => self.block(room, &bytes),
         }
     }
 
@@ -129,6 +160,28 @@ impl<O: Write, W: Watch> Player<'_, O, W> {
             }
             None => Ok(()),
         }
+    }
+
+    fn block(&mut self, room: usize, bytes: &[u8]) -> Result<(), Failure> {
+        // Taken or not, they were given.
+        self.given += bytes.len() as u64;
+        let mut lent = vec![FILL; room];
+        let (refusal, taken, written) = match self.target.block(bytes, &mut lent) {
+            Ok(block) => {
+                self.tell_block(&block, End::of(&block, bytes.len(), room));
+                (0, block.taken, block.wire().len())
+            }
+            Err(refusal) => (refusal, 0, 0),
+        };
+        self.watch.called('K', refusal);
+        self.print(&format!("K {refusal} {taken} {written}"), &lent)
+    }
+
+    fn tell_block(&mut self, block: &Block, end: End) {
+        for answer in &block.answers {
+            self.watch.answered(answer.command, answer.status);
+        }
+        self.watch.ended(end, block.answers.len());
     }
 
     fn write(&mut self, letter: char, writer: Writer, call: Call) -> Result<(), Failure> {
@@ -268,6 +321,24 @@ mod tests {
         assert!(out.starts_with(&wanted), "{out}");
         let (_, alone) = played("G\n");
         assert_eq!(alone, "G 0\nD adler32 40000001\n");
+    }
+
+    /// Bytes of a block that are not taken are lost, and count as given.
+    #[test]
+    fn blocks_are_taken_while_there_is_room() {
+        let (_, out) = played("B 2B C8\nK 135 38 2B C3 3D 2B C3\nB 3D\n");
+        let brief = "2B 00 03 00 01 01 00 40 BB";
+        let fill = " EE".repeat(126);
+        assert!(
+            out.starts_with(&format!("K 0 1 9 {brief}{fill}\nD ")),
+            "{out}"
+        );
+        let (_, out) = played("K 141 2B C8 38 2B C3\nB 3D\nK 131 2B\nK 0\nK 132\nB 2B C3 3D\n");
+        let (fill, all) = (" EE".repeat(132), " EE".repeat(131));
+        let wanted = format!(
+            "K 0 5 9 {brief}{fill}\nA 5 2B 88 78\nK 3 0 0{all}\nK 3 0 0\nK 0 0 0{fill}\nA 9 2B 88 78\nD "
+        );
+        assert!(out.starts_with(&wanted), "{out}");
     }
 
     /// Indexes and the reader stay at a reset with tables.

@@ -4,6 +4,8 @@
 //! Nothing here is computed from the refusals' table: a row there that refuses
 //! too much or too little shows as a pair too few or too many.
 
+use crate::play::End;
+
 /// Commands served, and the statuses that can answer them.
 pub const SERVED: [(&[u8], &[u8]); 14] = [
     (&[0x01, 0x04], &[0x00, 0x82, 0x83, 0x84, 0x85, 0x86, 0x89]),
@@ -36,7 +38,7 @@ pub const OTHER_FAST: &[u8] = &[0x81, 0x82];
 
 /// The refusals that each line of a script can print, 0 for none. Those of a
 /// state or a memory no script can provoke: tests/fuzz.c counts them.
-pub const CALLS: [(char, &[u8]); 7] = [
+pub const CALLS: [(char, &[u8]); 8] = [
     ('W', &[0, 3, 4]),
     ('V', &[0, 3, 4]),
     ('E', &[0, 5]),
@@ -44,4 +46,14 @@ pub const CALLS: [(char, &[u8]); 7] = [
     ('C', &[0, 3]),
     ('Y', &[0, 7]),
     ('G', &[0, 8]),
+    ('K', &[0, 3]),
+];
+
+/// How a block can end, and how many answers it can have had then, 3 for three
+/// or more: without an answer the room is what it was at the start.
+pub const BLOCKS: [(End, &[u8]); 4] = [
+    (End::Empty, &[0]),
+    (End::Whole, &[0, 1, 2, 3]),
+    (End::WholeAndFull, &[1, 2, 3]),
+    (End::Stopped, &[1, 2, 3]),
 ];

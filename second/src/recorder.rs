@@ -16,6 +16,7 @@ use crate::trigger::Trigger;
 type Count = u128;
 
 /// Ticks in a row that found the same bytes.
+#[derive(Clone)]
 struct Stretch {
     /// The number since the start of the first of them, counted from 0.
     first: Count,
@@ -32,6 +33,7 @@ impl Stretch {
     }
 }
 
+#[derive(Clone)]
 pub struct Recorder {
     setup: Setup,
     trigger: Option<Trigger>,

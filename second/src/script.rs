@@ -3,8 +3,10 @@
 use crate::areas::MEMORY;
 use crate::tables::Table;
 
-/// The most room a W, V or R line may lend, and a line of no limit of its own.
+/// The most room a W, V or R line may lend, a K line, and a line of no limit of
+/// its own.
 const MOST_ROOM: usize = 600;
+const MOST_BLOCK_ROOM: usize = 2_000;
 const MOST_UNLIMITED: usize = 65_535;
 
 /// The most tables a G line may name, more than can be registered.
@@ -28,6 +30,11 @@ pub enum Operation {
     Collect(usize),
     Report(u8),
     Register(Vec<Table>),
+    /// A block of wire bytes, and the room for their answers.
+    Block {
+        room: usize,
+        bytes: Vec<u8>,
+    },
 }
 
 impl Operation {
@@ -96,6 +103,10 @@ impl Words<'_> {
             "C" => Ok(Operation::Collect(self.room_up_to(MOST_UNLIMITED)?)),
             "Y" => Ok(Operation::Report(hex(self.word("result")?)?)),
             "G" => Ok(Operation::Register(self.tables()?)),
+            "K" => Ok(Operation::Block {
+                room: self.room_up_to(MOST_BLOCK_ROOM)?,
+                bytes: self.bytes()?,
+            }),
             other => Err(format!("`{other}` is no operation")),
         }
     }
@@ -199,6 +210,9 @@ mod tests {
         let tables = [(8_192, 8), (65_535, 0)].map(|(address, size)| Table { address, size });
         let register = Operation::Register(tables.to_vec());
         assert_eq!(read("G 8192 8 65535 0"), Some(register));
+        let block = |room, bytes| Some(Operation::Block { room, bytes });
+        assert_eq!(read("K 0"), block(0, Vec::new()));
+        assert_eq!(read("K 2000 2b 7"), block(2_000, vec![0x2B, 0x07]));
         let call = Call {
             first: 0xD0,
             room: 600,
@@ -243,6 +257,12 @@ mod tests {
             "G 8192 -8",
             "G 65536 8",
             "G 8192 65536",
+            "K",
+            "K x",
+            "K -1 00",
+            "K 2001",
+            "K 132 100",
+            "K 132 0x",
         ] {
             assert!(parse(line).is_err(), "{line}");
         }

@@ -4,13 +4,14 @@
 use crate::application::Application;
 use crate::areas::{Range, MEMORY};
 use crate::commands::carry_out;
-use crate::host::Refusal;
+use crate::host::{Refusal, ANSWER_ROOM};
 use crate::line::{wire, Heard};
 use crate::message::{CommandLength, Message};
 use crate::recorder::Recorder;
 use crate::refusals::judge;
 use crate::tables::{is_bad, Table};
 
+#[derive(Clone)]
 pub struct Target {
     pub memory: Vec<u8>,
     pub scope: Option<Vec<Range>>,
@@ -26,6 +27,21 @@ pub struct Answer {
     pub command: u8,
     pub status: u8,
     pub wire: Vec<u8>,
+}
+
+/// What came of a block: "reports bytes taken and bytes written".
+#[derive(Default)]
+pub struct Block {
+    pub taken: usize,
+    pub answers: Vec<Answer>,
+}
+
+impl Block {
+    /// The answers "one behind another".
+    pub fn wire(&self) -> Vec<u8> {
+        let wires = self.answers.iter().flat_map(|answer| &answer.wire);
+        wires.copied().collect()
+    }
 }
 
 impl Target {
@@ -71,6 +87,28 @@ impl Target {
             status,
             wire: wire(status, &data),
         })
+    }
+
+    /// "One call takes a block and writes the answers one behind another."
+    pub fn block(&mut self, bytes: &[u8], lent: &mut [u8]) -> Result<Block, Refusal> {
+        // "3 when the room is below 132 at the start", whatever the block is.
+        if lent.len() < ANSWER_ROOM {
+            return Err(3);
+        }
+        let mut block = Block::default();
+        for byte in bytes {
+            let left = lent.len() - block.wire().len();
+            // "It takes bytes while 132 bytes of room are left, and no longer":
+            // whether this one would be answered is not asked.
+            if left < ANSWER_ROOM {
+                break;
+            }
+            block.taken += 1;
+            block.answers.extend(self.byte(*byte));
+        }
+        let wire = block.wire();
+        lent[..wire.len()].copy_from_slice(&wire);
+        Ok(block)
     }
 
     /// "The gate calls a tick", so many times in a row.

@@ -3,6 +3,7 @@
 use crate::request::Setup;
 
 /// The trigger of a setup, with its threshold as a number.
+#[derive(Clone)]
 pub struct Trigger {
     falling: bool,
     sign: bool,

@@ -14,6 +14,7 @@ use Rattle.recorder.specs.declared.state.Recorder.{Recorder}
 use Rattle.application.specs.State.{Command, sentCommand, endedCommand}
 use Rattle.state.specs.State.{Instruments, withScope, withRecorder, withApplication}
 use Rattle.history.proofs.Bytes.{bytes-behind}
+use Rattle.blocks.proofs.Ranges.{sets-part}
 use Rattle.blocks.specs.Layout.{decodedReceiver, decodedBody, decodedScope, decodedRecorder, decodedApplication, decodedInstruments, encodedReceiver, encodedScope, encodedRun, encodedRecorder, encodedApplication, encodedInstruments, encoded}
 use Rattle.blocks.specs.Places.{receiverLength, variablesLength, planLength, recorderLength, applicationLength, tablesLength, instrumentsLength, bodyPlace, scopePlace, recorderPlace, runPlace, applicationPlace, commandPlace, tablesPlace, stateLength}
 use Rattle.block_fields.proofs.Ranges.{bytes-length, bytes-append, sets-same, sets-set, sets-apart}
@@ -53,11 +54,12 @@ module _ (block : List ℕ) (long : stateLength ≤ length block) where
         ∙ ap (sets (sets block 0 (encodedReceiver r)) scopePlace) (sym (instruments-kept block small long))
         ∙ whole-stored r (decodedInstruments block)
 
-    pub keep-stored : (r : Receiver) (at b : ℕ) → at < mostData
-        → set (sets block 0 (encodedReceiver r)) (bodyPlace + at) b ≡ sets block 0 (encoded (record { receiver = r; body = set (decodedBody block) at b; instruments = decodedInstruments block }))
-    keep-stored r at b h =
+    -- data that are kept
+    pub data-stored : (r : Receiver) (at : ℕ) (bs : List ℕ) → at + length bs ≤ mostData
+        → sets (sets block 0 (encodedReceiver r)) (bodyPlace + at) bs ≡ sets block 0 (encoded (record { receiver = r; body = sets (decodedBody block) at bs; instruments = decodedInstruments block }))
+    data-stored r at bs h =
         sym
-        (parts-stored r (set (decodedBody block) at b) (encodedInstruments (decodedInstruments block)) (length-set (decodedBody block) at b ∙ bytes-length block bodyPlace mostData (omega arith))
+        (parts-stored r (sets (decodedBody block) at bs) (encodedInstruments (decodedInstruments block)) (length-sets (decodedBody block) at bs ∙ bytes-length block bodyPlace mostData (omega arith))
         ∙ ap (λ (l : List ℕ). sets l scopePlace (encodedInstruments (decodedInstruments block))) body-stored
         ∙ ap (sets kept scopePlace) (instruments-kept block small long ∙ sym instruments-there)
         ∙ sets-same instrumentsLength kept scopePlace (omega (arith, kept-length)))
@@ -66,23 +68,27 @@ module _ (block : List ℕ) (long : stateLength ≤ length block) where
         headed = sets block 0 (encodedReceiver r)
 
         kept : List ℕ
-        kept = set headed (bodyPlace + at) b
+        kept = sets headed (bodyPlace + at) bs
 
         headed-length : length headed ≡ length block
         headed-length = length-sets block 0 (encodedReceiver r)
 
         kept-length : length kept ≡ length block
-        kept-length = length-set headed (bodyPlace + at) b ∙ headed-length
+        kept-length = length-sets headed (bodyPlace + at) bs ∙ headed-length
 
-        body-stored : sets headed bodyPlace (set (decodedBody block) at b) ≡ kept
+        body-stored : sets headed bodyPlace (sets (decodedBody block) at bs) ≡ kept
         body-stored =
-            ap (λ (l : List ℕ). sets headed bodyPlace (set l at b)) (sym (bytes-behind (encodedReceiver r) block 0 bodyPlace mostData (omega (arith, receiver-length r))))
-            ∙ sets-set mostData headed bodyPlace at b h (omega (arith, headed-length))
+            ap (λ (l : List ℕ). sets headed bodyPlace (sets l at bs)) (sym (bytes-behind (encodedReceiver r) block 0 bodyPlace mostData (omega (arith, receiver-length r))))
+            ∙ sets-part bs headed bodyPlace mostData at h (omega (arith, headed-length))
 
         instruments-there : bytesAt kept scopePlace instrumentsLength ≡ bytesAt block scopePlace instrumentsLength
         instruments-there =
-            ap (take instrumentsLength) (drop-set-lt scopePlace headed (bodyPlace + at) b (omega arith))
+            bytes-behind bs headed (bodyPlace + at) scopePlace instrumentsLength (omega (arith, h))
             ∙ bytes-behind (encodedReceiver r) block 0 scopePlace instrumentsLength (omega (arith, receiver-length r))
+
+    pub keep-stored : (r : Receiver) (at b : ℕ) → at < mostData
+        → set (sets block 0 (encodedReceiver r)) (bodyPlace + at) b ≡ sets block 0 (encoded (record { receiver = r; body = set (decodedBody block) at b; instruments = decodedInstruments block }))
+    keep-stored r at b h = data-stored r at (b ∷ []) (omega (arith, h))
 
     -- ---- one of the instruments, or a part of it: the others are there
 

@@ -1,2 +1,5 @@
--- A byte, by its event, refused and taken.
+-- What the block holds behind a byte.
+pub mod Stores
+pub mod Framed
+pub mod Answered
 pub mod Turns

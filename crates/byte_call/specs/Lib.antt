@@ -1,2 +1,3 @@
 -- What a byte promises.
+pub mod Heard
 pub mod Promises

@@ -2,7 +2,11 @@
 use mathlib.Core.Path.{_≡_, refl}
 use mathlib.Core.List.{List, [], _∷_, _++_, map}
 use Rattle.document.specs.Hex.{hex}
-use Rattle.document.specs.Message.{wellFormed, onWire}
+use Rattle.document.specs.Services.{serviceOf}
+use Rattle.document.specs.Message.{wellFormed, onWire, heard, finishedBy}
+use Rattle.document.specs.Refusals.{refusal}
+use Rattle.document.specs.Commands.{answered}
+use Rattle.document.specs.Asides.{beside}
 use Rattle.document.specs.Answer.{answerOnWire, answersHeard, answerFinishedBy}
 use Rattle.document.specs.AnswerWriter.{answerRefusal, answerWritten, answerBuffer}
 use Rattle.document.specs.CommandWriter.{commandRefusal, commandWritten, commandBuffer}
@@ -16,6 +20,7 @@ use Rattle.document.specs.ApplicationRows.{collectRows}
 use Rattle.document.specs.BaseTypes.{sizeOfCode}
 use Rattle.document.specs.Tables.{isListGood}
 use Rattle.document.specs.TableRows.{entryRows, listRows}
+use Rattle.document.specs.BlockRows.{blockRows}
 use Rattle.document.specs.SetRows.{plainPlan, exPlan, plainPlanNoTrigger, plansIn, bufferAnswers, histories, taken, written, lasts, rounds}
 use Rattle.document.proofs.Rows.{holds-eq, lists-eq}
 
@@ -34,6 +39,10 @@ lists-hold = lists-eq (map (λ (l : Line). l .gives) listRows) (map (λ (l : Lin
 pub entries-hold : map (λ (l : Line). l .gives) entryRows ≡ map (λ (l : Line). l .says) entryRows
 unfolding entryRows sizeOfCode
 entries-hold = lists-eq (map (λ (l : Line). l .gives) entryRows) (map (λ (l : Line). l .says) entryRows) refl
+
+pub blocks-hold : map (λ (l : Line). l .gives) blockRows ≡ map (λ (l : Line). l .says) blockRows
+unfolding blockRows answerOnWire heard finishedBy serviceOf refusal answered beside
+blocks-hold = lists-eq (map (λ (l : Line). l .gives) blockRows) (map (λ (l : Line). l .says) blockRows) refl
 
 pub plans-hold : plansIn ≡ (plainPlan ∷ exPlan ∷ plainPlanNoTrigger ∷ [])
 unfolding planIn

@@ -40,6 +40,7 @@ pub mod Sets
 -- since reset, and "Staples to try"
 pub mod Asides
 pub mod Happenings
+pub mod Blocks
 pub mod Staples
 pub mod Further
 -- the rows behind the staples: how they are written, then by subject
@@ -60,4 +61,5 @@ pub mod LevelRows
 pub mod TriggerRows
 pub mod ApplicationRows
 pub mod TableRows
+pub mod BlockRows
 pub mod SetRows

@@ -17,6 +17,7 @@ pub use lengths::LOG_GATE_MEMORY;
 pub use lengths::LOG_GATE_READER;
 pub use lengths::LOG_GATE_STATE;
 pub use names::log_gate_register;
+pub use target::log_gate_block;
 pub use target::log_gate_byte;
 pub use target::log_gate_check;
 pub use target::log_gate_reset;

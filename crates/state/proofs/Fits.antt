@@ -68,7 +68,7 @@ sets-long (w ∷ ws) vs i = sets-long ws (set vs i w) (suc i) ∙ simp length-se
 below : (l : List ℕ) (n : ℕ) → AllBytes l → length l ≤ n → number l < 256 ^ n
 below l n all few = subst (λ (k : ℕ). number l < k) (sym (bytes-bits n)) (number-below l n all few)
 
-range-below : (body : List ℕ) (at n : ℕ) → AllBytes body → number (bytesAt body at n) < 256 ^ n
+pub range-below : (body : List ℕ) (at n : ℕ) → AllBytes body → number (bytesAt body at n) < 256 ^ n
 range-below body at n all = below (bytesAt body at n) n (all-range body at n all) (take-short n (drop at body))
 
 address-below : (ex : Bool) (body : List ℕ) (at : ℕ) → AllBytes body → number (bytesAt body at (addressWidth ex)) < 256 ^ 4

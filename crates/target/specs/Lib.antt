@@ -2,3 +2,5 @@
 pub mod After
 pub mod AnsweredHeld
 pub mod Turn
+pub mod Walk
+pub mod Quiet

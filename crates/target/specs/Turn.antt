@@ -29,6 +29,15 @@ silent t memory buffer = record { length = 0; next = t; memory = memory; buffer 
 abbrev pub keeping : Target → ℕ → ℕ → Target
 keeping t at b = record { receiver = t .receiver; body = set (t .body) at b; instruments = t .instruments }
 
+-- once the receiver has heard a byte: data are kept
+abbrev pub keptBy : Target → Event → Target
+keptBy t Nothing = t
+keptBy t (Keep at b) = keeping t at b
+keptBy t (Whole command n sum) = t
+
+abbrev pub hearing : Target → ℕ → Target
+hearing t b = keptBy (withReceiver t (stepped (t .receiver) b .next)) (stepped (t .receiver) b .event)
+
 -- what is held of the message that a byte has finished
 abbrev pub heldBy : Target → ℕ → ℕ → ℕ → Held
 heldBy t command n sum = record { command = command; length = n; kept = take n (t .body); sum = sum }

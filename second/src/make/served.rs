@@ -34,7 +34,7 @@ pub fn parts(command: u8) -> usize {
 
 impl Maker {
     /// Any of the commands, each served one as often as another.
-    fn any_served(&mut self) -> u8 {
+    pub fn any_served(&mut self) -> u8 {
         let at = self.rng.below((STANDARD.len() + FAST.len() + 1) as u64) as usize;
         match (STANDARD.get(at), at.checked_sub(STANDARD.len())) {
             (Some(command), _) => *command,
@@ -45,7 +45,7 @@ impl Maker {
 
     /// Data with which nothing refuses the command while the recorder stands and
     /// no command is pending.
-    fn right_data(&mut self, command: u8) -> Vec<u8> {
+    pub fn right_data(&mut self, command: u8) -> Vec<u8> {
         let address = self.rng.below(64) as u8;
         match command {
             0x01..=0x06 => {

@@ -58,7 +58,11 @@ impl Maker {
         }
     }
 
+    /// Wire bytes one by one; now and then as a block instead.
     pub fn bytes(&mut self, wire: &[u8]) {
+        if self.rng.once_in(20) {
+            return self.roomy_block(wire);
+        }
         let mut bytes = hex(wire);
         if self.rng.once_in(40) {
             // Small letters, single digits and more than one space.

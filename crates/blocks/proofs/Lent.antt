@@ -1,0 +1,89 @@
+-- A lent block whose state is within its bounds: every byte of it is one, so every number is within its width too.
+use mathlib.Core.Path.{_≡_, refl, ap}
+use mathlib.Core.Bool.{true}
+use mathlib.Core.List.{List, [], _∷_}
+use Prim.Native.Nat.{ℕ, zero, suc, _+_, _^_, _<_, _≤_}
+use native.Mathlib.Omega.{arith}
+use lib.ListN.{length, getD, drop}
+use Rattle.document.specs.Areas.{bytesAt}
+use Rattle.document.specs.Numbers.{mostData}
+use Rattle.document.specs.Bytes.{AllBytes}
+use Rattle.document.specs.Values.{number}
+use Rattle.document.specs.Variables.{definitionsIn}
+use Rattle.document.proofs.Bytes.{all-of-bytes}
+use Rattle.block_fields.proofs.Ranges.{bytes-length}
+use Rattle.tables.specs.State.{listLength}
+use Rattle.state.specs.Bounds.{sound}
+use Rattle.state.specs.Widths.{VariablesFit}
+use Rattle.state.specs.Within.{MemoryWithin, Within}
+use Rattle.state.proofs.ByteLaws.{all-drop, all-range}
+use Rattle.state.proofs.Fits.{range-below}
+use Rattle.state.proofs.Parts.{parts-of}
+use Rattle.blocks.specs.Places.{bodyPlace, scopePlace, samplesPlace, postTriggerPlace, dividerPlace, triggerAddressPlace, thresholdPlace, recordedPlace, waitPlace, placePlace, valuePlace, commandPlace, listPlace, stateLength}
+use Rattle.blocks.specs.Layout.{decodedReceiver, decodedDefinitions, decodedVariables, decodedScope, decodedRecorder, decodedApplication, decodedTables, decoded}
+
+definitions-count : (n : ℕ) (part : List ℕ) → length (definitionsIn true n part) ≡ n
+definitions-count zero part = refl
+definitions-count (suc n) part = ap suc (definitions-count n (drop 5 part))
+
+addresses-below : (n : ℕ) (part : List ℕ) → AllBytes part → (i : ℕ) → getD (definitionsIn true n part) i (record { address = 0; size = 0 }) .address < 256 ^ 4
+addresses-below zero part all i = omega arith
+addresses-below (suc n) part all zero = range-below part 1 4 all
+addresses-below (suc n) part all (suc i) = addresses-below n (drop 5 part) (all-drop 5 part all) i
+
+module _ (block : List ℕ) (long : stateLength ≤ length block) (small : (i : ℕ) → getD block i 0 < 256) where
+  all : AllBytes block
+  all = all-of-bytes block small
+
+  variables-fit : (at : ℕ) → VariablesFit (decodedVariables block at)
+  unfolding decodedDefinitions
+  variables-fit at =
+      record {
+        eight = definitions-count 8 (drop (at + 1) block);
+        addresses = addresses-below 8 (drop (at + 1) block) (all-drop (at + 1) block all);
+      }
+
+  pub lent-within : (memory : List ℕ) → sound (decoded block) ≡ true → MemoryWithin memory → Within (decoded block) memory
+  unfolding decodedReceiver decodedScope decodedRecorder decodedApplication decodedTables
+  lent-within memory ok held =
+      let parts = parts-of (decoded block) ok in
+      record {
+        link-part =
+            record {
+              receiver = parts .receiver;
+              command = small 2;
+              size = bytes-length block bodyPlace mostData (omega (arith, long));
+              body = all-range block bodyPlace mostData all;
+            };
+        scope-part = record { sound = parts .scope-part; fits = variables-fit scopePlace };
+        recorder-part =
+            record {
+              sound = parts .recorder-part;
+              fits =
+                  record {
+                    plan =
+                        record {
+                          samples = range-below block samplesPlace 2 all;
+                          after = range-below block postTriggerPlace 2 all;
+                          divider = range-below block dividerPlace 2 all;
+                          address = range-below block triggerAddressPlace 4 all;
+                          threshold = range-below block thresholdPlace 4 all;
+                          variables = variables-fit recordedPlace;
+                        };
+                    run = record { wait = range-below block waitPlace 2 all; place = range-below block placePlace 2 all; value = range-below block valuePlace 4 all };
+                  };
+            };
+        application-part =
+            record {
+              sound = parts .application-part;
+              size = bytes-length block commandPlace mostData (omega (arith, long));
+              bytes = all-range block commandPlace mostData all;
+            };
+        tables-part =
+            record {
+              sound = parts .tables-part;
+              size = bytes-length block listPlace listLength (omega (arith, long));
+              bytes = all-range block listPlace listLength all;
+            };
+        memory-part = held;
+      }
