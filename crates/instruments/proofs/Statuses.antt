@@ -12,7 +12,7 @@ use Rattle.document.specs.Recorder.Recorder.{absent, planned}
 use Rattle.document.specs.Gate.{Gate, Outcome, says, withRecorder}
 use Rattle.document.specs.Refusals.{recorderSetUpLines, queryLines}
 use Rattle.document.specs.Commands.{served}
-use Rattle.document.specs.declared.Operation.the-variants.{SetUpRecorder, Start, Stop, Status, QueryBuffer}
+use Rattle.document.specs.declared.Operation.the-variants.{PrepareAndStart, Start, Stop, Status, QueryBuffer}
 use Rattle.document.specs.declared.Service.{Service}
 use Rattle.document.proofs.Cases.{split}
 use Rattle.recorder.specs.Setup as recorder
@@ -22,7 +22,7 @@ use Rattle.outcomes.proofs.Firsts.{unless-alone, unless-refused, unless-none}
 use Rattle.instruments.specs.Operates.{alone}
 
 module _ (g : Gate) (s : Service) (body : List ℕ) where
-  pub recorder-set-up : alone (recorder.setUpStatus (g .recorder) (s .ex) body) ≡ served g (knownAs SetUpRecorder s) body .answer
+  pub recorder-set-up : alone (recorder.setUpStatus (g .recorder) (s .ex) body) ≡ served g (knownAs PrepareAndStart s) body .answer
   unfolding served recorder.setUpStatus
   recorder-set-up =
       sym (unless-alone g (recorderSetUpLines g (s .ex) body) (says (withRecorder g (recorderSetUp (s .ex) body)) done []) refl)

@@ -8,7 +8,7 @@ ghost use Rattle.document.specs.Numbers.{answerRoom, done};
 ghost use Rattle.document.specs.Values.{littleEndian};
 ghost use Rattle.document.specs.Variables.{addressWidth};
 ghost use Rattle.document.specs.Commands.{served};
-ghost use Rattle.document.specs.declared.Operation.the-variants.{SetUpRecorder, Start, Stop, Status, QueryBuffer};
+ghost use Rattle.document.specs.declared.Operation.the-variants.{PrepareAndStart, Start, Stop, Status, QueryBuffer};
 ghost use Rattle.document.specs.declared.Service.{Service};
 ghost use Rattle.outcomes.specs.Known.{knownAs};
 ghost use Rattle.line.specs.Told.{Told};
@@ -31,7 +31,7 @@ use storing::store_recorder;
 // The message's data stand in the block, up to a place. What is refused stores nothing.
 pub fn set_up_recorder(state: &mut [u8], service: Service, to: usize) -> u8
     requires { ⌜ (stateLength ≤ length (now state)) × (bodyPlace ≤ to) × (to ≤ scopePlace) ⌝ }
-    ensures { λ r. ⌜ ((memory : List ℕ) → Settles (served (gateOf (decodedInstruments (now (state .entry))) memory) (knownAs SetUpRecorder service) (dataTo (now (state .entry)) to)) (instrumentsAfter SetUpRecorder (decodedInstruments (now (state .entry))) service (dataTo (now (state .entry)) to)) (now (state .entry)) r (now (state .exit)) memory) ⌝ }
+    ensures { λ r. ⌜ ((memory : List ℕ) → Settles (served (gateOf (decodedInstruments (now (state .entry))) memory) (knownAs PrepareAndStart service) (dataTo (now (state .entry)) to)) (instrumentsAfter PrepareAndStart (decodedInstruments (now (state .entry))) service (dataTo (now (state .entry)) to)) (now (state .entry)) r (now (state .exit)) memory) ⌝ }
 {
     let status = recorder_in(state).set_up_status(service.ex, &state[BODY..to]);
     if status != DONE {

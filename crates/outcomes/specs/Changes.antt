@@ -13,7 +13,7 @@ use Rattle.document.specs.Gate.{Gate, withMemory, withScope, withRecorder, with
 use Rattle.document.specs.Permission.{mayBeWritten}
 use Rattle.document.specs.Refusals.{firstOf, scopeSetUpLines, recorderSetUpLines, sendLines}
 use Rattle.document.specs.declared.Operation.{Operation}
-use Rattle.document.specs.declared.Operation.the-variants.{Unserved, Describe, DescribeBriefly, Read, Write, WriteMasked, SetUpScope, ReadScope, SetUpRecorder, Start, Stop, Status, QueryBuffer, SendCommand, CommandResult, TellTable, MeasureString}
+use Rattle.document.specs.declared.Operation.the-variants.{Unserved, Describe, DescribeBriefly, Read, Write, WriteMasked, SetUpScope, ReadScope, PrepareAndStart, Start, Stop, Status, QueryBuffer, SendCommand, CommandResult, TellTable, MeasureString}
 use Rattle.document.specs.declared.Service.{Service}
 
 pub data Change : Type 0 where
@@ -35,7 +35,7 @@ changeOf Write = store
 changeOf WriteMasked = maskedStore
 changeOf SetUpScope = scopeSetUp
 changeOf ReadScope = nothing
-changeOf SetUpRecorder = recorderSetUp
+changeOf PrepareAndStart = recorderSetUp
 changeOf Start = recorderStart
 changeOf Stop = recorderStop
 changeOf Status = nothing

@@ -56,7 +56,7 @@ pub fn serve(
         Operation::WriteMasked => write_masked(service, &state[BODY..to], memory),
         Operation::SetUpScope => set_up_scope(state, service, to),
         Operation::ReadScope => return read_scope(state, memory, out),
-        Operation::SetUpRecorder => set_up_recorder(state, service, to),
+        Operation::PrepareAndStart => set_up_recorder(state, service, to),
         Operation::Start => start(state),
         Operation::Stop => stop(state),
         Operation::Status => status(state),

@@ -7,7 +7,7 @@ use lib.Seq.{sets}
 use Rattle.document.specs.Numbers.{done}
 use Rattle.document.specs.Commands.{served}
 use Rattle.document.specs.declared.Service.{Service}
-use Rattle.document.specs.declared.Operation.the-variants.{SetUpRecorder}
+use Rattle.document.specs.declared.Operation.the-variants.{PrepareAndStart}
 use Rattle.recorder.specs.declared.state.Recorder.{Recorder}
 use Rattle.recorder.specs.State.{recorderOf}
 use Rattle.recorder.specs.Setup.{setUpStatus, setUpState}
@@ -62,16 +62,16 @@ module _ (d : tie.After-set-up-status) where
   status : d .set-up-status .result ≡ setUpStatus (recorderOf (decodedRecorder block)) (service .ex) told
   status = d .set-up-status .ensures ∙ ap (λ (q : Recorder). setUpStatus (recorderOf q) (service .ex) told) is
 
-  answer : (memory : List ℕ) → alone (d .set-up-status .result) ≡ served (gateOf (decodedInstruments block) memory) (knownAs SetUpRecorder service) told .answer
+  answer : (memory : List ℕ) → alone (d .set-up-status .result) ≡ served (gateOf (decodedInstruments block) memory) (knownAs PrepareAndStart service) told .answer
   answer memory = ap alone status ∙ recorder-set-up (gateOf (decodedInstruments block) memory) service told
 
-  kept : (d .set-up-status .result ≡ done → ⊥) → block ≡ sets block scopePlace (encodedInstruments (instrumentsAfter SetUpRecorder (decodedInstruments block) service told))
+  kept : (d .set-up-status .result ≡ done → ⊥) → block ≡ sets block scopePlace (encodedInstruments (instrumentsAfter PrepareAndStart (decodedInstruments block) service told))
   kept wrong =
       let same = sym (next-refused (decodedRecorder block) (service .ex) told (λ e. wrong (status ∙ e))) in
       same-block block (begun .pre .0) (λ i. looked .before .before .slice-known .given i .fits) _ (λ i. withRecorder (decodedInstruments block) (same i))
 
   stored : d .set-up-status .result ≡ done → (after : List ℕ) → after ≡ sets block scopePlace (encodedInstruments (withRecorder (decodedInstruments block) (setUpState (service .ex) told)))
-      → after ≡ sets block scopePlace (encodedInstruments (instrumentsAfter SetUpRecorder (decodedInstruments block) service told))
+      → after ≡ sets block scopePlace (encodedInstruments (instrumentsAfter PrepareAndStart (decodedInstruments block) service told))
   stored right after e =
       let next = sym (next-taken (decodedRecorder block) (service .ex) told (sym status ∙ right)) in
       e ∙ (λ i. sets block scopePlace (encodedInstruments (withRecorder (decodedInstruments block) (next i))))
@@ -83,7 +83,7 @@ returns : tie.Need-returns
 returns c =
     let d = c .before in
     λ memory.
-    settles SetUpRecorder refl (block d) memory (service d) (told d) (d .set-up-status .result) _ (answer d memory) (kept d (c .if1 .taken))
+    settles PrepareAndStart refl (block d) memory (service d) (told d) (d .set-up-status .result) _ (answer d memory) (kept d (c .if1 .taken))
 
 store-recorder-requires : tie.Need-store-recorder-requires
 store-recorder-requires c κs =
@@ -101,7 +101,7 @@ returns-2 c =
     let right = put .before .before in
     let d = right .before in
     λ memory.
-    settles SetUpRecorder refl (block d) memory (service d) (told d) done _ (ap alone (sym (right .if1 .left)) ∙ answer d memory) (stored d (right .if1 .left) _ (put .store-recorder .ensures))
+    settles PrepareAndStart refl (block d) memory (service d) (told d) done _ (ap alone (sym (right .if1 .left)) ∙ answer d memory) (stored d (right .if1 .left) _ (put .store-recorder .ensures))
 
 pub set-up-recorder-spec : {M : Type 1} → statement M
 set-up-recorder-spec =
