@@ -24,7 +24,7 @@ use Rattle.document.specs.declared.Operation.the-variants.{Unserved}
 use Rattle.document.specs.declared.Service.{Service}
 use Rattle.document.proofs.Cases.{split, neither, both, and-right}
 use Rattle.outcomes.specs.Changes.{Change, changeOf, changed, Accepted}
-use Rattle.outcomes.specs.Changes.Change.{nothing, store, maskedStore, scopeSetUp, recorderSetUp, recorderStart, recorderStop, commandSent}
+use Rattle.outcomes.specs.Changes.Change.{nothing, store, maskedStore, scopeSetUp, recorderPrepareAndStart, recorderStart, recorderStop, commandSent}
 use Rattle.outcomes.proofs.Answered.{answered-served, accepted-gate, accepted, refused-gate}
 use Rattle.outcomes.proofs.Firsts.{none-applies}
 use Rattle.line.proofs.Pairing.{waitsAfter}
@@ -39,7 +39,7 @@ isSent nothing = false
 isSent store = false
 isSent maskedStore = false
 isSent scopeSetUp = false
-isSent recorderSetUp = false
+isSent recorderPrepareAndStart = false
 isSent recorderStart = false
 isSent recorderStop = false
 isSent commandSent = true
@@ -85,7 +85,7 @@ module _ (g : Gate) (s : Service) (body : List ℕ) where
   not-sent store other = refl
   not-sent maskedStore other = refl
   not-sent scopeSetUp other = refl
-  not-sent recorderSetUp other = refl
+  not-sent recorderPrepareAndStart other = refl
   not-sent recorderStart other = refl
   not-sent recorderStop other = refl
   not-sent commandSent other = neither (sym other)

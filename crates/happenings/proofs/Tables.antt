@@ -12,7 +12,7 @@ use Rattle.document.specs.Happenings.{Happening, Since, told, after, afterAll}
 use Rattle.document.specs.Happenings.Happening.{byte, aside}
 use Rattle.document.specs.declared.Service.{Service}
 use Rattle.outcomes.specs.Changes.{Change, changeOf, changed}
-use Rattle.outcomes.specs.Changes.Change.{nothing, store, maskedStore, scopeSetUp, recorderSetUp, recorderStart, recorderStop, commandSent}
+use Rattle.outcomes.specs.Changes.Change.{nothing, store, maskedStore, scopeSetUp, recorderPrepareAndStart, recorderStart, recorderStop, commandSent}
 use Rattle.outcomes.proofs.Answered.{answered-gate}
 
 changed-tables : (c : Change) (g : Gate) (s : Service) (body : List ℕ) → changed c g s body .tables ≡ g .tables
@@ -20,7 +20,7 @@ changed-tables nothing g s body = refl
 changed-tables store g s body = refl
 changed-tables maskedStore g s body = refl
 changed-tables scopeSetUp g s body = refl
-changed-tables recorderSetUp g s body = refl
+changed-tables recorderPrepareAndStart g s body = refl
 changed-tables recorderStart g s body = refl
 changed-tables recorderStop g s body = refl
 changed-tables commandSent g s body = refl

@@ -20,7 +20,7 @@ use Rattle.recorder.specs.State.{recorderOf}
 use Rattle.recorder.proofs.Answers.{set-up-means}
 use Rattle.recorder.proofs.Meanings.{started-means, halted-means}
 use Rattle.outcomes.specs.Changes.{Change, changeOf, changed, Accepted, Refused}
-use Rattle.outcomes.specs.Changes.Change.{nothing, store, maskedStore, scopeSetUp, recorderSetUp, recorderStart, recorderStop, commandSent}
+use Rattle.outcomes.specs.Changes.Change.{nothing, store, maskedStore, scopeSetUp, recorderPrepareAndStart, recorderStart, recorderStop, commandSent}
 use Rattle.outcomes.proofs.Served.{served-either, served-memory}
 use Rattle.tables.specs.State.{tablesOf}
 use Rattle.application.specs.State.{applicationOf}
@@ -41,7 +41,7 @@ module _ (i : Instruments) (memory : List ℕ) (s : Service) (body : List ℕ) w
   refused-kept store r = refl
   refused-kept maskedStore r = refl
   refused-kept scopeSetUp r = λ j. withScope i (next-refused (s .ex) body (i .scope) r j)
-  refused-kept recorderSetUp r = rw (ne-eqb (recorder.setUpStatus (recorderOf (i .recorder)) (s .ex) body) done r) refl
+  refused-kept recorderPrepareAndStart r = rw (ne-eqb (recorder.setUpStatus (recorderOf (i .recorder)) (s .ex) body) done r) refl
   refused-kept recorderStart r = rw r refl
   refused-kept recorderStop r = rw r refl
   refused-kept commandSent r = λ j. withApplication i (send-refused body (i .application) g refl r j)
@@ -53,7 +53,7 @@ module _ (i : Instruments) (memory : List ℕ) (s : Service) (body : List ℕ) w
   accepted-kept maskedStore a = refl
   accepted-kept scopeSetUp a =
       λ j. record { memory = memory; scope = set-up-scope (s .ex) body (i .scope) a j; recorder = recorderOf (i .recorder); application = applicationOf (i .application); tables = tablesOf (i .tables) }
-  accepted-kept recorderSetUp a =
+  accepted-kept recorderPrepareAndStart a =
       λ j. record { memory = memory; scope = scopeOf (i .scope); recorder = set-up-means (i .recorder) (s .ex) body a j; application = applicationOf (i .application); tables = tablesOf (i .tables) }
   accepted-kept recorderStart a =
       λ j. record { memory = memory; scope = scopeOf (i .scope); recorder = started-means (i .recorder) j; application = applicationOf (i .application); tables = tablesOf (i .tables) }
@@ -76,7 +76,7 @@ module _ (i : Instruments) (s : Service) (body : List ℕ) (all : AllBytes body)
   scope-changed store w = w
   scope-changed maskedStore w = w
   scope-changed scopeSetUp w = scope-set-up (s .ex) body all (i .scope) w
-  scope-changed recorderSetUp w = w
+  scope-changed recorderPrepareAndStart w = w
   scope-changed recorderStart w = w
   scope-changed recorderStop w = w
   scope-changed commandSent w = w
@@ -86,7 +86,7 @@ module _ (i : Instruments) (s : Service) (body : List ℕ) (all : AllBytes body)
   recorder-changed store w = w
   recorder-changed maskedStore w = w
   recorder-changed scopeSetUp w = w
-  recorder-changed recorderSetUp w = recorder-set-up (s .ex) body all (i .recorder) w
+  recorder-changed recorderPrepareAndStart w = recorder-set-up (s .ex) body all (i .recorder) w
   recorder-changed recorderStart w = recorder-started (i .recorder) w
   recorder-changed recorderStop w = recorder-halted (i .recorder) w
   recorder-changed commandSent w = w
@@ -96,7 +96,7 @@ module _ (i : Instruments) (s : Service) (body : List ℕ) (all : AllBytes body)
   application-changed store few w = w
   application-changed maskedStore few w = w
   application-changed scopeSetUp few w = w
-  application-changed recorderSetUp few w = w
+  application-changed recorderPrepareAndStart few w = w
   application-changed recorderStart few w = w
   application-changed recorderStop few w = w
   application-changed commandSent few w =
@@ -108,7 +108,7 @@ tables-changed i s body nothing = refl
 tables-changed i s body store = refl
 tables-changed i s body maskedStore = refl
 tables-changed i s body scopeSetUp = refl
-tables-changed i s body recorderSetUp = refl
+tables-changed i s body recorderPrepareAndStart = refl
 tables-changed i s body recorderStart = refl
 tables-changed i s body recorderStop = refl
 tables-changed i s body commandSent = refl
