@@ -9,8 +9,8 @@ use Rattle.document.specs.Message.{Message}
 use Rattle.document.specs.Areas.{bytesAt}
 use Rattle.document.specs.Stores.{stored, maskStored}
 use Rattle.document.specs.Variables.{addressWidth}
-use Rattle.document.specs.Scope.{Scope, scopeSetUp, scopeRead}
-use Rattle.document.specs.Recorder.{Recorder, isRunning, recorderPrepared, recorderStarted, recorderHalted, bufferAnswer}
+use Rattle.document.specs.Scope.{scopeSetUp, scopeRead}
+use Rattle.document.specs.Recorder.{isRunning, recorderPrepared, recorderStarted, recorderHalted, bufferAnswer}
 use Rattle.document.specs.Services.{serviceOf}
 use Rattle.document.specs.Fields.{sizeField, addressField, dataField, maskField}
 use Rattle.document.specs.Values.{number, littleEndian}

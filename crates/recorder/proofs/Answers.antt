@@ -4,8 +4,7 @@ use mathlib.Core.Bool.{Bool, true, false}
 use mathlib.Core.List.{List}
 use Prim.Native.Nat.{ℕ, _≤_, _<_, _*_, _^_}
 use native.Mathlib.Omega.{arith}
-use lib.Dec.{eqb}
-use borrow.Author.Tests.{eqb-true, eqb-false, eq-eqb, ne-eqb}
+use borrow.Author.Tests.{eq-eqb, ne-eqb}
 use Rattle.document.specs.Numbers.{done, busy}
 use Rattle.document.specs.Plan.{Plan, planIn}
 use Rattle.document.specs.Run.{started, prepared}
@@ -16,7 +15,7 @@ use Rattle.recorder.specs.State.{recorderOf, noRecorder}
 use Rattle.plans.specs.Bounds.{planSound}
 use Rattle.recorder.specs.Bounds.{sound}
 use Rattle.setups.specs.Setup.{bodyStatus, planRead}
-use Rattle.recorder.specs.Preparing.{prepareStatus, preparedState, bothNext, unlessRefused}
+use Rattle.recorder.specs.Preparing.{prepareStatus, preparedState, bothNext}
 use Rattle.recorder.specs.Calls.{startedState}
 use Rattle.document.proofs.Cases.{split}
 use Rattle.setups.proofs.SetUps.{accepted-means, accepted-sound}
@@ -42,28 +41,21 @@ module _ (r : RecorderState) (ex : Bool) (body : List ℕ) where
   pub taken-body : prepareStatus (recorderOf r) ex body ≡ done → bodyStatus ex body ≡ done
   taken-body e = sym (while-stopped (idle e)) ∙ e
 
-  module _ (next : RecorderState) where
-    pub next-taken : prepareStatus (recorderOf r) ex body ≡ done → unlessRefused r ex body next ≡ next
-    next-taken e = rw (eq-eqb (prepareStatus (recorderOf r) ex body) done e)
-
-    pub next-refused : (prepareStatus (recorderOf r) ex body ≡ done → ⊥) → unlessRefused r ex body next ≡ r
-    next-refused n = rw (ne-eqb (prepareStatus (recorderOf r) ex body) done n)
-
-    -- what is left is within the bounds, where the next is
-    pub next-sound : sound r ≡ true → (prepareStatus (recorderOf r) ex body ≡ done → sound next ≡ true) → sound (unlessRefused r ex body next) ≡ true
-    next-sound s ok =
-        split (eqb (prepareStatus (recorderOf r) ex body) done)
-        (λ e. let taken : prepareStatus (recorderOf r) ex body ≡ done = eqb-true _ _ e in ap sound (next-taken taken) ∙ ok taken)
-        (λ f. ap sound (next-refused (eqb-false _ _ f)) ∙ s)
+  pub both-refused : (prepareStatus (recorderOf r) ex body ≡ done → ⊥) → bothNext r ex body ≡ r
+  unfolding bothNext
+  both-refused some = rw (ne-eqb (prepareStatus (recorderOf r) ex body) done some)
 
   module _ (taken : prepareStatus (recorderOf r) ex body ≡ done) where
+    pub both-taken : bothNext r ex body ≡ startedState (preparedState ex body)
+    unfolding bothNext
+    both-taken = rw (eq-eqb (prepareStatus (recorderOf r) ex body) done taken)
+
     -- accepted, the struct means the document's recorder
     pub prepared-means : recorderOf (preparedState ex body) ≡ recorderPrepared ex body
     prepared-means = ap (λ (p : Plan). planned p prepared) (accepted-means ex body (taken-body taken))
 
     pub both-mean : recorderOf (bothNext r ex body) ≡ recorderStarted (recorderPrepared ex body)
-    unfolding bothNext
-    both-mean = ap recorderOf (next-taken (startedState (preparedState ex body)) taken) ∙ ap (λ (p : Plan). planned p started) (accepted-means ex body (taken-body taken))
+    both-mean = ap recorderOf both-taken ∙ ap (λ (p : Plan). planned p started) (accepted-means ex body (taken-body taken))
 
     -- and is within the bounds: the threshold's bytes hold a number of its size
     pub prepared-sound : (planIn ex body .trigger .size ≤ 4 → planIn ex body .trigger .threshold < 2 ^ (8 * planIn ex body .trigger .size))

@@ -19,10 +19,6 @@ prepareStatus r ex body = cond (isRunning r) busy (bodyStatus ex body)
 abbrev pub preparedState : Bool → List ℕ → RecorderState
 preparedState ex body = record { ready = 1; plan = planRead ex body; run = runKept prepared }
 
--- "The memory, scope and recorder keep their values.": what is left of a recorder, by whether it is refused
-abbrev pub unlessRefused : RecorderState → Bool → List ℕ → RecorderState → RecorderState
-unlessRefused r ex body next = cond (eqb (prepareStatus (recorderOf r) ex body) done) next r
-
--- "the two in a row" (2026-06)
+-- "the two in a row" (2026-06); refused, "The memory, scope and recorder keep their values."
 unfoldable pub bothNext : RecorderState → Bool → List ℕ → RecorderState
-bothNext r ex body = unlessRefused r ex body (startedState (preparedState ex body))
+bothNext r ex body = cond (eqb (prepareStatus (recorderOf r) ex body) done) (startedState (preparedState ex body)) r

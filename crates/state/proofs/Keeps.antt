@@ -8,7 +8,7 @@ use borrow.Author.Tests.{eqb-true}
 use lib.Dec.{eqb}
 use lib.ListN.{length, take, drop, length-append, length-drop}
 use Rattle.document.specs.Numbers.{mostData, done}
-use Rattle.document.specs.Areas.{memoryEnd, bytesAt}
+use Rattle.document.specs.Areas.{bytesAt}
 use Rattle.document.specs.Bytes.{AllBytes}
 use Rattle.document.specs.Stores.{stored}
 use Rattle.document.specs.Variables.{addressWidth}
@@ -40,7 +40,7 @@ use Rattle.application.proofs.Means.{fresh-sound, sent-sound, collected-sound, 
 use Rattle.state.specs.State.{Target}
 use Rattle.state.specs.Bounds.{sound, freshWith}
 use Rattle.state.specs.Widths.{TargetFits}
-use Rattle.state.specs.Within.{ScopeWithin, RecorderWithin, CommandWithin, TablesWithin, MemoryWithin, LinkWithin, Within}
+use Rattle.state.specs.Within.{ScopeWithin, RecorderWithin, CommandWithin, TablesWithin, MemoryWithin, Within}
 use Rattle.state.proofs.Parts.{whole-of}
 use Rattle.state.proofs.ByteLaws.{take-short, all-sets, all-take, all-range, all-values, all-zeros, number-below, all-append, all-drop}
 use Rattle.state.proofs.Fits.{scope-fit, prepared-fit, started-fit, halted-fit, ticked-fit, kept-fit, no-recorder-fit}

@@ -1,9 +1,10 @@
-// An accepted setup, stored where scope and recorder lie. A message's data stand in the same block, in front of all that is stored; the
-// panel's are lent beside it.
+// An accepted setup, stored where scope and recorder lie. Its data stand in the same block, in front of all that is stored.
 mod parts;
 mod recording;
 mod scoping;
 
-pub use recording::store_given;
+pub use parts::enclose;
+pub use recording::prepare_run;
+pub use recording::store_numbers;
 pub use recording::store_prepared;
 pub use scoping::store_scope;

@@ -1,7 +1,6 @@
 // A part of a setup's data, a count and the definitions behind it, stored as the block has them: every address in four bytes, and zeros
 // behind the last of up to eight.
 ghost use mathlib.Core.Path.{_≡_};
-ghost use mathlib.Core.Bool.{false};
 ghost use Prim.Native.Nat.{_+_, _-_, _*_, _≤_};
 ghost use lib.ListN.{length, set, drop, replicate};
 ghost use lib.Seq.{sets};
@@ -36,7 +35,7 @@ fn store_definitions(block: &mut [u8], at: usize, from: usize, n: usize, ex: boo
 }
 
 // The count in front of the definitions, and zeros behind them.
-fn enclose(block: &mut [u8], at: usize, count: u8)
+pub fn enclose(block: &mut [u8], at: usize, count: u8)
     requires { ⌜ (count ≤ 8) × (at + variablesLength ≤ length (now block)) ⌝ }
     ensures { λ _. ⌜ now (block .exit) ≡ sets (set (now (block .entry)) at count) (at + 1 + count * 5) (replicate ((8 - count) * 5) 0) ⌝ }
 {
@@ -52,32 +51,5 @@ pub(crate) fn store_variables(block: &mut [u8], at: usize, from: usize, ex: bool
     let count = block[from];
     let n = usize_of_u8(count);
     store_definitions(block, at + 1, from + 1, n, ex);
-    enclose(block, at, count);
-}
-
-// The panel's part is lent beside the block, with addresses of two bytes.
-fn give_definitions(block: &mut [u8], at: usize, part: &[u8], n: usize)
-    requires { ⌜ (1 + n * definitionWidth false ≤ length (now part)) × (at + n * 5 ≤ length (now block)) ⌝ }
-    ensures { λ _. ⌜ now (block .exit) ≡ sets (now (block .entry)) at (encodedDefinitions (definitionsIn false n (drop 1 (now (part .entry))))) ⌝ }
-{
-    let mut read = 1;
-    let mut write = at;
-    let mut k = 0;
-    while k < n {
-        let address = number_at(part, read + 1, 2);
-        block[write] = part[read];
-        put_long(block, write + 1, address);
-        read += 3;
-        write += 5;
-        k += 1;
-    }
-}
-
-pub(crate) fn give_variables(block: &mut [u8], at: usize, part: &[u8])
-    requires { ⌜ (countIn (now part) ≤ 8) × (lengthGiven false (now part) ≤ length (now part)) × (at + variablesLength ≤ length (now block)) ⌝ }
-    ensures { λ _. ⌜ now (block .exit) ≡ sets (now (block .entry)) at (encodedVariables (kept (variablesIn false (now (part .entry))))) ⌝ }
-{
-    let count = part[0];
-    give_definitions(block, at + 1, part, usize_of_u8(count));
     enclose(block, at, count);
 }

@@ -1,6 +1,5 @@
 // A recorder prepared: the plan of an accepted setup, and a run that has taken no set.
 ghost use mathlib.Core.Path.{_≡_};
-ghost use mathlib.Core.Bool.{false};
 ghost use Prim.Native.Nat.{_≤_};
 ghost use lib.ListN.{length, set};
 ghost use lib.Seq.{sets};
@@ -12,7 +11,6 @@ ghost use Rattle.recorder.specs.Preparing.{preparedState};
 ghost use Rattle.state.specs.State.{withRecorder};
 ghost use Rattle.blocks.specs.Layout.{dataTo, decodedInstruments, encodedInstruments, encodedNumbers, encodedRun};
 ghost use Rattle.blocks.specs.Places.{bodyPlace, scopePlace, recorderPlace, planPlace, runPlace, stateLength};
-use crate::parts::give_variables;
 use crate::parts::store_variables;
 use blocks::BODY;
 use blocks::READY;
@@ -25,7 +23,7 @@ use plans::Plan;
 use setups::read_plan;
 
 // The plan without its variables, from now on the one that is set up.
-fn store_numbers(block: &mut [u8], plan: Plan)
+pub fn store_numbers(block: &mut [u8], plan: Plan)
     requires { ⌜ stateLength ≤ length (now block) ⌝ }
     ensures { λ _. ⌜ now (block .exit) ≡ sets (set (now (block .entry)) recorderPlace 1) planPlace (encodedNumbers plan) ⌝ }
 {
@@ -33,7 +31,7 @@ fn store_numbers(block: &mut [u8], plan: Plan)
     put_numbers(block, plan);
 }
 
-fn prepare_run(block: &mut [u8])
+pub fn prepare_run(block: &mut [u8])
     requires { ⌜ stateLength ≤ length (now block) ⌝ }
     ensures { λ _. ⌜ now (block .exit) ≡ sets (now (block .entry)) runPlace (encodedRun (runKept prepared)) ⌝ }
 {
@@ -51,16 +49,5 @@ pub fn store_prepared(block: &mut [u8], ex: bool, to: usize)
     let from = BODY + 13 + address_width(ex);
     store_numbers(block, plan);
     store_variables(block, RECORDED, from, ex);
-    prepare_run(block);
-}
-
-// The panel's data are lent beside the block.
-pub fn store_given(block: &mut [u8], setup: &[u8])
-    requires { ⌜ (stateLength ≤ length (now block)) × (bodyStatus false (now setup) ≡ done) ⌝ }
-    ensures { λ _. ⌜ now (block .exit) ≡ sets (now (block .entry)) scopePlace (encodedInstruments (withRecorder (decodedInstruments (now (block .entry))) (preparedState false (now (setup .entry))))) ⌝ }
-{
-    let plan = read_plan(false, setup);
-    store_numbers(block, plan);
-    give_variables(block, RECORDED, &setup[15..]);
     prepare_run(block);
 }

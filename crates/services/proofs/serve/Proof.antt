@@ -183,8 +183,8 @@ returns-4 c =
 enum-told-9 : tie.Need-enum-told-9
 enum-told-9 c = search needs
 
-set-up-recorder-requires : tie.Need-set-up-recorder-requires
-set-up-recorder-requires c κs = search needs
+prepare-and-start-requires : tie.Need-prepare-and-start-requires
+prepare-and-start-requires c κs = search needs
 
 enum-told-10 : tie.Need-enum-told-10
 enum-told-10 c = search needs
@@ -392,7 +392,7 @@ serve-spec =
     same-length-8
     returns-4
     enum-told-9
-    set-up-recorder-requires
+    prepare-and-start-requires
     enum-told-10
     start-requires
     enum-told-11

@@ -16,9 +16,9 @@ use Rattle.setups.proofs.SetUps.{Accepted, accepted, tail-part}
 use Rattle.recorder.specs.Preparing.{preparedState}
 use Rattle.blocks.specs.Layout.{encodedNumbers, encodedVariables, encodedRun}
 use Rattle.blocks.specs.Places.{recorderPlace, planPlace, recordedPlace, runPlace}
 use Rattle.storing.proofs.Joined.{prepared-put}
-use Rattle.storing.proofs.recording.store_given.Statement.{statement}
-use Rattle.storing.proofs.recording.store_given.Tie as tie
+use Rattle.giving.proofs.store_given.Statement.{statement}
+use Rattle.giving.proofs.store_given.Tie as tie
 
 module _ (s : tie.Start) where
   abbrev told : List ℕ

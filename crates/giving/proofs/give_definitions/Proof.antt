@@ -5,14 +5,14 @@ use mathlib.Core.List.{List}
 use Prim.Native.Nat.{ℕ, _+_, _-_, _*_, _≤_}
 use native.Mathlib.Nat.{sub-zero}
 use native.Mathlib.Omega.{arith}
-use lib.ListN.{length, getD, drop, length-set}
+use lib.ListN.{length, drop, length-set}
 use lib.Seq.{sets}
 use borrow.Author.Needs.{needs}
 use Rattle.document.specs.Variables.{definitionWidth, definitionsIn}
 use Rattle.blocks.specs.Layout.{encodedDefinitions}
 use Rattle.storing.proofs.Turns.{left-one, definition-stored}
-use Rattle.storing.proofs.parts.give_definitions.Statement.{statement}
-use Rattle.storing.proofs.parts.give_definitions.Tie as tie
+use Rattle.giving.proofs.give_definitions.Statement.{statement}
+use Rattle.giving.proofs.give_definitions.Tie as tie
 
 abbrev Inv-loop : tie.InvT-loop
 Inv-loop block₀ at part n read₀ write₀ k₀ block read write k = (k ≤ n) × (length block ≡ length block₀) × (read + (n - k) * definitionWidth false ≤ length part) × (write + (n - k) * 5 ≤ length block₀) × (sets block write (encodedDefinitions (definitionsIn false (n - k) (drop read part))) ≡ sets block₀ at (encodedDefinitions (definitionsIn false n (drop 1 part))))

@@ -1,16 +1,15 @@
 -- The definitions, the count in front of them, and zeros behind them.
 use mathlib.Core.Path.{refl, _∙_}
 use mathlib.Core.Bool.{false}
-use mathlib.Core.List.{List}
 use Prim.Native.Nat.{ℕ, _+_, _-_, _*_}
 use lib.ListN.{getD, set, drop, replicate}
 use lib.Seq.{sets}
 use borrow.Author.Needs.{needs}
 use Rattle.document.specs.Variables.{definitionsIn}
 use Rattle.blocks.specs.Layout.{encodedDefinitions}
 use Rattle.storing.proofs.Padded.{part-stored}
-use Rattle.storing.proofs.parts.give_variables.Statement.{statement}
-use Rattle.storing.proofs.parts.give_variables.Tie as tie
+use Rattle.giving.proofs.give_variables.Statement.{statement}
+use Rattle.giving.proofs.give_variables.Tie as tie
 
 shared-slice-read-count : tie.Need-shared-slice-read-count
 shared-slice-read-count c = search needs
