@@ -1,0 +1,3 @@
+-- A preparing and a start, refused and taken.
+pub mod Told
+pub mod Calls
