@@ -1,4 +1,4 @@
 -- The laws, lowest first.
-pub mod Ahead
-pub mod Over
-pub mod Passed
+pub mod Further
+pub mod Ends
+pub mod Promised

@@ -1,2 +1,3 @@
--- What a block promises.
+-- How far a block has been taken, and what it promises.
+pub mod Going
 pub mod Promises

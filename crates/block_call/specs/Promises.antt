@@ -6,14 +6,10 @@ use Prim.Native.Nat.{ℕ}
 use lib.Dec.{eqb}
 use lib.Seq.{sets}
 use Rattle.document.specs.Numbers.{taken}
-use Rattle.target.specs.Walk.{Walk, begun, walked}
-use Rattle.blocks.specs.Layout.{decoded, encoded}
+use Rattle.blocks.specs.Layout.{encoded}
 use Rattle.checks.specs.Promises.{byteNumber}
 use Rattle.block_call.specs.declared.BlockTaken.{BlockTaken as Result}
-
--- the bytes given singly, while there is room
-abbrev pub walk : List ℕ → List ℕ → List ℕ → List ℕ → Walk
-walk block bytes memory buffer = walked (begun (decoded block) memory buffer) bytes
+use Rattle.block_call.specs.Going.{walk}
 
 pub record BlockDone (block bytes memory buffer : List ℕ) (r : Result) (after left told : List ℕ) : Type 0 where
   pub result :

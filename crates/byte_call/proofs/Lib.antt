@@ -1,4 +1,5 @@
 -- What the block holds behind a byte.
 pub mod Stores
 pub mod Framed
+pub mod Answered
 pub mod Turns

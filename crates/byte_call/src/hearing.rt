@@ -1,25 +1,19 @@
-// A byte of the line in the block: the receiver takes it, and a whole message is answered.
+// A byte of the line in the block: the receiver takes it.
 ghost use mathlib.Core.Path.{_≡_};
-ghost use mathlib.Core.Bool.{true};
 ghost use Prim.Native.Nat.{_≤_};
 ghost use lib.ListN.{length};
 ghost use lib.Seq.{sets};
-ghost use Rattle.document.specs.Numbers.{answerRoom};
-ghost use Rattle.document.specs.Areas.{memoryEnd};
 ghost use Rattle.link.specs.Step.{stepped};
-ghost use Rattle.scope.specs.State as scope;
 ghost use Rattle.blocks.specs.Places.{stateLength};
-ghost use Rattle.blocks.specs.Layout.{decoded, decodedReceiver, decodedScope, encoded};
+ghost use Rattle.blocks.specs.Layout.{decoded, decodedReceiver, encoded};
 ghost use Rattle.target.specs.Turn.{hearing};
-ghost use Rattle.byte_call.specs.Heard.{heardOf, answeredBy, isFramed};
-ghost use Rattle.byte_call.specs.Promises.{Turned};
+ghost use Rattle.byte_call.specs.Heard.{heardOf};
 use block_fields::put_byte;
 use blocks::BODY;
 use blocks::put_receiver;
 use blocks::receiver_in;
 use link::Event;
 use operations::Whole;
-use operations::respond;
 use widths::usize_of_u8;
 
 // What a byte brought: nothing to answer, or a whole message.
@@ -53,16 +47,5 @@ pub fn hear(state: &mut [u8], byte: u8) -> Heard
             length,
             sum,
         }),
-    }
-}
-
-// The state has heard the byte; without a message nothing more is done.
-pub fn answered(heard: Heard, state: &mut [u8], memory: &mut [u8], answer: &mut [u8]) -> usize
-    requires { ⌜ (isFramed heard ≡ true) × (stateLength ≤ length (now state)) × (length (now memory) ≡ memoryEnd) × (scope.sound (decodedScope (now state)) ≡ true) × (answerRoom ≤ length (now answer)) ⌝ }
-    ensures { λ r. ⌜ Turned (answeredBy (decoded (now (state .entry))) heard (now (memory .entry)) (now (answer .entry))) (now (state .entry)) r (now (state .exit)) (now (memory .exit)) (now (answer .exit)) ⌝ }
-{
-    match heard {
-        Heard::Quiet => 0,
-        Heard::Message(whole) => respond(whole, state, memory, answer),
     }
 }

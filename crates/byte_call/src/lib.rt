@@ -5,8 +5,8 @@ ghost use Rattle.byte_call.specs.Promises.{ByteTaken};
 use checks::byte_refusal;
 use codes::TAKEN;
 pub use hearing::Heard;
-pub use hearing::answered;
 pub use hearing::hear;
+use operations::respond;
 
 // The number with which a byte is refused, or 0, and how many bytes of the lent buffer are its answer.
 #[repr(C)]
@@ -23,9 +23,17 @@ pub fn byte(state: &mut [u8], byte: u8, memory: &mut [u8], answer: &mut [u8]) ->
         return Taken { refusal, length: 0 };
     }
     let heard = hear(state, byte);
-    let length = answered(heard, state, memory, answer);
-    Taken {
-        refusal: TAKEN,
-        length,
+    match heard {
+        Heard::Quiet => Taken {
+            refusal: TAKEN,
+            length: 0,
+        },
+        Heard::Message(whole) => {
+            let length = respond(whole, state, memory, answer);
+            Taken {
+                refusal: TAKEN,
+                length,
+            }
+        }
     }
 }

@@ -2,3 +2,4 @@
 pub mod Numbers
 pub mod ApplicationNumbers
 pub mod Settled
+pub mod Lent

@@ -1,7 +1,7 @@
 -- Application commands along a run: what is handed out, and what is said while one is pending.
 use mathlib.Core.Path.{_≡_, refl, sym, ap, subst, _∙_}
 use mathlib.Core.Bool.{true}
-use mathlib.Core.List.{List, [], _∷_, _++_, map, map-append, append-nil, append-assoc}
+use mathlib.Core.List.{List, [], _∷_, _++_, append-nil, append-assoc}
 use Prim.Native.Nat.{ℕ, _<_}
 use Rattle.document.specs.Message.{Message, finishedBy}
 use Rattle.document.specs.Answer.{Answer, answerOnWire}
@@ -14,6 +14,8 @@ use Rattle.document.specs.Asides.{Aside}
 use Rattle.document.specs.Asides.Aside.{tick, writes, collects, reports}
 use Rattle.document.specs.Happenings.{Happening, Since, told, after, afterAll}
 use Rattle.document.specs.Happenings.Happening.{byte, aside}
+use Rattle.document.specs.Blocks.{answersOnWire}
+use Rattle.happenings.proofs.Blocks.{wire-one}
 use Rattle.recorder.specs.State.{recorderOf}
 use Rattle.application.specs.State.{Command}
 use Rattle.state.specs.State.{Target}
@@ -23,8 +25,8 @@ use Rattle.happenings.specs.Bytes.{BesideIsBytes, IsBytes, AreBytes}
 use Rattle.happenings.specs.Applying.{sends, waitingIn, handedBeside, handedAt, handedOut, AllUnreported}
 use Rattle.happenings.proofs.Applying.{application-after, between}
 use Rattle.demands.specs.House.{House, gateIn}
-use Rattle.demands.specs.Run.{Beside, Step, Run}
-use Rattle.demands.specs.Run.Run.{ends, happens, refuses}
+use Rattle.demands.specs.Run.{Beside, Step, Singly}
+use Rattle.demands.specs.Run.Singly.{ends, happens, refuses}
 use Rattle.demands.specs.Stands.{Stands}
 use Rattle.demands.specs.Applying.{OnlySaid}
 use Rattle.demands.proofs.Served.{refused-kept, step-byte, step-tick, step-collect, step-report}
@@ -49,7 +51,7 @@ module _ (h : House) (s : Since) (r : Reached h s) where
       ap (λ (q : House). q .commands) (step-byte h (r .long) (r .within) b small next (step .0) (step .1) (step .2)) ∙ sym (append-nil (h .commands))
   step-hands (aside a) next are step = beside-hands a next step
 
-pub run-hands : (h last : House) (hs : List Happening) → Run h hs last → (s : Since) → AreBytes hs → Reached h s
+pub run-hands : (h last : House) (hs : List Happening) → Singly h hs last → (s : Since) → AreBytes hs → Reached h s
     → last .commands ≡ h .commands ++ handedOut s hs
 run-hands h last hs (ends _) s are r = sym (append-nil (h .commands))
 run-hands h last hs (happens _ next _ e es step run) s are r =
@@ -71,18 +73,18 @@ module _ (h last : House) (s : Since) (now : Stands h s) (b : ℕ) (end : Stands
   gate-then : gateIn last ≡ answered (s .gate) m .gate
   gate-then = end .gate ∙ ap (λ (ms : List Message). told grown ms .gate) finished
 
-  answers-then : last .answers ≡ h .answers ++ (answerOnWire (answered (s .gate) m .answer) ∷ [])
+  answers-then : last .answers ≡ h .answers ++ answerOnWire (answered (s .gate) m .answer)
   answers-then =
       end .answers
-      ∙ ap (λ (ms : List Message). map answerOnWire (told grown ms .answers)) finished
-      ∙ map-append answerOnWire (s .answers) (answered (s .gate) m .answer ∷ [])
-      ∙ ap (λ (l : List (List ℕ)). l ++ (answerOnWire (answered (s .gate) m .answer) ∷ [])) (sym (now .answers))
+      ∙ ap (λ (ms : List Message). answersOnWire (told grown ms .answers)) finished
+      ∙ wire-one (s .answers) (answered (s .gate) m .answer)
+      ∙ ap (λ (l : List ℕ). l ++ answerOnWire (answered (s .gate) m .answer)) (sym (now .answers))
 
   pub only-said : (status : ℕ) (body : List ℕ) → answered (gateIn h) m ≡ says (gateIn h) status body → OnlySaid (record { status = status; body = body }) h last
   only-said status body is =
       let so : answered (s .gate) m ≡ says (gateIn h) status body = ap (λ (g : Gate). answered g m) (sym (now .gate)) ∙ is in
       record {
-        answers = answers-then ∙ ap (λ (o : Outcome). h .answers ++ (answerOnWire (o .answer) ∷ [])) so;
+        answers = answers-then ∙ ap (λ (o : Outcome). h .answers ++ answerOnWire (o .answer)) so;
         gate = gate-then ∙ ap (λ (o : Outcome). o .gate) so;
       }
 

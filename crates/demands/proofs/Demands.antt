@@ -1,17 +1,19 @@
 -- The three demands and the recorder's history, proved of the calls that are linked into the gate.
 --
--- A run is any list of things that happen since reset: a byte comes over the port and `log_gate_byte` is called, the gate ticks and
--- `log_gate_tick` is called, the gate's own program writes its memory, or it calls `log_gate_collect` and `log_gate_report`; and refused
--- calls anywhere among them. Of a call only its promise is known (`byte_call.Promises.ByteTaken`, `tick_call.Promises.TickTaken`,
+-- A run is any list of things that happen since reset: a byte comes over the port and `log_gate_byte` is called, or a block of them and
+-- `log_gate_block` is, the gate ticks and `log_gate_tick` is called, the gate's own program writes its memory, or it calls
+-- `log_gate_collect` and `log_gate_report`; and refused calls anywhere among them. Of a call only its promise is known
+-- (`byte_call.Promises.ByteTaken`, `block_call.Promises.BlockDone`, `tick_call.Promises.TickTaken`,
 -- `application_calls.Promises.CollectDone` and `ReportDone`), and that promise is the contract that the prover holds the compiled
 -- function to. What the calls are compared with is document 01 and the requests as definitions (`document`), never a program.
 use mathlib.Core.Path.{_≡_, refl, sym, ap, subst, _∙_}
 use mathlib.Core.Bool.{true, false}
 use mathlib.Core.List.{List, [], _∷_, _++_}
-use Prim.Native.Nat.{ℕ, suc, _*_, _<_, _≤_}
+use Prim.Native.Nat.{ℕ, suc, _-_, _*_, _<_, _≤_}
 use lib.Dec.{ltb}
 use lib.ListN.{length, drop}
 use Rattle.document.specs.Numbers.{mostData, answerRoom, taken, done, busy, sumWrong}
+use Rattle.document.specs.Bytes.{AllBytes}
 use Rattle.document.specs.Message.{Message, sumRight, wellFormed, onWire, finishedBy}
 use Rattle.document.specs.Answer.{Answer}
 use Rattle.document.specs.AnswerWriter.{answerRefusal}
@@ -45,6 +47,7 @@ use Rattle.blocks.specs.Places.{stateLength}
 use Rattle.blocks.specs.Layout.{decoded}
 use Rattle.checks.specs.Promises.{ResetDone, Checked}
 use Rattle.happenings.specs.Applying.{sends, sentOf, waitingIn, unrefusedSoFar, AllUnreported}
+use Rattle.happenings.proofs.Blocks.{block-stops}
 use Rattle.happenings.proofs.Tables.{tables-kept}
 use Rattle.happenings.proofs.Applying.{while-pending, between, handed-out-from-reset}
 use Rattle.tick_call.specs.Promises.{TickTaken}
@@ -52,13 +55,15 @@ use Rattle.application_calls.specs.Promises.{CollectDone, ReportDone}
 use Rattle.registering.specs.Promises.{RegisterDone}
 use Rattle.byte_call.specs.declared.Taken.{Taken}
 use Rattle.byte_call.specs.Promises.{ByteTaken}
+use Rattle.block_call.specs.declared.BlockTaken.{BlockTaken}
+use Rattle.block_call.specs.Promises.{BlockDone}
 use Rattle.reader.specs.declared.calls.ReadByte.{ReadByte}
 use Rattle.reader.specs.Promises.{BeginDone, ReadDone}
 use Rattle.demands.specs.House.{House, gateIn}
 use Rattle.demands.specs.Lent.{lends}
-use Rattle.demands.specs.Run.{ByByte, Reset, Step, Refused, Run, Ready}
-use Rattle.demands.specs.Refused.{ResetRefused, CheckRefused, ByteRefused, TickRefused, CollectRefused, ReportRefused, RegisterRefused, WriteRefused, BeginRefused, ReadRefused, WireRefused}
-use Rattle.demands.specs.Sent.{Sent}
+use Rattle.demands.specs.Run.{ByByte, ByBlock, Reset, Step, Refused, Singly, came, Run, Ready}
+use Rattle.demands.specs.Refused.{ResetRefused, CheckRefused, ByteRefused, BlockRefused, TickRefused, CollectRefused, ReportRefused, RegisterRefused, WriteRefused, BeginRefused, ReadRefused, WireRefused}
+use Rattle.demands.specs.Sent.{Sent, BlockStands}
 use Rattle.demands.specs.Stands.{blank, Stands}
 use Rattle.demands.specs.Fresh.{AnsweredFresh, NothingByHalf}
 use Rattle.demands.specs.Recorded.{Recorded}
@@ -68,7 +73,9 @@ use Rattle.demands.proofs.Refused as calls
 use Rattle.demands.proofs.EndsRefused as both-ends
 use Rattle.demands.proofs.Served.{refused-kept, ready, room-lent, told-byte}
 use Rattle.demands.proofs.Turns.{turn-stands}
-use Rattle.demands.proofs.Runs.{Reached, reached-begun, reached-step, reached-run, bytes-on, plan-fits, collect-only, report-only}
+use Rattle.demands.proofs.Runs.{Reached, reached-begun, reached-step, bytes-on, plan-fits, collect-only, report-only}
+use Rattle.demands.proofs.Blocks as blocks
+use Rattle.demands.proofs.Blocks.{singly, reached-run}
 use Rattle.demands.proofs.Fresh.{answered-fresh, by-half}
 use Rattle.demands.proofs.Recorded.{recorded}
 use Rattle.demands.specs.Applying.{OnlyCommand, OnlySaid}
@@ -91,6 +98,10 @@ demand-1-check = calls.check-refused
 pub demand-1-byte : (block : List ℕ) (b : ℕ) (memory buffer : List ℕ) (r : Taken) (after left told : List ℕ)
     → ByteTaken block b memory buffer r after left told → ByteRefused block memory buffer r after left told
 demand-1-byte = calls.byte-refused
+
+pub demand-1-block : (block bytes memory buffer : List ℕ) (r : BlockTaken) (after left told : List ℕ)
+    → BlockDone block bytes memory buffer r after left told → BlockRefused block memory buffer r after left told
+demand-1-block = calls.block-refused
 
 pub demand-1-tick : (block memory : List ℕ) (r : ℕ) (after left : List ℕ) → TickTaken block memory r after left → TickRefused block memory r after left
 demand-1-tick = calls.tick-refused
@@ -173,6 +184,25 @@ module _ (block memory : List ℕ) (tables : List Table) (after : List ℕ) (lon
   -- "The gate registers up to 16 tables at reset": as registered they stay, whatever happens (2026-03)
   pub tables-stay : gateIn h .tables ≡ tables
   tables-stay = ap (λ (g : Gate). g .tables) (there .stands .gate) ∙ tables-kept first (since (gate tables memory))
+
+  -- ---- a block at once (2026-05)
+
+  module _ (bytes : List ℕ) (all : AllBytes bytes) (next : House) (call : ByBlock h bytes next) (fine : call .result .refusal ≡ taken) (whole : lends (h .block) (call .state) ≡ h .block) where
+    -- "State, memory and answers equal those of giving the same bytes singly.": the bytes that it takes, each given by a call of its
+    -- own, come to the same house
+    pub block-singly : Singly h (came (call .result .taken) bytes) next
+    block-singly = blocks.block-singly h reached there bytes all next call fine whole
+
+    -- "It takes bytes while 132 bytes of room are left, and no longer, and reports bytes taken and bytes written.": as the definition
+    -- has it, and every byte of the lent buffer is settled
+    pub demand-2-block : BlockStands (afterAll (since (gate tables memory)) first) bytes (call .buffer) (call .result) (call .told) next
+    demand-2-block = blocks.block-stands h reached there bytes all next call fine whole
+
+    -- it takes all of them, unless the room that is left is too short for another answer
+    pub block-takes-all : answerRoom ≤ length (call .buffer) - call .result .written → call .result .taken ≡ length bytes
+    block-takes-all enough =
+        let stood = blocks.block-stands h reached there bytes all next call fine whole in
+        stood .taken ∙ block-stops bytes reached (length (call .buffer)) (subst (λ (n : ℕ). answerRoom ≤ length (call .buffer) - n) (stood .written) enough)
 
   -- ---- Demand 3: "After any bytes since reset, with an even (or no) run of 0x2B just before, a start byte and a well-formed
   -- stuffed message get exactly the answer, and leave the memory, scope and recorder, that a freshly reset link would give over
@@ -267,7 +297,7 @@ module _ (block memory : List ℕ) (tables : List Table) (after : List ℕ) (lon
   -- order and each as it stood in its message
   pub commands-once : h .commands ++ waitingIn (gateIn h .application) ≡ sentOf (since (gate tables memory)) first
   commands-once =
-      (λ j. run-hands _ h first run (since (gate tables memory)) are (reached-begun block memory long lent tables after reset) j ++ waitingIn (there .stands .gate j .application))
+      (λ j. run-hands _ h first (singly _ h first run (since (gate tables memory)) are (reached-begun block memory long lent tables after reset)) (since (gate tables memory)) are (reached-begun block memory long lent tables after reset) j ++ waitingIn (there .stands .gate j .application))
       ∙ sym (handed-out-from-reset first tables memory)
 
   -- a collection and a report touch nothing but this state

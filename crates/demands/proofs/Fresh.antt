@@ -1,7 +1,7 @@
 -- A message behind whatever happened since reset, answered as a fresh link would; and nothing by half. `Demands` quotes the demand.
 use mathlib.Core.Path.{_≡_, sym, ap, _∙_}
 use mathlib.Core.Bool.{true, false}
-use mathlib.Core.List.{List, [], _∷_, _++_, map, map-append}
+use mathlib.Core.List.{List, [], _∷_, _++_}
 use Prim.Native.Nat.{ℕ}
 use Rattle.document.specs.Message.{Message, wellFormed, onWire}
 use Rattle.document.specs.Answer.{Answer, answerOnWire}
@@ -9,6 +9,8 @@ use Rattle.document.specs.Gate.{Gate}
 use Rattle.document.specs.Commands.{answered}
 use Rattle.document.specs.Happenings.{Happening, Since, after, afterAll}
 use Rattle.document.specs.Happenings.Happening.{byte}
+use Rattle.document.specs.Blocks.{answersOnWire}
+use Rattle.happenings.proofs.Blocks.{wire-one}
 use Rattle.link.specs.Runs.{oddRun}
 use Rattle.happenings.specs.Bytes.{Bytes, bytesOf, besideBytes}
 use Rattle.happenings.specs.Resync.{Resynchronised, ByHalf}
@@ -19,10 +21,9 @@ use Rattle.demands.specs.Fresh.{AnsweredFresh, NothingByHalf}
 use Rattle.demands.specs.Fresh.NothingByHalf.{nothing, whole}
 
 -- an answer more, in a house that stands for the definition
-one-more : (s : Since) (now : List (List ℕ)) → now ≡ map answerOnWire (s .answers) → (a b : Answer) → a ≡ b
-    → map answerOnWire (s .answers ++ (a ∷ [])) ≡ now ++ (answerOnWire b ∷ [])
-one-more s now stands a b e =
-    map-append answerOnWire (s .answers) (a ∷ []) ∙ (λ j. sym stands j ++ (answerOnWire (e j) ∷ []))
+one-more : (s : Since) (now : List ℕ) → now ≡ answersOnWire (s .answers) → (a b : Answer) → a ≡ b
+    → answersOnWire (s .answers ++ (a ∷ [])) ≡ now ++ answerOnWire b
+one-more s now stands a b e = wire-one (s .answers) a ∙ (λ j. sym stands j ++ answerOnWire (e j))
 
 -- a message behind a house that stands for the definition
 module _ (start before last : House) (s : Since) (hs : List Happening) (b : ℕ) (m : Message) (now : Stands start s)
@@ -30,11 +31,11 @@ module _ (start before last : House) (s : Since) (hs : List Happening) (b : ℕ)
   pub answered-fresh : Resynchronised s hs b m → AnsweredFresh start before last (afterAll s (besideBytes hs) .gate) m
   answered-fresh resync =
       record {
-        quiet = then .answers ∙ ap (map answerOnWire) (resync .quiet) ∙ sym (now .answers);
+        quiet = then .answers ∙ ap answersOnWire (resync .quiet) ∙ sym (now .answers);
         untouched = then .gate ∙ resync .untouched;
         told =
             end .answers
-            ∙ ap (map answerOnWire) (resync .told)
+            ∙ ap answersOnWire (resync .told)
             ∙ one-more s (start .answers) (now .answers) _ _ (ap (λ (g : Gate). answered g m .answer) (sym (then .gate)));
         left = end .gate ∙ resync .left ∙ ap (λ (g : Gate). answered g m .gate) (sym (then .gate));
       }
@@ -47,11 +48,11 @@ module _ (h last : House) (s : Since) (b : ℕ) (now : Stands h s) (end : Stands
       by : ByHalf s b → NothingByHalf h last (s .bytes ++ (b ∷ []))
       by (ByHalf.nothing quiet same) =
           nothing
-          (end .answers ∙ ap (map answerOnWire) quiet ∙ sym (now .answers))
+          (end .answers ∙ ap answersOnWire quiet ∙ sym (now .answers))
           (end .gate ∙ same ∙ sym (now .gate))
       by (ByHalf.whole m ends told left) =
           whole m ends
           (end .answers
-          ∙ ap (map answerOnWire) told
+          ∙ ap answersOnWire told
           ∙ one-more s (h .answers) (now .answers) _ _ (ap (λ (g : Gate). answered g m .answer) (sym (now .gate))))
           (end .gate ∙ left ∙ ap (λ (g : Gate). answered g m .gate) (sym (now .gate)))

@@ -7,9 +7,11 @@ pub mod Lends
 pub mod Served
 pub mod Turns
 pub mod Runs
+pub mod Walks
 pub mod Fresh
 pub mod Recorded
 pub mod Recorder
 pub mod Applying
+pub mod Blocks
 pub mod Readings
 pub mod Demands

@@ -12,6 +12,8 @@ use Rattle.application_calls.specs.Promises.{CollectDone, ReportDone}
 use Rattle.registering.specs.Promises.{RegisterDone}
 use Rattle.byte_call.specs.declared.Taken.{Taken}
 use Rattle.byte_call.specs.Promises.{ByteTaken}
+use Rattle.block_call.specs.declared.BlockTaken.{BlockTaken}
+use Rattle.block_call.specs.Promises.{BlockDone}
 use Rattle.reader.specs.declared.calls.ReadByte.{ReadByte}
 use Rattle.reader.specs.Promises.{BeginDone, ReadDone}
 
@@ -38,6 +40,12 @@ module _ (block : List ℕ) (b : ℕ) (memory buffer : List ℕ) (r s : Taken) (
   pub byte-one-outcome : ByteTaken block b memory buffer r x m c → ByteTaken block b memory buffer s y n d
       → (r ≡ s) × (x ≡ y) × (m ≡ n) × (c ≡ d)
   byte-one-outcome p q =
+      (p .result ∙ sym (q .result), p .state ∙ sym (q .state), p .memory-left ∙ sym (q .memory-left), p .buffer-told ∙ sym (q .buffer-told))
+
+module _ (block bytes memory buffer : List ℕ) (r s : BlockTaken) (x y m n c d : List ℕ) where
+  pub block-one-outcome : BlockDone block bytes memory buffer r x m c → BlockDone block bytes memory buffer s y n d
+      → (r ≡ s) × (x ≡ y) × (m ≡ n) × (c ≡ d)
+  block-one-outcome p q =
       (p .result ∙ sym (q .result), p .state ∙ sym (q .state), p .memory-left ∙ sym (q .memory-left), p .buffer-told ∙ sym (q .buffer-told))
 
 module _ (block buffer : List ℕ) (r s : Written) (x y c d : List ℕ) where

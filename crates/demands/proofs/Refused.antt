@@ -26,12 +26,16 @@ use Rattle.blocks.specs.Places.{stateLength}
 use Rattle.blocks.specs.Layout.{decodedApplication, decoded, encoded}
 use Rattle.checks.specs.Promises.{ResetDone, Checked, byteNumber, tickNumber, collectNumber, reportNumber}
 use Rattle.target.specs.Turn.{Turn, turn}
+use Rattle.target.specs.Walk.{Walk}
 use Rattle.tick_call.specs.Promises.{tickedTarget, TickTaken}
 use Rattle.application_calls.specs.Promises.{collectedTarget, reportedTarget, CollectDone, ReportDone}
 use Rattle.registering.specs.Promises.{registerNumber, RegisterDone}
 use Rattle.byte_call.specs.declared.Taken.{Taken}
 use Rattle.byte_call.specs.Promises.{ByteTaken}
-use Rattle.demands.specs.Refused.{ResetRefused, CheckRefused, ByteRefused, TickRefused, CollectRefused, ReportRefused, RegisterRefused, WireRefused}
+use Rattle.block_call.specs.declared.BlockTaken.{BlockTaken}
+use Rattle.block_call.specs.Going.{walk}
+use Rattle.block_call.specs.Promises.{BlockDone}
+use Rattle.demands.specs.Refused.{ResetRefused, CheckRefused, ByteRefused, BlockRefused, TickRefused, CollectRefused, ReportRefused, RegisterRefused, WireRefused}
 use Rattle.demands.proofs.Goes.{stays}
 
 -- ---- calls
@@ -56,6 +60,26 @@ reset-refused block r after promised =
 
 pub check-refused : (block : List ℕ) (r : ℕ) → Checked block r → CheckRefused block r
 check-refused block r promised = record { number = promised .result }
+
+module _ (block bytes memory buffer : List ℕ) (r : BlockTaken) (after left told : List ℕ) (promised : BlockDone block bytes memory buffer r after left told) where
+  pub block-refused : BlockRefused block memory buffer r after left told
+  block-refused =
+      let w : Walk = walk block bytes memory buffer in
+      let n : ℕ = byteNumber block memory buffer in
+      let given : BlockTaken = record { refusal = taken; taken = w .taken; written = w .written } in
+      let kept : BlockTaken = record { refusal = n; taken = 0; written = 0 } in
+      let number : r .refusal ≡ n = numbered (λ (x : BlockTaken). x .refusal) n r given kept refl refl (promised .result) in
+      record {
+        number = number;
+        unchanged = λ other.
+            let no : n ≡ taken → ⊥ = λ e. other (number ∙ e) in (
+              ap (λ (x : BlockTaken). x .taken) (stays n r given kept no (promised .result)),
+              ap (λ (x : BlockTaken). x .written) (stays n r given kept no (promised .result)),
+              stays n after (sets block 0 (encoded (w .next))) block no (promised .state),
+              stays n left (w .memory) memory no (promised .memory-left),
+              stays n told (w .buffer) buffer no (promised .buffer-told),
+            );
+      }
 
 module _ (block : List ℕ) (b : ℕ) (memory buffer : List ℕ) (r : Taken) (after left told : List ℕ) (promised : ByteTaken block b memory buffer r after left told) where
   pub byte-refused : ByteRefused block memory buffer r after left told

@@ -1,7 +1,7 @@
 -- What a run since reset comes to: a house within its bounds, standing for document 01.
 use mathlib.Core.Path.{_≡_, refl, sym, ap, subst, _∙_}
 use mathlib.Core.Bool.{true}
-use mathlib.Core.List.{List, [], _∷_, _++_, map, map-append, append-nil}
+use mathlib.Core.List.{List, [], _∷_, _++_}
 use Prim.Native.Nat.{ℕ, _<_, _≤_}
 use native.Mathlib.Omega.{arith}
 use borrow.Author.Tests.{le-leb, eq-eqb}
@@ -11,7 +11,6 @@ use lib.Seq.{sets, length-sets}
 use Rattle.document.specs.Bytes.{AllBytes}
 use Rattle.document.specs.Numbers.{answerRoom, taken}
 use Rattle.document.specs.Message.{Message, finishedBy}
-use Rattle.document.specs.Answer.{Answer, answerOnWire}
 use Rattle.document.specs.Stores.{stored}
 use Rattle.document.specs.Plan.{Plan}
 use Rattle.document.specs.Run.{Run as DocumentRun}
@@ -24,6 +23,7 @@ use Rattle.document.specs.Asides.{Aside, beside, tickedGate}
 use Rattle.document.specs.Asides.Aside.{tick, writes, collects, reports}
 use Rattle.document.specs.Happenings.{Happening, Since, told, after, afterAll, fromReset as since}
 use Rattle.document.specs.Happenings.Happening.{byte, aside}
+use Rattle.document.specs.Blocks.{answersOnWire}
 use Rattle.document.proofs.Cases.{split, neither}
 use Rattle.history.specs.History.{PlanFits}
 use Rattle.link.specs.Report.{sinceReset}
@@ -38,6 +38,7 @@ use Rattle.ticks.proofs.Ticked.{ticked-means}
 use Rattle.state.specs.State.{Target, gateOf}
 use Rattle.tables.specs.State.{Registered, noTables, tablesOf, registeredList}
 use Rattle.state.specs.Bounds.{freshWith}
+use Rattle.state.specs.Widths.{TargetFits}
 use Rattle.state.specs.Within.{CommandWithin, TablesWithin, MemoryWithin, Within}
 use Rattle.state.proofs.ByteLaws.{all-at, all-append}
 use Rattle.state.proofs.Keeps.{recorder-ticked, command-collected, command-ended, memory-stored, memory-ticked, within-fits, within-registered, no-tables}
@@ -48,18 +49,20 @@ use Rattle.registering.specs.Promises.{registerNumber}
 use Rattle.registering.proofs.Registered.{taken-good, registered-tables, registered-within}
 use Rattle.target.specs.Turn.{Turn, turn}
 use Rattle.target.proofs.Keeps.{byte-keeps}
+use Rattle.byte_call.proofs.Stores.{target-over}
 use Rattle.tick_call.specs.Promises.{tickedTarget}
 use Rattle.application_calls.specs.Promises.{withCommand}
 use Rattle.happenings.specs.Bytes.{Bytes, bytesOf, BesideIsBytes, IsBytes, AreBytes}
 use Rattle.happenings.proofs.Resync.{told-bytes}
+use Rattle.happenings.proofs.Blocks.{wire-append, answersTo, told-answers}
 use Rattle.demands.specs.House.{House, gateIn}
-use Rattle.demands.specs.Run.{Reset, Beside, Step, Run}
+use Rattle.demands.specs.Run.{Reset, Beside, Step, Singly}
 use Rattle.demands.specs.Run.Reset.{by-reset, by-registering}
-use Rattle.demands.specs.Run.Run.{ends, happens, refuses}
+use Rattle.demands.specs.Run.Singly.{ends, happens, refuses}
 use Rattle.demands.specs.Stands.{blank, linkIn, Stands}
 use Rattle.demands.specs.Applying.{OnlyCommand}
 use Rattle.demands.proofs.Served.{servedByte, servedTick, servedCollect, servedReport, refused-kept, room-lent, step-byte, step-tick, step-collect, step-report, report-fits}
-use Rattle.demands.proofs.Turns.{answersTo, gateAfter, TurnStands, turn-stands}
+use Rattle.demands.proofs.Turns.{gateAfter, TurnStands, turn-stands}
 
 -- ---- what comes over the line is bytes
 line-bytes : (hs : List Happening) → AreBytes hs → AllBytes (bytesOf hs)
@@ -73,6 +76,8 @@ pub record Reached (h : House) (s : Since) : Type 0 where
   pub within : Within (decoded (h .block)) (h .memory)
   pub stands : Stands h s
   pub bytes : AllBytes (s .bytes)
+  -- the block holds nothing but what its state is encoded as
+  pub stored : sets (h .block) 0 (encoded (decoded (h .block))) ≡ h .block
 
 -- the bytes since reset, and those that come
 pub bytes-on : (h : House) (s : Since) → Reached h s → (hs : List Happening) → AreBytes hs → Bytes (s .bytes ++ bytesOf hs)
@@ -82,12 +87,13 @@ bytes-on h s r hs are = all-at (s .bytes ++ bytesOf hs) (all-append (s .bytes) (
 still-long : (block : List ℕ) (t : Target) → stateLength ≤ length block → stateLength ≤ length (sets block 0 (encoded t))
 still-long block t long = omega (arith, long, length-sets block 0 (encoded t))
 
--- ---- a byte
+-- and is what it is encoded as
+still-stored : (block : List ℕ) (t : Target) → stateLength ≤ length block → TargetFits t
+    → sets (sets block 0 (encoded t)) 0 (encoded (decoded (sets block 0 (encoded t)))) ≡ sets block 0 (encoded t)
+still-stored block t long fits =
+    ap (λ (k : Target). sets (sets block 0 (encoded t)) 0 (encoded k)) (stored-decoded block t long fits) ∙ target-over block t t long fits fits
 
--- what is told is what stands behind the definition's answers
-told-answers : (s : Since) (ms : List Message) → told s ms .answers ≡ s .answers ++ answersTo (s .gate) ms
-told-answers s [] = sym (append-nil (s .answers))
-told-answers s (m ∷ ms) = refl
+-- ---- a byte
 
 told-gate : (s : Since) (ms : List Message) → told s ms .gate ≡ gateAfter (s .gate) ms
 told-gate s [] = refl
@@ -119,14 +125,15 @@ module _ (h : House) (s : Since) (r : Reached h s) where
                 gate = ap (λ (q : Target). gateOf (q .instruments) (u .memory)) there ∙ stood .gate ∙ sym (told-gate grown ms);
                 answers =
                     (λ j. r .stands .answers j ++ stood .answers j)
-                    ∙ sym (map-append answerOnWire (s .answers) (answersTo (s .gate) ms))
-                    ∙ ap (map answerOnWire) (sym (told-answers grown ms));
+                    ∙ sym (wire-append (s .answers) (answersTo (s .gate) ms))
+                    ∙ ap answersOnWire (sym (told-answers grown ms));
                 link-part =
                     ap linkIn there
                     ∙ stood .link-part
                     ∙ ap (λ (bs : List ℕ). sinceReset blank bs) (sym (told-bytes ms grown));
               };
           bytes = subst AllBytes (sym (told-bytes ms grown)) (all-append (s .bytes) (b ∷ []) (r .bytes) (small, tt));
+          stored = still-stored (h .block) (u .next) (r .long) (within-fits (u .next) (u .memory) keeps);
         }
 
   -- ---- what happens beside the bytes: the link is untouched, the bounds are kept, and the gate is what the definition makes of it
@@ -166,6 +173,7 @@ module _ (h : House) (s : Since) (r : Reached h s) where
               link-part = ap linkIn there ∙ r .stands .link-part;
             };
         bytes = r .bytes;
+        stored = still-stored (h .block) next (r .long) (within-fits next left keeps);
       }
 
   pub reached-write : (address : ℕ) (bytes : List ℕ) → AllBytes bytes
@@ -190,6 +198,7 @@ module _ (h : House) (s : Since) (r : Reached h s) where
               link-part = r .stands .link-part;
             };
         bytes = r .bytes;
+        stored = r .stored;
       }
 
   -- another application command in the block
@@ -231,6 +240,7 @@ module _ (h : House) (s : Since) (r : Reached h s) where
               link-part = ap linkIn there ∙ r .stands .link-part;
             };
         bytes = r .bytes;
+        stored = still-stored (h .block) next (r .long) (within-fits next (h .memory) (command-keeps c within));
       }
 
   only-command : (c : Command) (next : House) (commands : List (List ℕ)) → CommandWithin c
@@ -303,12 +313,12 @@ module _ (h : House) (s : Since) (r : Reached h s) where
       (reached-byte b small (call .buffer) (room-lent h (r .long) (r .within) b small next call (step .1) (step .2)))
   reached-step (aside a) next are step = reached-beside a next are step
 
-pub reached-run : (h last : House) (hs : List Happening) → Run h hs last → (s : Since) → AreBytes hs → Reached h s → Reached last (afterAll s hs)
-reached-run h last hs (ends _) s are r = r
-reached-run h last hs (happens _ next _ e es step run) s are r =
-    reached-run next last es run (after s e) (are .1) (reached-step h s r e next (are .0) step)
-reached-run h last hs (refuses _ next _ _ refused run) s are r =
-    reached-run next last hs run s are (subst (λ (q : House). Reached q s) (sym (refused-kept h next refused)) r)
+pub reached-singly : (h last : House) (hs : List Happening) → Singly h hs last → (s : Since) → AreBytes hs → Reached h s → Reached last (afterAll s hs)
+reached-singly h last hs (ends _) s are r = r
+reached-singly h last hs (happens _ next _ e es step run) s are r =
+    reached-singly next last es run (after s e) (are .1) (reached-step h s r e next (are .0) step)
+reached-singly h last hs (refuses _ next _ _ refused run) s are r =
+    reached-singly next last hs run s are (subst (λ (q : House). Reached q s) (sym (refused-kept h next refused)) r)
 
 -- ---- since reset, or since a registering
 
@@ -330,6 +340,8 @@ module _ (block memory : List ℕ) (long : stateLength ≤ length block) (good :
               link-part = ap linkIn there;
             };
         bytes = tt;
+        stored =
+            subst (λ (l : List ℕ). sets l 0 (encoded (decoded l)) ≡ l) (sym stored-fresh) (still-stored block t long (within-fits t memory w));
       }
 
   pub reached-begun : (tables : List Table) (next : List ℕ) → Reset block memory tables next

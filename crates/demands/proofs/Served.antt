@@ -1,12 +1,11 @@
 -- One step of a run: a call that is taken leaves what its definition gives, with the buffer that it was lent; a call that is refused
 -- leaves all as it was.
 use mathlib.Core.Path.{_≡_, refl, sym, ap, subst, _∙_}
-use mathlib.Core.Bool.{Bool, true, cond}
+use mathlib.Core.Bool.{Bool, true}
 use mathlib.Core.List.{List, [], _∷_, _++_, append-nil}
 use Prim.Native.Nat.{ℕ, suc, _<_, _≤_}
 use native.Mathlib.Omega.{arith}
 use borrow.Author.Tests.{eq-eqb, ne-eqb, le-leb, le-ltb}
-use lib.Dec.{eqb}
 use lib.ListN.{length, take}
 use lib.Seq.{sets, length-sets}
 use Rattle.document.specs.Areas.{memoryEnd}
@@ -35,25 +34,34 @@ use Rattle.byte_call.specs.declared.Taken.{Taken}
 use Rattle.byte_call.specs.Promises.{ByteTaken}
 use Rattle.demands.specs.House.{House, gateIn}
 use Rattle.demands.specs.Lent.{Piece, lends, handedBack}
-use Rattle.demands.specs.Run.{handedOut, ByByte, ByTick, ByCollect, ByReport, ByRegister, Refused, Ready}
-use Rattle.demands.specs.Run.Refused.{refused-byte, refused-tick, refused-collect, refused-report, refused-register}
+use Rattle.demands.specs.Run.{handedOut, ByByte, ByBlock, ByTick, ByCollect, ByReport, ByRegister, Refused, Ready}
+use Rattle.demands.specs.Run.Refused.{refused-byte, refused-block, refused-tick, refused-collect, refused-report, refused-register}
 use Rattle.demands.proofs.Goes.{goes}
 use Rattle.demands.proofs.Lends.{lent-back, lent-whole, whole-back}
-use Rattle.demands.proofs.Refused.{byte-refused, tick-refused, collect-refused, report-refused, register-refused}
+use Rattle.demands.proofs.Refused.{byte-refused, block-refused, tick-refused, collect-refused, report-refused, register-refused}
 
 -- ---- refused
 
 back-as-was : (l : List ℕ) (p : Piece) (back : List ℕ) → back ≡ lends l p → handedBack l p back ≡ l
 back-as-was l p back e = ap (handedBack l p) e ∙ lent-back l p
 
+none-sent : (answers told : List ℕ) (n : ℕ) → n ≡ 0 → answers ++ take n told ≡ answers
+none-sent answers told n none = ap (λ (k : ℕ). answers ++ take k told) none ∙ append-nil answers
+
 byte-kept : (h next : House) (b : ℕ) (c : ByByte h b next) → (c .result .refusal ≡ taken → ⊥) → next ≡ h
 byte-kept h next b c other =
     let kept = byte-refused (lends (h .block) (c .state)) b (lends (h .memory) (c .memory)) (c .buffer) (c .result) (c .after) (c .left) (c .told) (c .promised) .unchanged other in
-    let none : handedOut (c .result .length) (c .told) ≡ [] = rw (kept .0) refl in
     let block : handedBack (h .block) (c .state) (c .after) ≡ h .block = back-as-was (h .block) (c .state) (c .after) (kept .1) in
     let memory : handedBack (h .memory) (c .memory) (c .left) ≡ h .memory = back-as-was (h .memory) (c .memory) (c .left) (kept .2) in
-    let answers : h .answers ++ handedOut (c .result .length) (c .told) ≡ h .answers =
-    ap (λ (l : List (List ℕ)). h .answers ++ l) none ∙ append-nil (h .answers) in
+    let answers : h .answers ++ take (c .result .length) (c .told) ≡ h .answers = none-sent (h .answers) (c .told) (c .result .length) (kept .0) in
+    c .house ∙ (λ j. record { block = block j; memory = memory j; answers = answers j; commands = h .commands })
+
+block-kept : (h next : House) (bytes : List ℕ) (c : ByBlock h bytes next) → (c .result .refusal ≡ taken → ⊥) → next ≡ h
+block-kept h next bytes c other =
+    let kept = block-refused (lends (h .block) (c .state)) bytes (lends (h .memory) (c .memory)) (c .buffer) (c .result) (c .after) (c .left) (c .told) (c .promised) .unchanged other in
+    let block : handedBack (h .block) (c .state) (c .after) ≡ h .block = back-as-was (h .block) (c .state) (c .after) (kept .2) in
+    let memory : handedBack (h .memory) (c .memory) (c .left) ≡ h .memory = back-as-was (h .memory) (c .memory) (c .left) (kept .3) in
+    let answers : h .answers ++ take (c .result .written) (c .told) ≡ h .answers = none-sent (h .answers) (c .told) (c .result .written) (kept .1) in
     c .house ∙ (λ j. record { block = block j; memory = memory j; answers = answers j; commands = h .commands })
 
 tick-kept : (h next : House) (c : ByTick h next) → (c .result ≡ taken → ⊥) → next ≡ h
@@ -86,6 +94,7 @@ register-kept h next list c other =
 
 pub refused-kept : (h next : House) → Refused h next → next ≡ h
 refused-kept h next (refused-byte b call other) = byte-kept h next b call other
+refused-kept h next (refused-block bytes call other) = block-kept h next bytes call other
 refused-kept h next (refused-tick call other) = tick-kept h next call other
 refused-kept h next (refused-collect call other) = collect-kept h next call other
 refused-kept h next (refused-report reported call other) = report-kept h next reported call other
@@ -93,9 +102,9 @@ refused-kept h next (refused-register list call other) = register-kept h next li
 
 -- ---- taken
 
--- a length of 0 is no answer
-abbrev pub replied : Turn → List (List ℕ)
-replied u = cond (eqb (u .length) 0) [] (take (u .length) (u .buffer) ∷ [])
+-- what goes over the wire; a length of 0 is no answer
+abbrev pub replied : Turn → List ℕ
+replied u = take (u .length) (u .buffer)
 
 -- the house behind a byte that is taken, and behind a tick
 abbrev pub servedByte : House → ℕ → List ℕ → House
@@ -142,7 +151,7 @@ front-handed (code ∷ arguments) buffer fits =
     rw (ne-eqb (suc (length arguments)) 0 (λ e. omega (arith, e))) (ap (λ (l : List ℕ). l ∷ []) (sets-front (code ∷ arguments) buffer fits))
 
 -- what comes back of the whole is the whole then
-all-back : (l : List ℕ) (p : Piece) (back given : List ℕ) → lends l p ≡ l → back ≡ given → length given ≡ length l → handedBack l p back ≡ given
+pub all-back : (l : List ℕ) (p : Piece) (back given : List ℕ) → lends l p ≡ l → back ≡ given → length given ≡ length l → handedBack l p back ≡ given
 all-back l p back given whole e same = ap (handedBack l p) e ∙ whole-back l p given (ap length whole) same
 
 module _ (h : House) (long : stateLength ≤ length (h .block)) (w : Within (decoded (h .block)) (h .memory)) where
@@ -208,7 +217,7 @@ module _ (h : House) (long : stateLength ≤ length (h .block)) (w : Within (dec
         all-back (h .block) (c .state) (c .after) (sets (h .block) 0 (encoded (u .next))) whole after (length-sets (h .block) 0 (encoded (u .next))) in
         let memory : handedBack (h .memory) (c .memory) (c .left) ≡ u .memory =
         all-back (h .memory) (c .memory) (c .left) (u .memory) lent-memory left (keeps .memory-part .size ∙ sym (w .memory-part .size)) in
-        c .house ∙ (λ j. record { block = block j; memory = memory j; answers = h .answers ++ handedOut (result j .length) (told j); commands = h .commands })
+        c .house ∙ (λ j. record { block = block j; memory = memory j; answers = h .answers ++ take (result j .length) (told j); commands = h .commands })
 
   module _ (next : House) (c : ByTick h next) (fine : c .result ≡ taken) (whole : lends (h .block) (c .state) ≡ h .block) where
     pub step-tick : length (tickedMemory (recorderOf (decoded (h .block) .instruments .recorder)) (h .memory)) ≡ length (h .memory) → next ≡ servedTick h

@@ -1,11 +1,8 @@
 -- A byte over a state that stands for the definition leaves one that does: the gate, the link and what goes over the wire.
 use mathlib.Core.Path.{_≡_, refl, sym, ap, subst, _∙_}
-use mathlib.Core.Bool.{true, false, cond}
 use mathlib.Core.List.{List, [], _∷_, _++_, map, append-nil, foldl-append}
 use Prim.Native.Nat.{ℕ, _≤_}
 use native.Mathlib.Omega.{arith}
-use borrow.Author.Tests.{ne-eqb}
-use lib.Dec.{eqb}
 use lib.ListN.{length, take, drop}
 use lib.Seq.{sets}
 use Rattle.document.specs.Numbers.{answerRoom}
@@ -15,6 +12,8 @@ use Rattle.document.specs.Gate.{Gate, Outcome}
 use Rattle.document.specs.Commands.{answered}
 use Rattle.document.specs.Happenings.{Since, told, after}
 use Rattle.document.specs.Happenings.Happening.{byte}
+use Rattle.document.specs.Blocks.{answersOnWire}
+use Rattle.happenings.proofs.Blocks.{answersTo}
 use Rattle.line.proofs.Left.{sets-front, sets-behind, answer-fits}
 use Rattle.link.specs.declared.Receiver.{Receiver}
 use Rattle.link.specs.declared.Taken.{Taken as StepTaken}
@@ -24,10 +23,10 @@ use Rattle.link.specs.Bounds as link
 use Rattle.link.specs.Step.{stepped}
 use Rattle.link.specs.Report.{Held, held, Beside, bodyAfter, reportOf, onByte, sinceReset}
 use Rattle.link.proofs.Reports.{reports}
-use Rattle.outcomes.proofs.Answered.{answered-formed}
 use Rattle.state.specs.State.{Instruments, Target, gateOf}
 use Rattle.target.specs.AnsweredHeld.{answeredHeld}
 use Rattle.target.proofs.Held.{answered-held}
+use Rattle.target.proofs.Fits.{held-formed}
 use Rattle.target.proofs.HeldLaws.{held-kept}
 use Rattle.target.specs.Turn.{Turn, silent, keeping, heldBy, answering, onEvent, turn}
 use Rattle.target.proofs.TurnLaws.{nextOf, by-event}
@@ -40,20 +39,6 @@ map-none [] e = refl
 map-none (m ∷ ms) e = let z : _≡_ {A = ℕ} 0 1 = cc in absurd (omega arith)
 
 -- ---- answers
-wire-long : (a : Answer) → eqb (length (answerOnWire a)) 0 ≡ false
-unfolding answerOnWire
-wire-long a = ne-eqb (length (answerOnWire a)) 0 (λ e. let b : ⊥ = omega arith in b)
-
--- an answer that fits stands at the front of the buffer
-pub replied-one : (a : Answer) (buffer : List ℕ) → length (answerOnWire a) ≤ length buffer
-    → cond (eqb (length (answerOnWire a)) 0) [] (take (length (answerOnWire a)) (sets buffer 0 (answerOnWire a)) ∷ []) ≡ answerOnWire a ∷ []
-replied-one a buffer fits = rw (wire-long a) (ap (λ (l : List ℕ). l ∷ []) (sets-front (answerOnWire a) buffer fits))
-
--- what the messages that a byte finishes are told
-abbrev pub answersTo : Gate → List Message → List Answer
-answersTo g [] = []
-answersTo g (m ∷ ms) = answered g m .answer ∷ []
-
 abbrev pub gateAfter : Gate → List Message → Gate
 gateAfter g [] = g
 gateAfter g (m ∷ ms) = answered g m .gate
@@ -62,7 +47,7 @@ gateAfter g (m ∷ ms) = answered g m .gate
 pub record TurnStands (u : Turn) (buffer : List ℕ) (g : Gate) (bs : List ℕ) (ms : List Message) : Type 0 where
   pub gate : gateOf (u .next .instruments) (u .memory) ≡ gateAfter g ms
   pub link-part : linkIn (u .next) ≡ sinceReset blank bs
-  pub answers : replied u ≡ map answerOnWire (answersTo g ms)
+  pub answers : replied u ≡ answersOnWire (answersTo g ms)
   pub behind : drop (u .length) (u .buffer) ≡ drop (u .length) buffer
   pub fits : u .length ≤ answerRoom
 
@@ -108,13 +93,12 @@ module _ (t : Target) (b : ℕ) (memory buffer : List ℕ) (room : answerRoom �
         let outcome : answeredHeld (gateOf (t .instruments) memory) H ≡ answered (s .gate) m =
         (λ j. answeredHeld (stands j) (same j)) ∙ answered-held (s .gate) m in
         let a : Answer = answeredHeld (gateOf (t .instruments) memory) H .answer in
-        let short : length (answerOnWire a) ≤ answerRoom =
-        subst (λ (o : Outcome). length (answerOnWire (o .answer)) ≤ answerRoom) (sym outcome) (answer-fits (answered (s .gate) m .answer) (answered-formed (s .gate) m)) in
+        let short : length (answerOnWire a) ≤ answerRoom = answer-fits a (held-formed (gateOf (t .instruments) memory) H) in
         let fits : length (answerOnWire a) ≤ length buffer = omega (arith, room, short) in
         record {
           gate = held-kept (t .instruments) memory H ∙ ap (λ (o : Outcome). o .gate) outcome;
           link-part = link-next (Whole c n sum) is;
-          answers = replied-one a buffer fits ∙ ap (λ (o : Outcome). answerOnWire (o .answer) ∷ []) outcome;
+          answers = sets-front (answerOnWire a) buffer fits ∙ ap (λ (o : Outcome). answerOnWire (o .answer)) outcome ∙ sym (append-nil (answerOnWire (answered (s .gate) m .answer)));
           behind = sets-behind (answerOnWire a) buffer fits;
           fits = short;
         }

@@ -1,6 +1,6 @@
 -- Application commands (2026-01) along a run of the calls that are linked into a gate.
 use mathlib.Core.Path.{_≡_}
-use mathlib.Core.List.{List, [], _∷_, _++_}
+use mathlib.Core.List.{List, _++_}
 use Prim.Native.Nat.{ℕ}
 use Rattle.document.specs.Answer.{Answer, answerOnWire}
 use Rattle.blocks.specs.Layout.{decoded}
@@ -18,5 +18,5 @@ pub record OnlyCommand (h next : House) : Type 0 where
 
 -- this was answered, and the gate is as it was
 pub record OnlySaid (a : Answer) (h next : House) : Type 0 where
-  pub answers : next .answers ≡ h .answers ++ (answerOnWire a ∷ [])
+  pub answers : next .answers ≡ h .answers ++ answerOnWire a
   pub gate : gateIn next ≡ gateIn h

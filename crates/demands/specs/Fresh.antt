@@ -1,6 +1,6 @@
 -- Demand 3 of a run: a house before a message, before its last byte, and behind it.
 use mathlib.Core.Path.{_≡_}
-use mathlib.Core.List.{List, [], _∷_, _++_}
+use mathlib.Core.List.{List, _++_}
 use Prim.Native.Nat.{ℕ}
 use Rattle.document.specs.Message.{Message}
 use Rattle.document.specs.Answer.{answerOnWire}
@@ -16,7 +16,7 @@ pub record AnsweredFresh (start before last : House) (beside : Gate) (m : Messag
   pub quiet : before .answers ≡ start .answers
   pub untouched : gateIn before ≡ beside
   -- with it comes the answer
-  pub told : last .answers ≡ start .answers ++ (answerOnWire (answered (gateIn before) m .answer) ∷ [])
+  pub told : last .answers ≡ start .answers ++ answerOnWire (answered (gateIn before) m .answer)
   pub left : gateIn last ≡ answered (gateIn before) m .gate
 
 -- "A command is never carried out unless its whole message, with a right sum, stands in the bytes since one start byte.":
@@ -27,6 +27,6 @@ pub data NothingByHalf (before last : House) (bytes : List ℕ) : Type 0 where
   -- or the bytes end in a start and exactly one stuffed message, and answer and change are the definition's for it
   whole :
       (m : Message) → EndIn bytes m
-      → last .answers ≡ before .answers ++ (answerOnWire (answered (gateIn before) m .answer) ∷ [])
+      → last .answers ≡ before .answers ++ answerOnWire (answered (gateIn before) m .answer)
       → gateIn last ≡ answered (gateIn before) m .gate
       → NothingByHalf before last bytes

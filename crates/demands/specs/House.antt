@@ -9,8 +9,8 @@ use Rattle.blocks.specs.Layout.{decoded}
 pub record House : Type 0 where
   pub block : List ℕ
   pub memory : List ℕ
-  -- each answer as its bytes went over the wire
-  pub answers : List (List ℕ)
+  -- the answers as their bytes went over the wire, one behind another
+  pub answers : List ℕ
   -- each application command as it was collected
   pub commands : List (List ℕ)
 

@@ -3,8 +3,8 @@ pub mod House
 pub mod Lent
 pub mod Run
 pub mod Refused
-pub mod Sent
 pub mod Stands
+pub mod Sent
 pub mod Fresh
 pub mod Recorded
 pub mod Recorder

@@ -18,6 +18,7 @@ use Rattle.blocks.specs.Places.{stateLength}
 use Rattle.checks.specs.Promises.{blockSound, byteNumber, tickNumber, collectNumber, reportNumber}
 use Rattle.registering.specs.Promises.{registerNumber}
 use Rattle.byte_call.specs.declared.Taken.{Taken}
+use Rattle.block_call.specs.declared.BlockTaken.{BlockTaken}
 use Rattle.reader.specs.declared.calls.ReadByte.{ReadByte}
 use Rattle.reader.specs.Layout.{decodedReader, encodedReader}
 use Rattle.reader.specs.Promises.{beginNumber, readNumber}
@@ -37,6 +38,10 @@ pub record CheckRefused (block : List ℕ) (r : ℕ) : Type 0 where
 pub record ByteRefused (block memory buffer : List ℕ) (r : Taken) (after left told : List ℕ) : Type 0 where
   pub number : r .refusal ≡ byteNumber block memory buffer
   pub unchanged : (r .refusal ≡ taken → ⊥) → (r .length ≡ 0) × (after ≡ block) × (left ≡ memory) × (told ≡ buffer)
+
+pub record BlockRefused (block memory buffer : List ℕ) (r : BlockTaken) (after left told : List ℕ) : Type 0 where
+  pub number : r .refusal ≡ byteNumber block memory buffer
+  pub unchanged : (r .refusal ≡ taken → ⊥) → (r .taken ≡ 0) × (r .written ≡ 0) × (after ≡ block) × (left ≡ memory) × (told ≡ buffer)
 
 pub record TickRefused (block memory : List ℕ) (r : ℕ) (after left : List ℕ) : Type 0 where
   pub number : r ≡ tickNumber block memory

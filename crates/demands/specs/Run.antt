@@ -1,8 +1,9 @@
--- A run of the calls that are linked into a gate: whatever their promises allow, one call for each thing that happens, and refused
--- calls anywhere among them. Each call brings its own buffer, of any room and with anything in it, and its own lengths.
+-- A run of the calls that are linked into a gate: whatever their promises allow, one call for each thing that happens or for a block
+-- of bytes, and refused calls anywhere among them. Each call brings its own buffer, of any room and with anything in it, and its own
+-- lengths.
 use mathlib.Core.Path.{_≡_}
 use mathlib.Core.Bool.{cond}
-use mathlib.Core.List.{List, [], _∷_, _++_}
+use mathlib.Core.List.{List, [], _∷_, _++_, map}
 use Prim.Native.Nat.{ℕ, _≤_}
 use lib.ListN.{length, take}
 use lib.Dec.{eqb}
@@ -21,10 +22,12 @@ use Rattle.application_calls.specs.Promises.{CollectDone, ReportDone}
 use Rattle.registering.specs.Promises.{RegisterDone}
 use Rattle.byte_call.specs.declared.Taken.{Taken}
 use Rattle.byte_call.specs.Promises.{ByteTaken}
+use Rattle.block_call.specs.declared.BlockTaken.{BlockTaken}
+use Rattle.block_call.specs.Promises.{BlockDone}
 use Rattle.demands.specs.House.{House}
 use Rattle.demands.specs.Lent.{Piece, lends, handedBack}
 
--- an answer, or a command, is the first bytes of the lent buffer, as many as the call says; a length of 0 is none
+-- a command is the first bytes of the lent buffer, as many as the call says; a length of 0 is none
 abbrev pub handedOut : ℕ → List ℕ → List (List ℕ)
 handedOut n told = cond (eqb n 0) [] (take n told ∷ [])
 
@@ -43,7 +46,27 @@ pub record ByByte (h : House) (b : ℕ) (next : House) : Type 0 where
       ≡ record {
         block = handedBack (h .block) state after;
         memory = handedBack (h .memory) memory left;
-        answers = h .answers ++ handedOut (result .length) told;
+        -- an answer is the first bytes of the lent buffer, as many as the call says
+        answers = h .answers ++ take (result .length) told;
+        commands = h .commands;
+      }
+
+-- `log_gate_block` was called
+pub record ByBlock (h : House) (bytes : List ℕ) (next : House) : Type 0 where
+  pub state : Piece
+  pub memory : Piece
+  pub buffer : List ℕ
+  pub result : BlockTaken
+  pub after : List ℕ
+  pub left : List ℕ
+  pub told : List ℕ
+  pub promised : BlockDone (lends (h .block) state) bytes (lends (h .memory) memory) buffer result after left told
+  pub house :
+      next
+      ≡ record {
+        block = handedBack (h .block) state after;
+        memory = handedBack (h .memory) memory left;
+        answers = h .answers ++ take (result .written) told;
         commands = h .commands;
       }
 
@@ -134,18 +157,33 @@ Step h (aside a) next = Beside h a next
 -- a call that is refused, with whatever number
 pub data Refused (h next : House) : Type 0 where
   refused-byte : (b : ℕ) (call : ByByte h b next) → (call .result .refusal ≡ taken → ⊥) → Refused h next
+  refused-block : (bytes : List ℕ) (call : ByBlock h bytes next) → (call .result .refusal ≡ taken → ⊥) → Refused h next
   refused-tick : (call : ByTick h next) → (call .result ≡ taken → ⊥) → Refused h next
   refused-collect : (call : ByCollect h next) → (call .result .refusal ≡ taken → ⊥) → Refused h next
   refused-report : (reported : ℕ) (call : ByReport h reported next) → (call .result ≡ taken → ⊥) → Refused h next
   refused-register : (list : List ℕ) (call : ByRegister h list next) → (call .result ≡ taken → ⊥) → Refused h next
 
+-- every byte comes by a call of its own
+pub data Singly : House → List Happening → House → Type 0 where
+  ends : (h : House) → Singly h [] h
+  happens : (h next last : House) (e : Happening) (es : List Happening) → Step h e next → Singly next es last → Singly h (e ∷ es) last
+  -- "consume no byte": nothing has happened
+  refuses : (h next last : House) (es : List Happening) → Refused h next → Singly next es last → Singly h es last
+
+-- the bytes of a block that were taken have come
+abbrev pub came : ℕ → List ℕ → List Happening
+came n bytes = map byte (take n bytes)
+
+-- bytes come singly or in blocks
 pub data Run : House → List Happening → House → Type 0 where
   ends : (h : House) → Run h [] h
   happens : (h next last : House) (e : Happening) (es : List Happening) → Step h e next → Run next es last → Run h (e ∷ es) last
-  -- "consume no byte": nothing has happened
+  blocks : (h next last : House) (bytes : List ℕ) (es : List Happening) → AllBytes bytes → (call : ByBlock h bytes next)
+      → call .result .refusal ≡ taken → lends (h .block) (call .state) ≡ h .block
+      → Run next es last → Run h (came (call .result .taken) bytes ++ es) last
   refuses : (h next last : House) (es : List Happening) → Refused h next → Run next es last → Run h es last
 
--- a call that is lent the block, the memory and room for an answer or for a command is taken; a report waits for its command
+-- a byte, a block, a tick or a collection that is lent the block, the memory and room for an answer or for a command is taken; a report waits for its command
 pub record Ready (h : House) : Type 0 where
   pub byte-taken : (buffer : List ℕ) → answerRoom ≤ length buffer → byteNumber (h .block) (h .memory) buffer ≡ taken
   pub tick-taken : tickNumber (h .block) (h .memory) ≡ taken

@@ -1,11 +1,11 @@
 -- Demand 2: a house that stands for what the definition has.
 use mathlib.Core.Path.{_≡_}
-use mathlib.Core.List.{List, map}
+use mathlib.Core.List.{List}
 use Prim.Native.Nat.{ℕ}
 use lib.ListN.{replicate}
 use Rattle.document.specs.Numbers.{mostData}
-use Rattle.document.specs.Answer.{answerOnWire}
 use Rattle.document.specs.Happenings.{Since}
+use Rattle.document.specs.Blocks.{answersOnWire}
 use Rattle.link.specs.Report.{Beside, sinceReset}
 use Rattle.state.specs.State.{Target}
 use Rattle.blocks.specs.Layout.{decoded}
@@ -21,7 +21,7 @@ linkIn t = record { receiver = t .receiver; body = t .body }
 pub record Stands (h : House) (s : Since) : Type 0 where
   -- memory, scope, recorder and application
   pub gate : gateIn h ≡ s .gate
-  -- each answer, as it goes over the wire
-  pub answers : h .answers ≡ map answerOnWire (s .answers)
+  -- the answers, as they go over the wire
+  pub answers : h .answers ≡ answersOnWire (s .answers)
   -- the receiver and its body, as the bytes since reset leave them
   pub link-part : linkIn (decoded (h .block)) ≡ sinceReset blank (s .bytes)

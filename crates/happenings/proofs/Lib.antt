@@ -7,3 +7,4 @@ pub mod Ticks
 pub mod Follows
 pub mod Applying
 pub mod Tables
+pub mod Blocks

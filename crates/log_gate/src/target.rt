@@ -1,7 +1,9 @@
-// The target: reset, check, a byte of the line, a tick of the gate.
+// The target: reset, check, a byte of the line or a block of them, a tick of the gate.
 ghost use Rattle.checks.specs.Promises.{ResetDone, Checked};
 ghost use Rattle.tick_call.specs.Promises.{TickTaken};
 ghost use Rattle.byte_call.specs.Promises.{ByteTaken};
+ghost use Rattle.block_call.specs.Promises.{BlockDone};
+use block_call::BlockTaken;
 use byte_call::Taken;
 
 #[no_mangle]
@@ -28,6 +30,18 @@ pub extern "C" fn log_gate_byte(
     ensures { λ r. ⌜ ByteTaken (now (state .entry)) byte (now (memory .entry)) (now (answer .entry)) r (now (state .exit)) (now (memory .exit)) (now (answer .exit)) ⌝ }
 {
     byte_call::byte(state, byte, memory, answer)
+}
+
+#[no_mangle]
+pub extern "C" fn log_gate_block(
+    state: &mut [u8],
+    block: &[u8],
+    memory: &mut [u8],
+    answers: &mut [u8],
+) -> BlockTaken
+    ensures { λ r. ⌜ BlockDone (now (state .entry)) (now (block .entry)) (now (memory .entry)) (now (answers .entry)) r (now (state .exit)) (now (memory .exit)) (now (answers .exit)) ⌝ }
+{
+    block_call::block(state, block, memory, answers)
 }
 
 #[no_mangle]

@@ -3,6 +3,7 @@ pub mod Held
 pub mod Changed
 pub mod HeldLaws
 pub mod TurnLaws
+pub mod Fits
 pub mod Keeps
 pub mod Walks
 pub mod Quiet

@@ -1,14 +1,19 @@
 -- A walk over a block, byte by byte: where it stops, and how it goes on.
-use mathlib.Core.Path.{_≡_, refl, _∙_}
+use mathlib.Core.Path.{_≡_, refl, sym, subst}
 use mathlib.Core.List.{List, [], _∷_, _++_}
 use Prim.Native.Nat.{ℕ, _+_, _<_, _≤_}
 use native.Mathlib.Nat.{add-zero}
-use borrow.Author.Tests.{lt-ltb, le-ltb}
+use borrow.Author.Tests.{lt-ltb, le-ltb, ltb-true, ltb-false}
+use lib.Dec.{ltb}
 use lib.ListN.{drop, take-append-drop}
 use Rattle.document.specs.Numbers.{answerRoom}
+use Rattle.document.specs.Bytes.{AllBytes}
+use Rattle.document.proofs.Cases.{split}
 use Rattle.state.specs.State.{Target}
+use Rattle.state.specs.Within.{Within}
 use Rattle.target.specs.Turn.{Turn, silent}
 use Rattle.target.specs.Walk.{Walk, byteTurn, onward, room, walked}
+use Rattle.target.proofs.Keeps.{byte-keeps}
 
 module _ (w : Walk) where
   pub walked-all : walked w [] ≡ w
@@ -24,6 +29,16 @@ module _ (w : Walk) where
       pub walked-on : (u : Turn) → byteTurn w b ≡ u → walked w (b ∷ bs) ≡ walked (onward w u) bs
       unfolding walked
       walked-on u e = rw (le-ltb (room w) answerRoom long) (λ i. walked (onward w (e i)) bs)
+
+-- within bounds at its beginning, a walk is so at its end
+pub walked-keeps : (bs : List ℕ) (w : Walk) → AllBytes bs → Within (w .next) (w .memory) → Within (walked w bs .next) (walked w bs .memory)
+walked-keeps [] w all within = subst (λ (k : Walk). Within (k .next) (k .memory)) (sym (walked-all w)) within
+walked-keeps (b ∷ bs) w all within =
+    split (ltb (room w) answerRoom)
+    (λ short. subst (λ (k : Walk). Within (k .next) (k .memory)) (sym (walked-short w b bs (ltb-true (room w) answerRoom short))) within)
+    (λ long.
+    subst (λ (k : Walk). Within (k .next) (k .memory)) (sym (walked-on w b bs (ltb-false (room w) answerRoom long) (byteTurn w b) refl))
+    (walked-keeps bs (onward w (byteTurn w b)) (all .1) (byte-keeps (w .next) (w .memory) (drop (w .written) (w .buffer)) within b (all .0))))
 
 -- a byte without an answer: the state changes, and nothing that is lent
 abbrev pub heardOnly : Walk → ℕ → Target → Walk

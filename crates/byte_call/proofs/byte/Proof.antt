@@ -1,34 +1,18 @@
 -- Refused, nothing changes; else the byte is heard, and answered where it ends a message.
-use mathlib.Core.Path.{_≡_, sym, ap, _∙_}
-use mathlib.Core.Bool.{true}
+use mathlib.Core.Path.{_≡_, sym, _∙_}
 use mathlib.Core.List.{List}
 use Prim.Native.Nat.{ℕ, _<_, _≤_}
 use native.Mathlib.Omega.{arith}
 use borrow.Author.Needs.{needs}
 use lib.ListN.{length, getD}
-use lib.Seq.{sets}
-use Rattle.document.specs.Areas.{memoryEnd}
-use Rattle.document.specs.Numbers.{taken}
-use Rattle.document.proofs.Bytes.{all-of-bytes}
-use Rattle.scope.specs.State as scope
-use Rattle.state.specs.State.{Target, Instruments}
-use Rattle.state.specs.Bounds.{sound}
-use Rattle.state.specs.Widths.{TargetFits}
+use Rattle.document.specs.Numbers.{answerRoom, taken}
 use Rattle.state.specs.Within.{Within}
-use Rattle.state.proofs.Keeps.{within-fits}
-use Rattle.state.proofs.Parts.{parts-of}
-use Rattle.target.specs.Turn.{Turn, hearing, turn}
-use Rattle.target.proofs.Keeps.{byte-keeps}
 use Rattle.blocks.specs.Places.{stateLength}
-use Rattle.blocks.specs.Layout.{decodedReceiver, decoded, encoded}
-use Rattle.blocks.proofs.Back.{stored-decoded}
-use Rattle.blocks.proofs.Lent.{lent-within}
-use Rattle.checks.specs.Promises.{blockSound, byteNumber}
-use Rattle.checks.proofs.Numbers.{byte-known}
-use Rattle.checks.proofs.Settled.{block-known}
-use Rattle.byte_call.specs.Heard.{answeredBy, isFramed}
-use Rattle.byte_call.proofs.Framed.{heard-framed, hearing-fits, hearing-instruments}
-use Rattle.byte_call.proofs.Turns.{heard-turn, turned-as, turned-over, byte-refused, byte-taken}
+use Rattle.blocks.specs.Layout.{decoded}
+use Rattle.checks.specs.Promises.{byteNumber}
+use Rattle.checks.proofs.Lent.{lent-known}
+use Rattle.byte_call.proofs.Answered.{quiet-turned, answer-lent, message-turned}
+use Rattle.byte_call.proofs.Turns.{byte-refused, byte-taken}
 use Rattle.byte_call.proofs.byte.Statement.{statement}
 use Rattle.byte_call.proofs.byte.Tie as tie
 
@@ -44,9 +28,6 @@ same-length-2 c = search needs
 same-length-3 : tie.Need-same-length-3
 same-length-3 c = search needs
 
-byte-small : (s : tie.Start) → s .args .byte < 256
-byte-small s = omega arith
-
 -- what was lent, and the number that was looked for
 abbrev begun : tie.After-byte-refusal → tie.Start
 begun r = r .before .before .before .before .before .before .before
@@ -56,6 +37,9 @@ returns c =
     let r = c .before in
     let a = begun r .args in
     byte-refused (a .state .now) (a .byte) (a .memory .now) (a .answer .now) (r .byte-refusal .result) (r .byte-refusal .ensures) (c .if1 .taken)
+
+byte-small : (s : tie.Start) → s .args .byte < 256
+byte-small s = omega arith
 
 -- ---- nothing refuses it
 module _ (e : tie.Else1) where
@@ -74,53 +58,20 @@ module _ (e : tie.Else1) where
   fine : byteNumber block memory buffer ≡ taken
   fine = sym (e .before .byte-refusal .ensures) ∙ e .if1 .left
 
-  known : (blockSound block ≡ true) × (length memory ≡ memoryEnd) × (132 ≤ length buffer)
-  known = byte-known (blockSound block) memory buffer fine
-
-  state : (stateLength ≤ length block) × (sound (decoded block) ≡ true)
-  state = block-known block (known .0)
-
   small : (i : ℕ) → getD block i 0 < 256
   small i = e .before .before .before .before .before .before .before .slice-known .given i .fits
 
-  length-small : decodedReceiver block .length ≤ 255
-  unfolding decodedReceiver
-  length-small = omega (arith, small 3)
-
-  within : Within (decoded block) memory
-  within = lent-within block (state .0) small memory (state .1) (record { size = known .1; bytes = all-of-bytes memory (λ i. e .before .before .before .before .before .before .slice-known2 .given i .fits) })
-
--- ---- it is heard
-module _ (h : tie.After-hear) where
-  abbrev passed : tie.Else1
-  passed = h .before .before
-
-  abbrev byte : ℕ
-  byte = lent passed .args .byte
-
-  heard-state : h .hear .last .0 ≡ sets (block passed) 0 (encoded (hearing (decoded (block passed)) byte))
-  heard-state = h .hear .ensures .1
-
-  fits : TargetFits (hearing (decoded (block passed)) byte)
-  fits = hearing-fits (decoded (block passed)) byte (within-fits (decoded (block passed)) (memory passed) (within passed))
-
-  heard : decoded (h .hear .last .0) ≡ hearing (decoded (block passed)) byte
-  heard = ap decoded heard-state ∙ stored-decoded (block passed) (hearing (decoded (block passed)) byte) (state passed .0) fits
+  known : (stateLength ≤ length block) × Within (decoded block) memory × (answerRoom ≤ length buffer)
+  known = lent-known block memory buffer small (λ i. e .before .before .before .before .before .before .slice-known2 .given i .fits) fine
 
 hear-requires : tie.Need-hear-requires
-hear-requires c κs = state (c .before) .0
+hear-requires c κs = known (c .before) .0
 
-answered-requires : tie.Need-answered-requires
-answered-requires c κs =
-    let h = c .before .before .before .before .before in
-    let e = passed h in
-    let parts = parts-of (decoded (block e)) (state e .1) in (
-      ap isFramed (h .hear .ensures .0) ∙ heard-framed (decodedReceiver (block e)) (byte h) (parts .receiver) (length-small e),
-      omega (arith, state e .0, h .hear .kept .0),
-      known e .1,
-      ap (λ (t : Target). scope.sound (t .instruments .scope)) (heard h) ∙ ap (λ (i : Instruments). scope.sound (i .scope)) (hearing-instruments (decoded (block e)) (byte h)) ∙ parts .scope-part,
-      known e .2,
-    )
+enum-told : tie.Need-enum-told
+enum-told c = search needs
+
+enum-known-heard : tie.Need-enum-known-heard
+enum-known-heard c = search needs
 
 same-length-4 : tie.Need-same-length-4
 same-length-4 c = search needs
@@ -133,16 +84,41 @@ same-length-6 c = search needs
 
 returns-2 : tie.Need-returns-2
 returns-2 c =
-    let d = c .before .before .before .before .before .before in
-    let h = d .before .before .before .before .before .before in
-    let e = passed h in
-    let t = decoded (block e) in
-    let u : Turn = turn t (byte h) (memory e) (buffer e) in
-    let is : answeredBy (decoded (h .hear .last .0)) (h .hear .result) (memory e) (buffer e) ≡ turn t (byte h) (memory e) (buffer e) =
-    (λ i. answeredBy (heard h i) (h .hear .ensures .0 i) (memory e) (buffer e)) ∙ heard-turn t (byte h) (memory e) (buffer e) in
-    byte-taken (block e) (byte h) (memory e) (buffer e) _ _ _ _ (fine e)
-    (turned-over (block e) (hearing t (byte h)) u _ _ _ _ _ (state e .0) (fits h)
-    (within-fits _ _ (byte-keeps t (memory e) (buffer e) (within e) (byte h) (byte-small (lent e)))) (heard-state h) (turned-as _ _ is (d .answered .ensures)))
+    let h = c .before .before .before .before in
+    let e = h .before .before in
+    let b = lent e .args .byte in
+    byte-taken (block e) b (memory e) (buffer e) _ _ _ _ (fine e)
+    (quiet-turned (block e) b (memory e) (known e .0) (small e) (byte-small (lent e)) (known e .1) (h .hear .result) (h .hear .ensures .0) (h .hear .last .0) (h .hear .kept .0) (h .hear .ensures .1) (c .enum-told .given .1) (buffer e))
+
+respond-requires : tie.Need-respond-requires
+respond-requires c κs =
+    let m = c .before .before .before .before in
+    let h = m .before .before .before .before in
+    let e = h .before .before in
+    let message =
+    answer-lent (block e) (lent e .args .byte) (memory e) (known e .0) (small e) (byte-small (lent e)) (known e .1) (h .hear .result) (h .hear .ensures .0) (h .hear .last .0) (h .hear .kept .0) (h .hear .ensures .1) (m .heard .given .0 .0) (m .heard .given .1) in
+    (message .0, message .1, message .2, message .3, known e .2)
+
+same-length-7 : tie.Need-same-length-7
+same-length-7 c = search needs
+
+same-length-8 : tie.Need-same-length-8
+same-length-8 c = search needs
+
+same-length-9 : tie.Need-same-length-9
+same-length-9 c = search needs
+
+returns-3 : tie.Need-returns-3
+returns-3 c =
+    let r = c .before .before .before .before .before .before in
+    let m = r .before .before .before .before .before in
+    let known-state = m .before .before in
+    let h = known-state .before .before in
+    let e = h .before .before in
+    let b = lent e .args .byte in
+    byte-taken (block e) b (memory e) (buffer e) _ _ _ _ (fine e)
+    (message-turned (block e) b (memory e) (known e .0) (small e) (byte-small (lent e)) (known e .1) (h .hear .result) (h .hear .ensures .0) (h .hear .last .0) (h .hear .kept .0) (h .hear .ensures .1) (m .heard .given .0 .0) (m .heard .given .1)
+    (buffer e) _ _ _ _ (λ i. known-state .slice-known4 .given i .fits) (r .respond .ensures))
 
 pub byte-spec : {M : Type 1} → statement M
 byte-spec =
@@ -154,8 +130,14 @@ byte-spec =
     same-length-3
     returns
     hear-requires
-    answered-requires
+    enum-told
+    enum-known-heard
+    respond-requires
     same-length-4
     same-length-5
     same-length-6
-    returns-2)
+    returns-2
+    same-length-7
+    same-length-8
+    same-length-9
+    returns-3)

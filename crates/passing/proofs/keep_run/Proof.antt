@@ -9,8 +9,8 @@ use Rattle.target.specs.Quiet.{passedReceiver}
 use Rattle.blocks.specs.Places.{bodyPlace}
 use Rattle.blocks.specs.Layout.{encodedReceiver}
 use Rattle.blocks.proofs.Stored.{data-stored}
-use Rattle.block_call.proofs.passing.keep_run.Statement.{statement}
-use Rattle.block_call.proofs.passing.keep_run.Tie as tie
+use Rattle.passing.proofs.keep_run.Statement.{statement}
+use Rattle.passing.proofs.keep_run.Tie as tie
 
 cast-counted : tie.Need-cast-counted
 cast-counted c = search needs

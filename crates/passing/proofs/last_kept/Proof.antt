@@ -3,8 +3,8 @@ use mathlib.Core.Path.{refl, _∙_}
 use native.Mathlib.Omega.{arith}
 use borrow.Author.Needs.{needs}
 use borrow.Author.Tests.{lt-ltb, le-ltb}
-use Rattle.block_call.proofs.passing.last_kept.Statement.{statement}
-use Rattle.block_call.proofs.passing.last_kept.Tie as tie
+use Rattle.passing.proofs.last_kept.Statement.{statement}
+use Rattle.passing.proofs.last_kept.Tie as tie
 
 usize-of-u8-requires : tie.Need-usize-of-u8-requires
 usize-of-u8-requires c κs = search needs

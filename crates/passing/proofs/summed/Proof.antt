@@ -6,8 +6,8 @@ use borrow.Author.Needs.{needs}
 use lib.ListN.{length, drop, drop-of-length-le}
 use Rattle.document.specs.Sum.{total}
 use Rattle.line.proofs.Stuffed.{total-drop}
-use Rattle.block_call.proofs.passing.summed.Statement.{statement}
-use Rattle.block_call.proofs.passing.summed.Tie as tie
+use Rattle.passing.proofs.summed.Statement.{statement}
+use Rattle.passing.proofs.summed.Tie as tie
 
 abbrev Inv-loop : tie.InvT-loop
 Inv-loop sum bytes so-far₀ i₀ so-far i =

@@ -5,9 +5,9 @@ use native.Mathlib.Omega.{arith}
 use borrow.Author.Needs.{needs}
 use lib.ListN.{drop}
 use Rattle.target.specs.Quiet.{plainAhead}
-use Rattle.block_call.proofs.Ahead.{ahead-plus, ahead-other, ahead-end}
-use Rattle.block_call.proofs.passing.plain_end.Statement.{statement}
-use Rattle.block_call.proofs.passing.plain_end.Tie as tie
+use Rattle.passing.proofs.Ahead.{ahead-plus, ahead-other, ahead-end}
+use Rattle.passing.proofs.plain_end.Statement.{statement}
+use Rattle.passing.proofs.plain_end.Tie as tie
 
 abbrev Inv-loop : tie.InvT-loop
 Inv-loop bytes from end i₀ i =

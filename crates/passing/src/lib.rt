@@ -19,7 +19,7 @@ use memory::copy_in;
 use widths::usize_of_u8;
 
 // Behind the bytes, up to a place, that come before a 0x2B.
-pub(crate) fn plain_end(bytes: &[u8], from: usize, end: usize) -> usize
+fn plain_end(bytes: &[u8], from: usize, end: usize) -> usize
     requires { ⌜ (from ≤ end) × (end ≤ length (now bytes)) ⌝ }
     ensures { λ r. ⌜ (r ≡ from + plainAhead (end - from) (drop from (now (bytes .entry)))) × (r ≤ end) ⌝ }
 {
@@ -33,7 +33,7 @@ pub(crate) fn plain_end(bytes: &[u8], from: usize, end: usize) -> usize
     i
 }
 
-pub(crate) fn summed(sum: u8, bytes: &[u8]) -> u8
+fn summed(sum: u8, bytes: &[u8]) -> u8
     ensures { λ r. ⌜ r ≡ (sum + total (now (bytes .entry))) % 256 ⌝ }
 {
     let mut so_far = sum;
@@ -46,7 +46,7 @@ pub(crate) fn summed(sum: u8, bytes: &[u8]) -> u8
 }
 
 // A run of data bytes goes into the body, counted and summed. The last that is kept is behind it, so the phase stays.
-pub(crate) fn keep_run(state: &mut [u8], head: link::Receiver, run: &[u8])
+fn keep_run(state: &mut [u8], head: link::Receiver, run: &[u8])
     requires { ⌜ (stateLength ≤ length (now state)) × (head .have + length (now run) ≤ 63) ⌝ }
     ensures { λ _. ⌜ now (state .exit) ≡ sets (now (state .entry)) 0 (encoded (record { receiver = passedReceiver head (now (run .entry)); body = sets (decodedBody (now (state .entry))) (head .have) (now (run .entry)); instruments = decodedInstruments (now (state .entry)) })) ⌝ }
 {
@@ -94,7 +94,7 @@ fn data_ahead(head: link::Receiver, left: usize) -> usize
 }
 
 // Behind the bytes from a place on that only count, or do nothing.
-pub(crate) fn pass_over(state: &mut [u8], bytes: &[u8], from: usize) -> usize
+pub fn pass_over(state: &mut [u8], bytes: &[u8], from: usize) -> usize
     requires { ⌜ (stateLength ≤ length (now state)) × (from ≤ length (now bytes)) ⌝ }
     ensures { λ r. ⌜ (r ≡ from + passedOver (decoded (now (state .entry))) (drop from (now (bytes .entry)))) × (now (state .exit) ≡ sets (now (state .entry)) 0 (encoded (passedBy (decoded (now (state .entry))) (drop from (now (bytes .entry)))))) ⌝ }
 {

@@ -12,9 +12,9 @@ use Rattle.state.specs.State.{Target}
 use Rattle.state.proofs.ByteLaws.{take-short}
 use Rattle.target.specs.Quiet.{plainAhead, lastKept, dataAhead, passedReceiver, passedOver, passedBy}
 use Rattle.blocks.specs.Layout.{decodedReceiver, decodedBody, decodedInstruments, decoded, encoded}
-use Rattle.block_call.proofs.Over.{ahead-cut, over-waiting, over-idle, over-other, over-data, by-none, by-idle, by-data, same-state, kept-most, run-fits}
-use Rattle.block_call.proofs.passing.pass_over.Statement.{statement}
-use Rattle.block_call.proofs.passing.pass_over.Tie as tie
+use Rattle.passing.proofs.Over.{ahead-cut, over-waiting, over-idle, over-other, over-data, by-none, by-idle, by-data, same-state, kept-most, run-fits}
+use Rattle.passing.proofs.pass_over.Statement.{statement}
+use Rattle.passing.proofs.pass_over.Tie as tie
 
 receiver-in-requires : tie.Need-receiver-in-requires
 receiver-in-requires c κs = search needs
