@@ -17,7 +17,7 @@ use Rattle.document.specs.Gate.{Gate, Outcome, registered, says, withApplicatio
 use Rattle.document.specs.Refusals.{sendLines, firstOf, refusal}
 use Rattle.document.specs.Commands.{doing, served, answered}
 use Rattle.document.specs.Asides.{Aside, beside}
-use Rattle.document.specs.Asides.Aside.{tick, writes, collects, reports}
+use Rattle.document.specs.Asides.Aside.{tick, writes, collects, reports, prepares, starts as starting}
 use Rattle.document.specs.Happenings.{Happening, Since, told, after, afterAll, fromReset}
 use Rattle.document.specs.Happenings.Happening.{byte, aside}
 use Rattle.document.specs.declared.Operation.the-variants.{Unserved}
@@ -30,6 +30,7 @@ use Rattle.outcomes.proofs.Firsts.{none-applies}
 use Rattle.line.proofs.Pairing.{waitsAfter}
 use Rattle.happenings.specs.Bytes.{bytesOf}
 use Rattle.happenings.specs.Applying.{sends, sentBy, sentAt, sentOf, ifAny, waitingIn, waitingAt, handedBeside, handedAt, handedOut, unrefusedSoFar, Pending, WhilePending, NoResult, Unreported, AllUnreported}
+use Rattle.happenings.proofs.Panel.{prepare-touches, start-touches}
 use Rattle.happenings.proofs.Happened.{at-last}
 
 -- ---- of the list "Commands", only 0x10 sends
@@ -223,6 +224,10 @@ beside-hands g tick = append-nil (waitingIn (g .application))
 beside-hands g (writes address bytes) = append-nil (waitingIn (g .application))
 beside-hands g collects = ap (λ (l : List (List ℕ)). waitingIn (g .application) ++ l) (sym (waits-once (g .application)))
 beside-hands g (reports result) = append-nil (waitingIn (g .application)) ∙ sym (reported-waits result (g .application))
+beside-hands g (prepares setup) =
+    append-nil (waitingIn (g .application)) ∙ ap (λ (q : Gate). waitingIn (q .application)) (sym (prepare-touches g setup))
+beside-hands g starting =
+    append-nil (waitingIn (g .application)) ∙ ap (λ (q : Gate). waitingIn (q .application)) (sym (start-touches g))
 
 happening-hands : (s : Since) (h : Happening) → waitingAt s ++ sentAt s h ≡ handedAt s h ++ waitingAt (after s h)
 happening-hands s (byte b) = by (finishedBy (s .bytes) b)
@@ -271,6 +276,8 @@ beside-pending g tick quiet pending = pending
 beside-pending g (writes address bytes) quiet pending = pending
 beside-pending g collects quiet pending = collect-pending (g .application) pending
 beside-pending g (reports result) quiet pending = uncollected-pending result (g .application) quiet pending
+beside-pending g (prepares setup) quiet pending = ap (λ (q : Gate). isPending (q .application)) (prepare-touches g setup) ∙ pending
+beside-pending g starting quiet pending = ap (λ (q : Gate). isPending (q .application)) (start-touches g) ∙ pending
 
 stays-pending : (s : Since) (h : Happening) → Unreported s h → Pending s → Pending (after s h)
 stays-pending s (byte b) quiet pending = by (finishedBy (s .bytes) b)

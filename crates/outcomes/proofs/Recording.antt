@@ -23,11 +23,11 @@ use Rattle.outcomes.specs.Starts.{begins, halts, starts, stops, Begins}
 use Rattle.outcomes.proofs.Answered.{accepted-gate, accepted, refused-gate}
 
 -- "running answers 0x01": it goes on as it was
-started-same : (r : Recorder) → isRunning r ≡ true → recorderStarted r ≡ r
+pub started-same : (r : Recorder) → isRunning r ≡ true → recorderStarted r ≡ r
 started-same absent runs = neither runs
 started-same (planned p r) runs = rw runs refl
 
-begun : (r : Recorder) → recorderAbsent r ≡ false → isRunning r ≡ false → (p : Plan) × (recorderStarted r ≡ planned p started)
+pub begun : (r : Recorder) → recorderAbsent r ≡ false → isRunning r ≡ false → (p : Plan) × (recorderStarted r ≡ planned p started)
 begun absent there still = neither (sym there)
 begun (planned p r) there still = (p, rw still refl)
 
