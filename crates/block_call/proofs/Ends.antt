@@ -1,7 +1,8 @@
 -- The loop keeps where its walk ends, and comes there: no byte is left, or no room.
-use mathlib.Core.Path.{_≡_, sym, ap, _∙_}
+use mathlib.Core.Path.{_≡_, refl, sym, ap, _∙_}
 use mathlib.Core.List.{List, [], _∷_}
 use Prim.Native.Nat.{ℕ, _-_, _<_, _≤_}
+use native.Mathlib.Omega.{arith}
 use lib.ListN.{length, drop, drop-of-length-le}
 use lib.Seq.{sets}
 use Rattle.document.specs.Numbers.{answerRoom}
@@ -12,7 +13,8 @@ use Rattle.target.proofs.Walks.{walked-all, walked-short}
 use Rattle.blocks.specs.Places.{stateLength}
 use Rattle.blocks.specs.Layout.{decoded, encoded}
 use Rattle.byte_call.proofs.Stores.{target-over}
-use Rattle.block_call.specs.Going.{walkAt, walk, Gone}
+use Rattle.block_call.specs.declared.Going.{Going}
+use Rattle.block_call.specs.Going.{walkAt, walk, Further, Gone}
 
 -- ---- a turn
 

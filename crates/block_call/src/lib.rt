@@ -1,4 +1,5 @@
 // A block of bytes at once: refused, or each byte taken as it would be singly, while there is room for an answer.
+ghost use mathlib.Core.Path.{_≡_};
 ghost use Prim.Native.Nat.{_+_, _<_, _≤_};
 ghost use lib.ListN.{length};
 ghost use Rattle.document.specs.Numbers.{answerRoom};

@@ -1,5 +1,5 @@
 -- A byte that is heard and, where it ends a message, answered, has taken its turn.
-use mathlib.Core.Path.{_≡_, refl, sym, ap, _∙_}
+use mathlib.Core.Path.{_≡_, refl, sym, ap, subst, _∙_}
 use mathlib.Core.Bool.{true}
 use mathlib.Core.List.{List}
 use Prim.Native.Nat.{ℕ, _<_, _≤_}
@@ -19,7 +19,7 @@ use Rattle.state.specs.Widths.{TargetFits}
 use Rattle.state.specs.Within.{Within}
 use Rattle.state.proofs.Keeps.{within-fits}
 use Rattle.target.specs.AnsweredHeld.{answeredHeld, instrumentsHeld}
-use Rattle.target.specs.Turn.{Turn, hearing, turn}
+use Rattle.target.specs.Turn.{Turn, hearing, silent, answering, turn}
 use Rattle.target.proofs.Keeps.{byte-keeps}
 use Rattle.target.proofs.TurnLaws.{by-event}
 use Rattle.instruments.specs.Operates.{Operates}

@@ -1,22 +1,36 @@
 -- What the block holds once a byte is heard, and once it is answered; and the call, refused and taken.
-use mathlib.Core.Path.{_≡_, refl, sym, ap, _∙_}
+use mathlib.Core.Path.{_≡_, refl, sym, ap, subst, _∙_}
 use mathlib.Core.List.{List}
 use Prim.Native.Nat.{ℕ, _+_, _<_, _≤_}
+use native.Mathlib.Omega.{arith}
 use borrow.Author.Tests.{eq-eqb, ne-eqb}
-use lib.ListN.{length, getD, set}
+use lib.ListN.{length, getD, set, take}
 use lib.Seq.{sets}
 use Rattle.document.specs.Numbers.{mostData, taken}
+use Rattle.document.specs.Gate.{Outcome}
+use Rattle.block_fields.proofs.Ranges.{sets-same}
+use Rattle.link.specs.declared.Receiver.{Receiver}
 use Rattle.link.specs.declared.Taken.{Taken as StepTaken}
 use Rattle.link.specs.declared.Event.{Event}
 use Rattle.link.specs.declared.Event.the-variants.{Nothing, Keep, Whole}
+use Rattle.link.specs.Report.{Held}
 use Rattle.link.specs.Step.{stepped}
 use Rattle.link.proofs.Places.{kept-in-body}
-use Rattle.target.specs.Turn.{withReceiver, keptBy, hearing, turn}
-use Rattle.blocks.specs.Layout.{decodedReceiver, decoded, encodedReceiver, encoded}
+use Rattle.state.specs.State.{Target, gateOf}
+use Rattle.state.specs.Widths.{TargetFits}
+use Rattle.target.specs.AnsweredHeld.{answeredHeld, instrumentsHeld}
+use Rattle.target.specs.Turn.{Turn, withReceiver, keptBy, hearing, silent, answering, turn}
+use Rattle.target.proofs.TurnLaws.{nextOf, by-event}
+use Rattle.instruments.specs.Operates.{Operates}
+use Rattle.blocks.specs.Layout.{decodedReceiver, decodedBody, decodedInstruments, decoded, encodedReceiver, encoded}
 use Rattle.blocks.specs.Places.{bodyPlace, stateLength}
-use Rattle.blocks.proofs.Stored.{quiet-stored, keep-stored}
+use Rattle.blocks.proofs.Kept.{encoded-decoded}
+use Rattle.blocks.proofs.Stored.{quiet-stored, keep-stored, instruments-stored}
 use Rattle.checks.specs.Promises.{byteNumber}
+use Rattle.byte_call.specs.declared.Taken.{Taken}
+use Rattle.byte_call.specs.Heard.{heardOf, answeredBy}
 use Rattle.byte_call.specs.Promises.{Turned, ByteTaken}
+use Rattle.byte_call.proofs.Stores.{target-over}
 
 -- ---- a byte is heard
 

@@ -1,8 +1,9 @@
 -- A message behind whatever happened since reset, answered as a fresh link would; and nothing by half. `Demands` quotes the demand.
 use mathlib.Core.Path.{_≡_, sym, ap, _∙_}
+use mathlib.Core.Bool.{true, false}
 use mathlib.Core.List.{List, [], _∷_, _++_}
 use Prim.Native.Nat.{ℕ}
-use Rattle.document.specs.Message.{Message}
+use Rattle.document.specs.Message.{Message, wellFormed, onWire}
 use Rattle.document.specs.Answer.{Answer, answerOnWire}
 use Rattle.document.specs.Gate.{Gate}
 use Rattle.document.specs.Commands.{answered}
@@ -10,9 +11,10 @@ use Rattle.document.specs.Happenings.{Happening, Since, after, afterAll}
 use Rattle.document.specs.Happenings.Happening.{byte}
 use Rattle.document.specs.Blocks.{answersOnWire}
 use Rattle.happenings.proofs.Blocks.{wire-one}
-use Rattle.happenings.specs.Bytes.{Bytes, besideBytes}
+use Rattle.link.specs.Runs.{oddRun}
+use Rattle.happenings.specs.Bytes.{Bytes, bytesOf, besideBytes}
 use Rattle.happenings.specs.Resync.{Resynchronised, ByHalf}
-use Rattle.happenings.proofs.Resync.{nothing-by-half}
+use Rattle.happenings.proofs.Resync.{resync-even, resync-next, nothing-by-half}
 use Rattle.demands.specs.House.{House}
 use Rattle.demands.specs.Stands.{Stands}
 use Rattle.demands.specs.Fresh.{AnsweredFresh, NothingByHalf}

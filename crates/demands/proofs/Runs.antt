@@ -62,7 +62,7 @@ use Rattle.demands.specs.Run.Singly.{ends, happens, refuses}
 use Rattle.demands.specs.Stands.{blank, linkIn, Stands}
 use Rattle.demands.specs.Applying.{OnlyCommand}
 use Rattle.demands.proofs.Served.{servedByte, servedTick, servedCollect, servedReport, refused-kept, room-lent, step-byte, step-tick, step-collect, step-report, report-fits}
-use Rattle.demands.proofs.Turns.{gateAfter, turn-stands}
+use Rattle.demands.proofs.Turns.{gateAfter, TurnStands, turn-stands}
 
 -- ---- what comes over the line is bytes
 line-bytes : (hs : List Happening) → AreBytes hs → AllBytes (bytesOf hs)

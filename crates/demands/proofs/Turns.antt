@@ -3,28 +3,32 @@ use mathlib.Core.Path.{_≡_, refl, sym, ap, subst, _∙_}
 use mathlib.Core.List.{List, [], _∷_, _++_, map, append-nil, foldl-append}
 use Prim.Native.Nat.{ℕ, _≤_}
 use native.Mathlib.Omega.{arith}
-use lib.ListN.{length, drop}
+use lib.ListN.{length, take, drop}
+use lib.Seq.{sets}
 use Rattle.document.specs.Numbers.{answerRoom}
 use Rattle.document.specs.Message.{Message, finishedBy}
 use Rattle.document.specs.Answer.{Answer, answerOnWire}
 use Rattle.document.specs.Gate.{Gate, Outcome}
 use Rattle.document.specs.Commands.{answered}
-use Rattle.document.specs.Happenings.{Since}
+use Rattle.document.specs.Happenings.{Since, told, after}
+use Rattle.document.specs.Happenings.Happening.{byte}
 use Rattle.document.specs.Blocks.{answersOnWire}
 use Rattle.happenings.proofs.Blocks.{answersTo}
 use Rattle.line.proofs.Left.{sets-front, sets-behind, answer-fits}
+use Rattle.link.specs.declared.Receiver.{Receiver}
+use Rattle.link.specs.declared.Taken.{Taken as StepTaken}
 use Rattle.link.specs.declared.Event.{Event}
 use Rattle.link.specs.declared.Event.the-variants.{Nothing, Keep, Whole}
 use Rattle.link.specs.Bounds as link
 use Rattle.link.specs.Step.{stepped}
 use Rattle.link.specs.Report.{Held, held, Beside, bodyAfter, reportOf, onByte, sinceReset}
 use Rattle.link.proofs.Reports.{reports}
-use Rattle.state.specs.State.{Target, gateOf}
+use Rattle.state.specs.State.{Instruments, Target, gateOf}
 use Rattle.target.specs.AnsweredHeld.{answeredHeld}
 use Rattle.target.proofs.Held.{answered-held}
 use Rattle.target.proofs.Fits.{held-formed}
 use Rattle.target.proofs.HeldLaws.{held-kept}
-use Rattle.target.specs.Turn.{Turn, silent, keeping, heldBy, answering, turn}
+use Rattle.target.specs.Turn.{Turn, silent, keeping, heldBy, answering, onEvent, turn}
 use Rattle.target.proofs.TurnLaws.{nextOf, by-event}
 use Rattle.demands.specs.Stands.{blank, linkIn}
 use Rattle.demands.proofs.Served.{replied}

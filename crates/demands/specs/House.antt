@@ -1,6 +1,6 @@
 -- A gate as its firmware has it: the block that it lends to the calls, its memory, what went over the wire, and what its own program
 -- was handed.
-use mathlib.Core.List.{List}
+use mathlib.Core.List.{List, []}
 use Prim.Native.Nat.{ℕ}
 use Rattle.document.specs.Gate.{Gate}
 use Rattle.state.specs.State.{gateOf}
