@@ -1,3 +1,4 @@
--- A preparing and a start, refused and taken.
+-- The laws, lowest first.
 pub mod Told
 pub mod Calls
+pub mod Kept
