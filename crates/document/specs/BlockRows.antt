@@ -35,6 +35,9 @@ blockRows =
     -- the longest answer leaves room for another, or one byte too little
     ∷ row 262 "2B01 03 40 1000 AC 2BC13F" 7 131
     ∷ row 263 "2B01 03 40 1000 AC 2BC13F" 10 134
+    -- two answers of 129 and 3 bytes, and a third
+    ∷ row 263 "2B01 03 40 1200 AA 2BC13F 2BC13F" 10 132
+    ∷ row 264 "2B01 03 40 1200 AA 2BC13F 2BC13F" 13 135
     -- a block that ends inside a message
     ∷ row 132 "2BC1" 2 0
     ∷ row 132 "" 0 0

@@ -2,14 +2,18 @@
 ghost use Prim.Native.Nat.{_≤_};
 ghost use lib.ListN.{length};
 ghost use Rattle.play.specs.Bounds.{Bounded};
+use crate::lengths::WIDEST;
 use crate::order::Order;
 use crate::program::collect;
 use crate::program::register;
 use crate::program::report;
+use crate::shown::FILLING;
+use crate::shown::put_block_taken;
 use adler::adler32;
 use log_gate::LOG_GATE_ANSWER_ROOM;
 use log_gate::LOG_GATE_MEMORY;
 use log_gate::LOG_GATE_STATE;
+use log_gate::log_gate_block;
 use log_gate::log_gate_byte;
 use log_gate::log_gate_tick;
 use script::output::put;
@@ -62,6 +66,33 @@ fn give(
     at
 }
 
+fn put_giving(
+    block: &[u8],
+    state: &mut [u8; LOG_GATE_STATE],
+    memory: &mut [u8; LOG_GATE_MEMORY],
+    lent: &mut [u8],
+    out: &mut [u8; 65536],
+    at: usize,
+) -> usize {
+    let taken = log_gate_block(state, block, memory, lent);
+    put_block_taken(b'K', taken, lent, out, at)
+}
+
+// A block at once: what is not taken of it is not given again.
+fn give_block(
+    block: &[u8],
+    room: usize,
+    state: &mut [u8; LOG_GATE_STATE],
+    memory: &mut [u8; LOG_GATE_MEMORY],
+    out: &mut [u8; 65536],
+    at: usize,
+) -> usize
+    requires { ⌜ room ≤ 65535 ⌝ }
+{
+    let mut lent = [FILLING; WIDEST];
+    put_giving(block, state, memory, &mut lent[0..room], out, at)
+}
+
 fn tick(times: u64, state: &mut [u8; LOG_GATE_STATE], memory: &mut [u8; LOG_GATE_MEMORY]) {
     let mut left = times;
     while left > 0 {
@@ -90,7 +121,7 @@ fn put_part(start: usize, end: usize, memory: &[u8], out: &mut [u8; 65536], at: 
     put(b'\n', out, shown)
 }
 
-// An order that begins with B, T, P, C, Y, G or M; `first` is how many bytes the gate was given before. Where the output ends.
+// An order that begins with B, K, T, P, C, Y, G or M; `first` is how many bytes the gate was given before. Where the output ends.
 pub fn carry_out(
     order: Order,
     first: u64,
@@ -105,6 +136,7 @@ pub fn carry_out(
     let letter = order.letter;
     match letter {
         b'B' => give(first, bytes, state, memory, out, at),
+        b'K' => give_block(bytes, order.wide, state, memory, out, at),
         b'T' => {
             tick(order.number, state, memory);
             at

@@ -1,6 +1,9 @@
 // The most room that a script can lend to a writer or to the reader.
 pub const LENT: usize = 600;
 
+// The most room that a script can lend to a block.
+pub const BLOCK_LENT: usize = 2000;
+
 // A room, an address or a size that has no limit of its own.
 pub const WIDEST: usize = 65535;
 

@@ -1,5 +1,6 @@
 // A line as an order: all that it says, read and found right before anything of it is carried out.
 ghost use Rattle.play.specs.Bounds.{Bounded};
+use crate::complaint::BLOCK_ROOM;
 use crate::complaint::BYTE;
 use crate::complaint::NONE;
 use crate::complaint::NUMBER;
@@ -8,6 +9,7 @@ use crate::complaint::RANGE;
 use crate::complaint::ROOM;
 use crate::complaint::SURPLUS;
 use crate::complaint::WIDE;
+use crate::lengths::BLOCK_LENT;
 use crate::lengths::BYTES;
 use crate::lengths::LENT;
 use crate::lengths::WIDEST;
@@ -35,7 +37,7 @@ pub struct Order {
     pub number: u64,
     // how many bytes the line gives, or the list of its tables has
     pub count: usize,
-    // how much of a buffer is lent; so much where a room has no limit of its own
+    // how much of a buffer is lent; so much for a block, and where a room has no limit of its own
     pub room: usize,
     pub wide: usize,
     // the part of the memory that is meant
@@ -91,6 +93,22 @@ fn with_room(order: Order, line: &[u8], from: usize, bytes: &mut [u8; BYTES]) ->
     }
     let mut lending = order;
     lending.room = value as usize;
+    with_bytes(lending, line, next, bytes)
+}
+
+// The room of a block, and its bytes: `K room hh ..`
+fn with_block(order: Order, line: &[u8], from: usize, bytes: &mut [u8; BYTES]) -> Order
+    requires { ⌜ Bounded order ⌝ }
+    ensures { λ r. ⌜ Bounded r ⌝ }
+{
+    let NumberRead::Is { value, next } = read_number(line, from) else {
+        return refused(NUMBER);
+    };
+    if value > BLOCK_LENT as u64 {
+        return refused(BLOCK_ROOM);
+    }
+    let mut lending = order;
+    lending.wide = value as usize;
     with_bytes(lending, line, next, bytes)
 }
 
@@ -223,6 +241,7 @@ fn with_operands(letter: u8, line: &[u8], from: usize, bytes: &mut [u8; BYTES]) 
     let order = order_of(letter, NONE);
     match letter {
         b'B' => with_bytes(order, line, from, bytes),
+        b'K' => with_block(order, line, from, bytes),
         b'P' => with_poke(order, line, from, bytes),
         b'R' => with_room(order, line, from, bytes),
         b'W' | b'V' => with_code(order, line, from, bytes),

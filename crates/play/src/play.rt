@@ -35,7 +35,7 @@ impl Play {
         let count = order.count as u64;
         self.at = at;
         match letter {
-            b'B' => {
+            b'B' | b'K' => {
                 self.given = std::num::wrapping_add_u64(self.given, count);
                 self.concerned = 1;
             }
@@ -62,7 +62,7 @@ pub fn carry_out(
     let count = order.count;
     let given = &bytes[0..count];
     let at = match letter {
-        b'B' | b'T' | b'P' | b'C' | b'Y' | b'G' | b'M' => gate::carry_out(
+        b'B' | b'K' | b'T' | b'P' | b'C' | b'Y' | b'G' | b'M' => gate::carry_out(
             order,
             play.given,
             given,

@@ -1,4 +1,5 @@
 // What a call did, as a line of the output shows it.
+use block_call::BlockTaken;
 use line::Written;
 use script::output::put;
 use script::output::put_bytes;
@@ -17,6 +18,23 @@ fn put_number(letter: u8, refusal: u8, out: &mut [u8; 65536], at: usize) -> usiz
 pub fn put_refusal(letter: u8, refusal: u8, out: &mut [u8; 65536], at: usize) -> usize {
     let numbered = put_number(letter, refusal, out, at);
     put(b'\n', out, numbered)
+}
+
+// The number, how many bytes of a block were taken and how many written, and the whole lent buffer.
+pub fn put_block_taken(
+    letter: u8,
+    taken: BlockTaken,
+    lent: &[u8],
+    out: &mut [u8; 65536],
+    at: usize,
+) -> usize {
+    let numbered = put_number(letter, taken.refusal, out, at);
+    let parted = put(b' ', out, numbered);
+    let counted = put_decimal(taken.taken as u64, out, parted);
+    let again = put(b' ', out, counted);
+    let written = put_decimal(taken.written as u64, out, again);
+    let shown = put_bytes(lent, out, written);
+    put(b'\n', out, shown)
 }
 
 // The number, how many bytes were written, and the whole lent buffer.
