@@ -24,6 +24,10 @@ struct message {
 
 static struct message message, second;
 
+/* What the panel gives. */
+static uint8_t setup[LOG_GATE_DATA_ROOM];
+static size_t setup_length;
+
 /* ---- what a case repeats */
 
 static size_t send(const struct message *m, size_t length)
@@ -84,6 +88,11 @@ static void run_command(void)
     send(&second, second.length);
 }
 
+static void prepare_by_panel(void)
+{
+    log_gate_prepare(state, sizeof state, setup, setup_length);
+}
+
 static void register_tables(void)
 {
     log_gate_register(state, sizeof state, memory, sizeof memory, list, sizeof list);
@@ -135,10 +144,17 @@ static size_t add_variables(uint8_t *bytes, unsigned count)
 }
 
 /* Sixteen sets; rising over 0x7000 at address 16, which never comes. */
+static size_t fill_setup(uint8_t *bytes, unsigned variables, uint16_t divider)
+{
+    const uint8_t head[] = {1, 16, 0, 0, 0, (uint8_t)divider, (uint8_t)(divider >> 8), 16, 0, 2, 0, 0, 0x70, 0, 0};
+    memcpy(bytes, head, sizeof head);
+    return sizeof head + add_variables(bytes + sizeof head, variables);
+}
+
 static void form_recorder(struct message *m, unsigned variables, uint16_t divider)
 {
-    uint8_t bytes[64] = {1, 16, 0, 0, 0, (uint8_t)divider, (uint8_t)(divider >> 8), 16, 0, 2, 0, 0, 0x70, 0, 0};
-    form(m, LOG_GATE_SET_UP_RECORDER, bytes, 15 + add_variables(bytes + 15, variables));
+    uint8_t bytes[64];
+    form(m, LOG_GATE_SET_UP_RECORDER, bytes, fill_setup(bytes, variables, divider));
 }
 
 static void form_scope(struct message *m)
@@ -313,6 +329,13 @@ static void prepare_string(void)
     expect_done(&message);
 }
 
+static void prepare_panel(void)
+{
+    setup_length = fill_setup(setup, 8, 0);
+    if (log_gate_prepare(state, sizeof state, setup, setup_length).status != LOG_GATE_DONE)
+        exit(1);
+}
+
 static void prepare_waiting(void)
 {
     start_recorder(8, 0xFFFF);
@@ -372,6 +395,7 @@ static const struct bench_case {
     {"scope", 1, "0xC5, scope of 8, all set up (3 bytes)", prepare_scope, send_whole},
     {"status", 1, "0xC3, status, all set up (3 bytes)", prepare_status, send_whole},
     {"setup", 1, "0x09 of 8, then 0xC2 (46 bytes)", prepare_setup, send_both},
+    {"panel", 1, "the panel prepares a recorder of 8", prepare_panel, prepare_by_panel},
     {"command", 1, "0x10 of 64 to its result (71 bytes)", prepare_command, run_command},
     {"collect", 1, "collecting, nothing new or set up", nothing, collect},
     {"collect-8", 1, "the same, all set up", set_up_all, collect},

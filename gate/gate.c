@@ -48,10 +48,25 @@ static void run_commands(struct gate *g)
         report(g, self_test_result(&g->self_test));
 }
 
+static uint8_t status_of(log_gate_said said)
+{
+    expect_taken(said.refusal);
+    return said.status;
+}
+
+static void use_panel(struct gate *g)
+{
+    if (panel_is_pressed(g->memory))
+        panel_prepared(&g->panel, status_of(log_gate_prepare(g->state, sizeof g->state, panel_setup, PANEL_SETUP)), g->memory);
+    else if (panel_log_came(&g->panel, g->memory))
+        panel_started(status_of(log_gate_start(g->state, sizeof g->state)), g->memory);
+}
+
 void gate_tick(struct gate *g)
 {
     scene_tick(&g->scene, g->memory);
     run_commands(g);
+    use_panel(g);
     expect_taken(log_gate_tick(g->state, sizeof g->state, g->memory, sizeof g->memory));
     g->ticks++;
 }

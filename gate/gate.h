@@ -3,6 +3,7 @@
 #define GATE_GATE_H
 
 #include "../include/log_gate.h"
+#include "panel.h"
 #include "scene.h"
 #include "self_test.h"
 
@@ -18,6 +19,7 @@ struct gate {
     uint8_t answers[GATE_ANSWERS];
     struct scene scene;
     struct self_test self_test;
+    struct panel panel;
     uint64_t ticks; /* made */
     uint64_t lost;  /* ticks that came too late to be made */
     uint64_t came, went; /* bytes at the service port, and bytes of answers */

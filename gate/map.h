@@ -18,7 +18,8 @@ enum { READ_ONLY = 1, WRITABLE = 3 };
     ROW(LOGS, 28, 4, UNSIGNED_4, READ_ONLY, "logs", "logs that have come since the start")                             \
     ROW(ALARMS, 32, 4, UNSIGNED_4, READ_ONLY, "alarms", "alarms since the start")                                      \
     ROW(CUT_COIL, 36, 1, UNSIGNED_1, WRITABLE, "cut coil", "number of a coil whose wire is cut, 0 for none")           \
-    ROW(BELT_STOPPED, 37, 1, UNSIGNED_1, WRITABLE, "belt stopped", "1 stops the belt, so that a log stays where it is")
+    ROW(BELT_STOPPED, 37, 1, UNSIGNED_1, WRITABLE, "belt stopped", "1 stops the belt, so that a log stays where it is") \
+    ROW(PANEL, 38, 1, UNSIGNED_1, WRITABLE, "panel", "1 presses the front panel's button")
 
 #define GATE_ADDRESS(symbol, address, bytes, type, access, name, what) symbol = address,
 enum { GATE_MAP(GATE_ADDRESS) };

@@ -72,6 +72,21 @@ static void print_self_test(const char *path)
            LOG_GATE_NO_COMMAND, LOG_GATE_RESULT_DUE);
 }
 
+/* The button is a variable, so that it can be pressed from here. */
+static void print_panel(const char *path)
+{
+    const uint8_t press[] = {PANEL, 0, PANEL_PRESSED, 0};
+    uint8_t wire[LOG_GATE_COMMAND_ROOM];
+    size_t sent = form(LOG_GATE_WRITE_1, press, sizeof press, wire);
+    printf("The front panel's button prepares the recorder, which starts when the next log arrives and takes %d readings of coil 1,\n"
+           "%d ms apart. It is pressed with\n",
+           PANEL_READINGS, PANEL_STEP_MS);
+    print_bytes("  send    ", wire, sent);
+    print_shell_line(wire, sent, 3, path);
+    printf("  'panel' is then %d until that log comes, and 0 again; or it is the status that refused, %02X while the recorder runs.\n",
+           PANEL_WAITS, LOG_GATE_BUSY);
+}
+
 void print_welcome(struct gate *g, const char *path)
 {
     printf("The service port is %s\n\n", path);
@@ -80,6 +95,8 @@ void print_welcome(struct gate *g, const char *path)
     print_example(g, path);
     printf("\n");
     print_self_test(path);
+    printf("\n");
+    print_panel(path);
     printf("\nStop with Ctrl-C.\n");
     fflush(stdout);
 }

@@ -9,7 +9,7 @@
  * - Each points to as many bytes as its length says.
  * - What is lent for writing overlaps nothing else that is lent.
  * - While a call runs, nobody else touches what it was lent: one call at a time for one state and its memory. Who ticks or gives
- *   bytes in an interrupt holds it off while another call runs, the two of the gate's own program too.
+ *   bytes in an interrupt holds it off while another call runs, those of the gate's own program and its panel too.
  *
  * A state needs no alignment. Calls over different states and memories share nothing.
  */
@@ -29,7 +29,7 @@ extern "C" {
  * number, a state's layout), the minor one additions. It counts apart from the protocol's version, 3, and from what 0xC0 answers.
  */
 #define LOG_GATE_VERSION_MAJOR 3
-#define LOG_GATE_VERSION_MINOR 1
+#define LOG_GATE_VERSION_MINOR 2
 #define LOG_GATE_VERSION (LOG_GATE_VERSION_MAJOR * 256 + LOG_GATE_VERSION_MINOR)
 
 /* Bytes of a target's state and of an answer reader's state; docs/STATE.md has their layout. More may be lent. */
@@ -191,6 +191,23 @@ log_gate_taken log_gate_collect(uint8_t *state, size_t state_length, uint8_t *ou
 /* It reports the result of the command that it collected. */
 log_gate_result log_gate_report(uint8_t *state, size_t state_length, uint8_t result);
 
+/* What the panel is told: a refusal or LOG_GATE_TAKEN, and the status; the status is LOG_GATE_DONE where it is refused. */
+typedef struct {
+    log_gate_result refusal;
+    uint8_t status;
+} log_gate_said;
+
+/*
+ * The gate's front panel prepares the recorder. It gives 0x09's data part, with addresses of 2 bytes, and is told 0x09's statuses
+ * in their order: LOG_GATE_MESSAGE_TOO_LONG above 64 bytes, then LOG_GATE_BUSY, LOG_GATE_LAYOUT_WRONG, LOG_GATE_SIZE_WRONG,
+ * LOG_GATE_RANGE_WRONG; each leaves the former setup. After LOG_GATE_DONE the recorder stands until it is started, as one that has
+ * taken no set. A message that is coming over the port goes on.
+ */
+log_gate_said log_gate_prepare(uint8_t *state, size_t state_length, const uint8_t *data, size_t data_length);
+
+/* The front panel starts the recorder: LOG_GATE_DONE, LOG_GATE_RECORDER_RUNS or LOG_GATE_NOT_SET_UP, as 0xC1 answers. */
+log_gate_said log_gate_start(uint8_t *state, size_t state_length);
+
 /* ---- both ends of the line */
 
 /* An answer's bytes for the wire, from its status and data. Needs LOG_GATE_ANSWER_ROOM. */
@@ -229,6 +246,7 @@ LOG_GATE_ASSERT(offsetof(log_gate_taken, length) == sizeof(size_t), "its length 
 LOG_GATE_ASSERT(sizeof(log_gate_block_taken) == 3 * sizeof(size_t), "log_gate_block_taken is three words");
 LOG_GATE_ASSERT(offsetof(log_gate_block_taken, taken) == sizeof(size_t), "what was taken is the second");
 LOG_GATE_ASSERT(offsetof(log_gate_block_taken, written) == 2 * sizeof(size_t), "what was written is the third");
+LOG_GATE_ASSERT(sizeof(log_gate_said) == 2, "log_gate_said is two bytes");
 LOG_GATE_ASSERT(sizeof(log_gate_read) == 4, "log_gate_read is four bytes");
 #ifdef __x86_64__
 LOG_GATE_ASSERT(sizeof(size_t) == 8 && sizeof(void *) == 8, "lengths and pointers have 64 bits in the library");

@@ -29,17 +29,24 @@ static void expect(int holds, const char *what)
 /* ---- counts, and a digest of all that the calls gave, by which two archives can be compared */
 
 enum call {
-    RESET, REGISTER, CHECK, BYTE, BLOCK, TICK, COLLECT, REPORT, WRITE_ANSWER, WRITE_COMMAND, READER_BEGIN, READER_BYTE, CALLS
+    RESET, REGISTER, CHECK, BYTE, BLOCK, TICK, COLLECT, REPORT, PREPARE, START, WRITE_ANSWER, WRITE_COMMAND, READER_BEGIN,
+    READER_BYTE, CALLS
 };
 
 enum { MOST_REFUSAL = LOG_GATE_LIST_REFUSED };
 
-static const char *const names[CALLS] = {"reset",   "register", "check",        "byte",          "block",        "tick",
-                                         "collect", "report",   "write_answer", "write_command", "reader_begin", "reader_byte"};
+static const char *const names[CALLS] = {"reset",  "register", "check", "byte",         "block",         "tick",         "collect",
+                                         "report", "prepare",  "start", "write_answer", "write_command", "reader_begin", "reader_byte"};
 
 /* The refusals each call can give, 0 for none. Each of them has to come, and no other. */
-static const char *const reachable[CALLS] = {"01", "0128", "01", "0123", "0123", "012", "013", "017", "034", "034", "015", "0136"};
+static const char *const reachable[CALLS] = {"01",  "0128", "01", "0123", "0123", "012", "013",
+                                             "017", "01",   "01", "034",  "034",  "015", "0136"};
 static uint64_t counts[CALLS][MOST_REFUSAL + 1], answers[256], handed_out, registered, told;
+
+/* How often the panel was told each status. Each of those it can be told has to come, and no other. */
+enum { PREPARING, STARTING, PANEL };
+static uint64_t said[PANEL][256];
+static const char *const statuses[PANEL] = {"00 83 85 86 87 89", "00 01 88"};
 
 /* How blocks that were taken ended. */
 enum { NO_BYTES, ALL_TAKEN, STOPPED, ENDS };
@@ -530,6 +537,67 @@ static void throw_report(void)
     keep_live(is_live);
 }
 
+/* ---- the front panel, beside the same given as a message to a copy whose link is idle */
+
+static uint8_t as_message[LOG_GATE_STATE];
+
+/* The status that the message gets, which leaves the copy. */
+static uint8_t status_as_message(const struct message *m)
+{
+    static uint8_t memory[LOG_GATE_MEMORY];
+    uint8_t bytes[LOG_GATE_COMMAND_ROOM], answer[LOG_GATE_ANSWER_ROOM];
+    size_t length = log_gate_write_command(m->command, m->data, m->length, bytes, sizeof bytes).length;
+    memcpy(as_message, lent_bytes(&state), sizeof as_message);
+    memset(as_message, 0, HEAD);
+    log_gate_block_taken came =
+        log_gate_block(as_message, sizeof as_message, bytes, length, memory, sizeof memory, answer, sizeof answer);
+    expect(came.refusal == LOG_GATE_TAKEN && came.taken == length && came.written == 3, "a message to the recorder gets no status");
+    return answer[1];
+}
+
+/* A data part for the panel; now and then longer than a message may have. */
+static struct message random_setup(void)
+{
+    struct message m = {.command = LOG_GATE_SET_UP_RECORDER};
+    fill_standard(&m);
+    if (one_in(8)) {
+        m.length = 60 + below(sizeof m.data - 60 + 1);
+        random_fill(m.data, m.length);
+    }
+    return m;
+}
+
+/* The recorder is as the message left it, but not started where it was only prepared. Nothing else changes. */
+static void look_at_recorder(int what, uint8_t status)
+{
+    if (what == PREPARING && status == LOG_GATE_DONE)
+        as_message[RUN] = 0;
+    expect(kept_but(&state, SCOPE_END, APPLICATION), "panel: more than the recorder");
+    expect(memcmp(lent_bytes(&state) + SCOPE_END, as_message + SCOPE_END, APPLICATION - SCOPE_END) == 0,
+           "panel: another recorder than a message leaves");
+}
+
+static void throw_panel(int what)
+{
+    struct message m = what == PREPARING ? random_setup() : (struct message){.command = LOG_GATE_START_RECORDER};
+    int is_live = lend_state(&state, live, sizeof live);
+    lend(&block, m.data, m.length, m.length);
+    uint8_t due = state_refusal(), status = due == LOG_GATE_TAKEN ? status_as_message(&m) : LOG_GATE_DONE;
+    log_gate_said came = what == PREPARING ? log_gate_prepare(lent_bytes(&state), state.length, lent_bytes(&block), block.length)
+                                           : log_gate_start(lent_bytes(&state), state.length);
+    count(what == PREPARING ? PREPARE : START, came.refusal);
+    expect(came.refusal == due && came.status == status, "panel: another refusal or status");
+    expect(kept(&block), "panel: changes the data part");
+    if (due != LOG_GATE_TAKEN) {
+        expect(kept(&state), "panel: refused and not untouched");
+        return;
+    }
+    said[what][status]++;
+    digest_bytes(&status, 1);
+    look_at_recorder(what, status);
+    keep_live(is_live);
+}
+
 /* ---- registering: lists that are good, and lists with something changed, over entries that the gate's own program wrote */
 
 enum { CALIBRATION = VARIABLES_END, ENTRY = 8, TYPES = VARIABLES_END - 48, THROWN_TABLES = 20 };
@@ -787,7 +855,7 @@ static void throw_reader_byte(void)
 
 static void throw_one(void)
 {
-    uint32_t which = below(36);
+    uint32_t which = below(37);
     if (which < 18)
         throw_byte();
     else if (which < 24)
@@ -808,6 +876,8 @@ static void throw_one(void)
         throw_register();
     else if (which == 33)
         throw_block();
+    else if (which == 34)
+        throw_panel(one_in(4) ? STARTING : PREPARING);
     else if (one_in(2))
         throw_reset();
     else
@@ -829,8 +899,25 @@ static void report_counts(void)
             printf(", %02X %llu", (unsigned)status, (unsigned long long)answers[status]);
     printf("; commands handed out %llu, lists with tables registered %llu, tables told %llu\n", (unsigned long long)handed_out,
            (unsigned long long)registered, (unsigned long long)told);
+    for (int what = 0; what < PANEL; what++) {
+        printf("panel, %s", names[PREPARE + what]);
+        for (int status = 0; status < 256; status++)
+            if (said[what][status] > 0)
+                printf(", %02X %llu", (unsigned)status, (unsigned long long)said[what][status]);
+        printf("\n");
+    }
     printf("blocks without bytes %llu, taken whole %llu, stopped %llu\n", (unsigned long long)ends[NO_BYTES],
            (unsigned long long)ends[ALL_TAKEN], (unsigned long long)ends[STOPPED]);
+}
+
+static void look_at_panel(void)
+{
+    char status[3];
+    for (int what = 0; what < PANEL; what++)
+        for (unsigned i = 0; i < 256; i++) {
+            snprintf(status, sizeof status, "%02X", i);
+            expect((strstr(statuses[what], status) != NULL) == (said[what][i] > 0), "the panel is told a status too few or too many");
+        }
 }
 
 /* After few rounds something may not have come yet; the rounds of a run without words are enough for any seed. */
@@ -840,6 +927,7 @@ static void look_at_counts(void)
     expect(handed_out > 0, "no command was ever handed out");
     expect(registered > 0 && told > 0, "no table was ever registered and told");
     expect(ends[NO_BYTES] > 0 && ends[ALL_TAKEN] > 0 && ends[STOPPED] > 0, "blocks never ended in one of the three ways");
+    look_at_panel();
     for (int call = 0; call < CALLS; call++)
         for (int refusal = 0; refusal <= MOST_REFUSAL; refusal++) {
             int can_come = strchr(reachable[call], '0' + refusal) != NULL, came = counts[call][refusal] > 0;

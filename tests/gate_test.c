@@ -1,4 +1,7 @@
-/* A log stands in the virtual gate with its nail under a coil: a recorder that starts then stops with its first set (2026-02). */
+/*
+ * The virtual gate without its port. A log stands in it with its nail under a coil: a recorder that starts then stops with its first
+ * set. Its front panel prepares the recorder, which starts when the next log arrives.
+ */
 #include "../gate/gate.h"
 #include "../gate/map.h"
 #include "../gate/memory.h"
@@ -59,12 +62,58 @@ static uint8_t after_first_tick(unsigned coil, uint8_t mode)
     return status;
 }
 
-int main(void)
+static void test_nail(void)
 {
-    gate_begin(&gate, 1);
     unsigned coil = coil_over_metal();
     expect(after_first_tick(coil, RISING) == LOG_GATE_RECORDER_STOPPED, "metal under the coil fires at the first set");
     expect(after_first_tick(coil, FALLING) == LOG_GATE_RECORDER_RUNS, "above the threshold a falling trigger waits");
+    gate.memory[BELT_STOPPED] = 0;
     printf("gate_test: a log stands at coil %u with its nail, and the recorder sees it\n", (coil - COIL_1) / 2 + 1);
+}
+
+/* ---- the front panel */
+
+enum { BUFFER = 12288, WOOD_AT_LEAST = 350, LOG_AT_LEAST_MS = 500 };
+
+static void press(void)
+{
+    gate.memory[PANEL] = PANEL_PRESSED;
+    gate_tick(&gate);
+}
+
+/* The recorder stands while the panel waits; how long it does, in milliseconds. */
+static unsigned wait_for_log(void)
+{
+    unsigned waited = 0;
+    for (; gate.memory[PANEL] == PANEL_WAITS; waited++) {
+        expect(waited < A_MINUTE, "a log comes within a minute");
+        expect(status_of(LOG_GATE_RECORDER_STATUS, NULL, 0) == LOG_GATE_RECORDER_STOPPED, "a prepared recorder stands");
+        gate_tick(&gate);
+    }
+    return waited;
+}
+
+static void test_panel(void)
+{
+    press();
+    expect(gate.memory[PANEL] == PANEL_WAITS, "the panel waits for a log");
+    unsigned waited = wait_for_log();
+    expect(gate.memory[PANEL] == PANEL_IDLE && gate.memory[LOG_INSIDE] == 1, "the panel waits no longer than until the log arrives");
+    expect(status_of(LOG_GATE_RECORDER_STATUS, NULL, 0) == LOG_GATE_RECORDER_RUNS, "the recorder is started as the log arrives");
+    press();
+    expect(gate.memory[PANEL] == LOG_GATE_BUSY, "a running recorder is not prepared");
+    for (int i = 0; i < PANEL_READINGS * PANEL_STEP_MS; i++)
+        gate_tick(&gate);
+    expect(status_of(LOG_GATE_RECORDER_STATUS, NULL, 0) == LOG_GATE_RECORDER_STOPPED, "the trace is whole");
+    for (unsigned i = 0; i < LOG_AT_LEAST_MS / PANEL_STEP_MS; i++)
+        expect(number_at(gate.memory + BUFFER + 2 * i, 2) >= WOOD_AT_LEAST, "the trace begins with the log");
+    printf("gate_test: prepared %u ms before the log, the recorder starts with it\n", waited);
+}
+
+int main(void)
+{
+    gate_begin(&gate, 1);
+    test_nail();
+    test_panel();
     return 0;
 }

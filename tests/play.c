@@ -8,7 +8,7 @@
 #include <stdlib.h>
 #include <string.h>
 
-enum { LINE = 16384, MOST_ROOM = 600, MOST_BLOCK_ROOM = 2000, MOST_UNLIMITED = 65535, MOST_TABLES = 40, FILLING = 0xEE };
+enum { LINE = 16384, MOST_ROOM = 600, MOST_BLOCK_ROOM = 2000, MOST_UNLIMITED = 65535, MOST_TABLES = 40, MOST_SETUP = 255, FILLING = 0xEE };
 
 static uint8_t state[LOG_GATE_STATE], memory[LOG_GATE_MEMORY], answer[LOG_GATE_ANSWER_ROOM];
 static uint8_t reader[LOG_GATE_READER], lent[MOST_UNLIMITED], bytes[LINE];
@@ -137,6 +137,25 @@ static void report(char *text)
     printf("Y %u\n", log_gate_report(state, sizeof state, (uint8_t)next_number(&text, 16)));
 }
 
+/* ---- the front panel */
+
+static void print_said(char letter, log_gate_said said)
+{
+    if (said.refusal != LOG_GATE_TAKEN)
+        fail("the gate refuses its panel");
+    printf("%c %02X\n", letter, said.status);
+}
+
+static void prepare(char *text)
+{
+    size_t count = next_bytes(text);
+    if (count > MOST_SETUP)
+        fail("more bytes than an F line may give");
+    print_said('F', log_gate_prepare(state, sizeof state, bytes, count));
+}
+
+/* ---- tables */
+
 /* The list as the call takes it: 2 bytes for each number, address and size in turn. */
 static size_t next_tables(char *text)
 {
@@ -197,7 +216,7 @@ static void read_bytes(char *text)
 static void play(char *text)
 {
     char letter = *text;
-    memory_used |= strchr("BTPMCYGK", letter) != NULL;
+    memory_used |= strchr("BTPMCYGKFS", letter) != NULL;
     switch (letter) {
     case 'B': give(text + 1); break;
     case 'T': tick(text + 1); break;
@@ -210,6 +229,8 @@ static void play(char *text)
     case 'Y': report(text + 1); break;
     case 'G': register_tables(text + 1); break;
     case 'K': give_block(text + 1); break;
+    case 'F': prepare(text + 1); break;
+    case 'S': print_said('S', log_gate_start(state, sizeof state)); break;
     default: fail("no operation");
     }
 }

@@ -4,8 +4,8 @@ build list_names gate/tools/list_names.c gate/tools/line.c "$archive"
 build port_test tests/port_test.c gate/tools/line.c "$archive"
 build scene_test tests/scene_test.c gate/scene.c gate/self_test.c
 $RUN_X86 $built/scene_test || fail "the scene"
-build gate_test tests/gate_test.c gate/gate.c gate/names.c gate/scene.c gate/self_test.c "$archive"
-$RUN_X86 $built/gate_test || fail "the nail under the coil"
+build gate_test tests/gate_test.c gate/gate.c gate/names.c gate/panel.c gate/scene.c gate/self_test.c "$archive"
+$RUN_X86 $built/gate_test || fail "the nail under the coil, or the front panel"
 
 # The tool that lists names, at tables such as the virtual gate has none of; and what it refuses, with a sentence.
 build names_line gate/tools/list_names.c tests/names_line.c "$archive"

@@ -1,7 +1,8 @@
 /*
  * A technician at the virtual gate's service port: port_test PATH. Commands are written and answers read with the header's other
  * end of the line. It looks that commands sent in one go are all answered, that the coils are live, that a recorder triggers on
- * one, that a written threshold counts, and that the self-test finds a coil whose wire is cut.
+ * one, that a written threshold counts, that the self-test finds a coil whose wire is cut, and that the panel's button prepares
+ * a trace of the next log.
  */
 #define _XOPEN_SOURCE 700
 #include "../gate/gate.h"
@@ -204,6 +205,34 @@ static void test_self_test(void)
     expect(send_code(0x2B) == LOG_GATE_DONE && result_in_time() == UNKNOWN_CODE, "a code that the gate does not know");
 }
 
+/* ---- the front panel: pressed over the port, it shows in its variable how far it has come */
+
+enum { WOOD_AT_LEAST = 350 };
+
+static uint8_t panel_in_time(void)
+{
+    for (int i = 0; i < TRIES && (read_byte(PANEL) == PANEL_PRESSED || read_byte(PANEL) == PANEL_WAITS); i++)
+        pause_a_little();
+    return (uint8_t)read_byte(PANEL);
+}
+
+static void test_panel(void)
+{
+    const uint8_t first[] = {2, BUFFER % 256, BUFFER / 256};
+    write_byte(PANEL, PANEL_PRESSED);
+    expect(panel_in_time() == PANEL_IDLE, "the recorder is prepared, and starts with the next log");
+    int tries = 0;
+    while (ask(LOG_GATE_RECORDER_STATUS, data, 0, 0) == LOG_GATE_RECORDER_RUNS && tries++ < TRIES)
+        pause_a_little();
+    expect(ask(LOG_GATE_QUERY_BUFFER, data, 0, 4) == LOG_GATE_DONE && word(data + 2) == 0, "the trace is whole");
+    expect(ask(LOG_GATE_READ_BYTES, first, sizeof first, 2) == LOG_GATE_DONE && word(data) >= WOOD_AT_LEAST,
+           "the trace begins with the log");
+    expect(ask(LOG_GATE_START_RECORDER, data, 0, 0) == LOG_GATE_DONE, "the laptop starts it again");
+    write_byte(PANEL, PANEL_PRESSED);
+    expect(panel_in_time() == LOG_GATE_BUSY, "a running recorder is not prepared");
+    ask(LOG_GATE_STOP_RECORDER, data, 0, 0);
+}
+
 int main(int argc, char **argv)
 {
     expect(argc == 2, "one word is given, the port's path");
@@ -214,6 +243,7 @@ int main(int argc, char **argv)
     test_recorder();
     test_alarm();
     test_self_test();
+    test_panel();
     printf("port_test: all as it should be\n");
     return 0;
 }

@@ -794,6 +794,112 @@ static void test_blocks(void)
     test_block_again();
 }
 
+/* ---- the front panel prepares and starts */
+
+/* Two samples of the byte at 16, without a trigger and without a divider. */
+#define TWO_SAMPLES "00 02 00 00 00 00 00 00 00 00 00 00 00 00 00 01 01 10 00"
+
+static uint8_t prepared(const char *data)
+{
+    uint8_t bytes[100];
+    log_gate_said said = log_gate_prepare(gate.state, sizeof gate.state, bytes, bytes_of(data, bytes));
+    EXPECT(said.refusal == LOG_GATE_TAKEN);
+    return said.status;
+}
+
+static uint8_t started(void)
+{
+    log_gate_said said = log_gate_start(gate.state, sizeof gate.state);
+    EXPECT(said.refusal == LOG_GATE_TAKEN);
+    return said.status;
+}
+
+/* So many ticks, with 1, 2, 3 .. at byte 16. */
+static void tick_values(uint8_t count)
+{
+    for (uint8_t value = 1; value <= count; value++) {
+        gate.memory[16] = value;
+        tick();
+    }
+}
+
+/* A prepared recorder stands: it answers 0x02 and start index 0, and its ticks do nothing. */
+static void expect_fresh(void)
+{
+    before = gate;
+    tick_values(3);
+    EXPECT(memcmp(gate.state, before.state, sizeof gate.state) == 0);
+    EXPECT(memcmp(gate.memory + 12288, before.memory + 12288, 4096) == 0);
+    expect_answer("2B C3 3D 2B C4 3C", "2B 02 FE; 2B 00 00 30 00 00 D0");
+}
+
+static void test_panel(void)
+{
+    reset();
+    EXPECT(started() == LOG_GATE_NOT_SET_UP);
+    EXPECT(prepared(TWO_SAMPLES) == LOG_GATE_DONE);
+    expect_fresh();
+    EXPECT(started() == LOG_GATE_DONE && started() == LOG_GATE_RECORDER_RUNS && prepared(TWO_SAMPLES) == LOG_GATE_BUSY);
+    tick_values(3);
+    expect_answer("2B C2 3E 2B C4 3C", "2B 00 00; 2B 00 00 30 01 00 CF");
+    EXPECT(prepared(TWO_SAMPLES) == LOG_GATE_DONE);
+    expect_fresh();
+    EXPECT(gate.memory[12288] == 3 && gate.memory[12289] == 2);
+    expect_answer("2B C1 3F", "2B 00 00");
+    EXPECT(started() == LOG_GATE_RECORDER_RUNS);
+    tick_values(1);
+    EXPECT(gate.memory[12288] == 1 && gate.memory[12289] == 2);
+}
+
+/* Each status with what stands below it in the order also wrong; the former setup stays. */
+static void test_panel_statuses(void)
+{
+    static const struct {
+        const char *data;
+        uint8_t status, while_running;
+    } parts[] = {
+        {"", LOG_GATE_LAYOUT_WRONG, LOG_GATE_BUSY},
+        {TWO_SAMPLES " 00", LOG_GATE_LAYOUT_WRONG, LOG_GATE_BUSY},
+        {"03 00 00 00 00 00 00 00 00 00 00 00 00 00 00 01 01 00 30", LOG_GATE_LAYOUT_WRONG, LOG_GATE_BUSY},
+        {"01 00 00 00 00 00 00 00 00 03 02 00 00 00 00 01 01 00 30", LOG_GATE_LAYOUT_WRONG, LOG_GATE_BUSY},
+        {"00 00 00 00 00 00 00 00 00 00 00 00 00 00 00 01 01 00 30", LOG_GATE_SIZE_WRONG, LOG_GATE_BUSY},
+        {"01 02 00 00 00 00 00 00 30 03 01 00 00 00 00 01 01 00 30", LOG_GATE_SIZE_WRONG, LOG_GATE_BUSY},
+        {"00 02 00 00 00 00 00 00 00 00 00 00 00 00 00 01 01 00 30", LOG_GATE_RANGE_WRONG, LOG_GATE_BUSY},
+    };
+    char too_long[3 * 66] = TWO_SAMPLES;
+    while (strlen(too_long) < 3 * 65 - 1)
+        strcat(too_long, " 00");
+    for (int running = 0; running < 2; running++) {
+        reset();
+        EXPECT(prepared(TWO_SAMPLES) == LOG_GATE_DONE && (!running || started() == LOG_GATE_DONE));
+        before = gate;
+        for (size_t i = 0; i < sizeof parts / sizeof parts[0]; i++)
+            EXPECT(prepared(parts[i].data) == (running ? parts[i].while_running : parts[i].status));
+        EXPECT(prepared(too_long) == LOG_GATE_MESSAGE_TOO_LONG);
+        EXPECT(memcmp(&gate, &before, sizeof gate) == 0);
+    }
+}
+
+/* Where the recorder's part stands, as docs/STATE.md has it. */
+enum { RECORDER = 111 };
+
+/* It is left as by a start and a stop with no tick between; and no part else is touched, a message on its way least of all. */
+static void test_panel_layout(void)
+{
+    reset();
+    expect_answer("2B E5 10 00 F0", "");
+    memset(gate.state + 9, 0xA5, 61);             /* data bytes that are still to come */
+    memset(gate.state + 71, 0xA5, RECORDER - 71); /* definitions that no scope has */
+    before = gate;
+    EXPECT(prepared(TWO_SAMPLES) == LOG_GATE_DONE);
+    struct gate fresh = gate;
+    EXPECT(started() == LOG_GATE_DONE);
+    EXPECT(memcmp(gate.state, before.state, RECORDER) == 0);
+    EXPECT(memcmp(gate.state + APPLICATION, before.state + APPLICATION, LOG_GATE_STATE - APPLICATION) == 0);
+    expect_answer("3C DF 2B C2 3E", "2B 00 00; 2B 00 00");
+    EXPECT(memcmp(gate.state + RECORDER, fresh.state + RECORDER, APPLICATION - RECORDER) == 0);
+}
+
 /* ---- refusals of the calls: each number with all higher ones also due, and nothing lent is touched */
 
 static bool untouched(void)
@@ -852,6 +958,21 @@ static void test_block_refusals(void)
         EXPECT(untouched());
         EXPECT(block_refused(sound, whole, length, room) == LOG_GATE_TAKEN && untouched() == (length == 0));
     }
+}
+
+static log_gate_result prepare_refused(size_t state)
+{
+    uint8_t data[100];
+    log_gate_said said = log_gate_prepare(gate.state, state, data, bytes_of(TWO_SAMPLES, data));
+    EXPECT(said.status == LOG_GATE_DONE);
+    return said.refusal;
+}
+
+static log_gate_result start_refused(size_t state)
+{
+    log_gate_said said = log_gate_start(gate.state, state);
+    EXPECT(said.refusal == LOG_GATE_TAKEN || said.status == LOG_GATE_DONE);
+    return said.refusal;
 }
 
 static log_gate_result collect_refused(size_t state, size_t room)
@@ -1015,6 +1136,7 @@ static void test_short_blocks(void)
         EXPECT(log_gate_tick(gate.state, n, gate.memory, LOG_GATE_MEMORY) == LOG_GATE_STATE_REFUSED);
         EXPECT(collect_refused(n, LOG_GATE_DATA_ROOM) == LOG_GATE_STATE_REFUSED);
         EXPECT(log_gate_report(gate.state, n, 0) == LOG_GATE_STATE_REFUSED);
+        EXPECT(prepare_refused(n) == LOG_GATE_STATE_REFUSED && start_refused(n) == LOG_GATE_STATE_REFUSED);
         EXPECT(register_refused(n, LOG_GATE_MEMORY, 4) == LOG_GATE_STATE_REFUSED);
     }
     EXPECT(untouched());
@@ -1030,6 +1152,7 @@ static void expect_all_refuse(void)
     EXPECT(log_gate_tick(gate.state, LOG_GATE_STATE, gate.memory, LOG_GATE_MEMORY) == LOG_GATE_STATE_REFUSED);
     EXPECT(collect_refused(LOG_GATE_STATE, LOG_GATE_DATA_ROOM - 1) == LOG_GATE_STATE_REFUSED);
     EXPECT(report(0xFF) == LOG_GATE_STATE_REFUSED);
+    EXPECT(prepare_refused(LOG_GATE_STATE) == LOG_GATE_STATE_REFUSED && start_refused(LOG_GATE_STATE) == LOG_GATE_STATE_REFUSED);
     EXPECT(untouched());
 }
 
@@ -1136,6 +1259,9 @@ int main(void)
     test_served();
     test_order();
     test_blocks();
+    test_panel();
+    test_panel_statuses();
+    test_panel_layout();
     test_target_refusals();
     test_block_refusals();
     test_application_refusals();

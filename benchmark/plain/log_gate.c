@@ -126,6 +126,23 @@ log_gate_result log_gate_report(uint8_t *state, size_t state_length, uint8_t res
     return LOG_GATE_TAKEN;
 }
 
+log_gate_said log_gate_prepare(uint8_t *state, size_t state_length, const uint8_t *data, size_t data_length)
+{
+    struct recorder *r = &((struct target *)state)->recorder;
+    if (!state_taken(state, state_length))
+        return (log_gate_said){LOG_GATE_STATE_REFUSED, LOG_GATE_DONE};
+    if (data_length > MOST_DATA)
+        return (log_gate_said){LOG_GATE_TAKEN, LOG_GATE_MESSAGE_TOO_LONG};
+    return (log_gate_said){LOG_GATE_TAKEN, prepare_recorder(r, data, (unsigned)data_length, 2)};
+}
+
+log_gate_said log_gate_start(uint8_t *state, size_t state_length)
+{
+    if (!state_taken(state, state_length))
+        return (log_gate_said){LOG_GATE_STATE_REFUSED, LOG_GATE_DONE};
+    return (log_gate_said){LOG_GATE_TAKEN, start_recorder(&((struct target *)state)->recorder)};
+}
+
 static bool is_status(uint8_t status)
 {
     return status <= LOG_GATE_RECORDER_STOPPED || (LOG_GATE_NOT_SERVED <= status && status <= LOG_GATE_RANGE_WRONG);

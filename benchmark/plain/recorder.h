@@ -55,19 +55,16 @@ static bool is_running(const struct recorder *r)
     return r->ready && r->run.running;
 }
 
-/* Accepted, it also starts; refused, the former setup stays. */
-static uint8_t set_up_recorder(struct recorder *r, const uint8_t *body, unsigned length, unsigned width)
+/* Accepted, it stands and has taken no set; refused, the former setup stays. */
+static uint8_t prepare_recorder(struct recorder *r, const uint8_t *body, unsigned length, unsigned width)
 {
     if (is_running(r))
         return LOG_GATE_BUSY;
     struct plan plan = {0};
     uint8_t status = read_plan(body, length, width, &plan);
-    if (status != LOG_GATE_DONE)
-        return status;
-    r->ready = 1;
-    r->plan = plan;
-    start_run(&r->run);
-    return LOG_GATE_DONE;
+    if (status == LOG_GATE_DONE)
+        *r = (struct recorder){.ready = 1, .plan = plan};
+    return status;
 }
 
 static uint8_t start_recorder(struct recorder *r)
@@ -78,6 +75,12 @@ static uint8_t start_recorder(struct recorder *r)
         return LOG_GATE_RECORDER_RUNS;
     start_run(&r->run);
     return LOG_GATE_DONE;
+}
+
+static uint8_t set_up_recorder(struct recorder *r, const uint8_t *body, unsigned length, unsigned width)
+{
+    uint8_t status = prepare_recorder(r, body, length, width);
+    return status == LOG_GATE_DONE ? start_recorder(r) : status;
 }
 
 static uint8_t stop_recorder(struct recorder *r)

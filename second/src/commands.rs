@@ -6,7 +6,7 @@ use crate::request::Request;
 use crate::tables::{string_length, Table};
 use crate::target::Target;
 
-const OK: u8 = 0x00;
+pub const OK: u8 = 0x00;
 const RUNS: u8 = 0x01;
 const STOPPED: u8 = 0x02;
 
@@ -31,9 +31,9 @@ pub fn carry_out(request: Request, target: &mut Target) -> Answer {
         }
         Request::ScopeRead => (OK, target.scope_bytes()),
         Request::RecorderSetup(setup) => {
-            // "Accepted, it also starts."
-            target.recorder = Some(Recorder::started(setup));
-            (OK, Vec::new())
+            // "Commands 0x09 and 0x0B become the two in a row"
+            target.recorder = Some(Recorder::prepared(setup));
+            carry_out(Request::Start, target)
         }
         Request::SendCommand(command) => {
             target.application.send(command);

@@ -1,15 +1,17 @@
 //! Counts what scripts reached: which statuses answered which commands, which
-//! refusals the calls gave and how blocks ended; and holds it against what can
-//! be reached.
+//! refusals the calls gave, how blocks ended and what the panel was told; and
+//! holds it against what can be reached.
 
 use crate::message::fast_length;
-use crate::play::{End, Watch};
-use crate::reachable::{BLOCKS, CALLS, OTHER_FAST, OTHER_STANDARD, SERVED};
+use crate::play::{End, Panel, Standing, Watch};
+use crate::reachable::{
+    BLOCKS, CALLS, OTHER_FAST, OTHER_STANDARD, PANEL, PANEL_IN_MESSAGE, SERVED,
+};
 
 /// The most answers to a block that are told apart.
 const MOST_ANSWERS: usize = 3;
 
-/// A command, a call or an end of blocks, and how often each of its results occurred.
+/// A command, a call, an end of blocks or a use of the panel, and how often each of its results occurred.
 struct Row {
     name: String,
     reachable: &'static [u8],
@@ -65,6 +67,7 @@ pub struct Counts {
     commands: Vec<Row>,
     calls: Vec<Row>,
     blocks: Vec<Row>,
+    panel: Vec<Row>,
 }
 
 impl Counts {
@@ -87,31 +90,47 @@ impl Counts {
         let blocks = BLOCKS
             .iter()
             .map(|(end, answers)| Row::new(name_of(*end).to_string(), answers));
+        let panel = PANEL
+            .iter()
+            .map(|(panel, standing, statuses)| Row::new(panel_name(*panel, *standing), statuses));
+        let in_message = PANEL_IN_MESSAGE
+            .iter()
+            .map(|(panel, statuses)| Row::new(in_message_name(*panel), statuses));
         Counts {
             commands: named.chain(others).collect(),
             calls: calls.collect(),
             blocks: blocks.collect(),
+            panel: panel.chain(in_message).collect(),
         }
     }
 
-    /// The three tables.
+    /// The tables, each with its title, what its results are, and its rows.
+    fn tables(&self) -> [(&'static str, &'static str, &[Row]); 4] {
+        [
+            ("command", "status", &self.commands),
+            ("call", "refusal", &self.calls),
+            ("block, answers", "answers", &self.blocks),
+            ("panel", "status", &self.panel),
+        ]
+    }
+
     pub fn tell(&self) -> String {
-        let blocks = table("block, answers", &self.blocks);
-        table("command", &self.commands) + &table("call", &self.calls) + &blocks
+        let told = self.tables().map(|(title, _, rows)| table(title, rows));
+        told.concat()
     }
 
     /// A line for each pair that was not reached or could not be.
     pub fn faults(&self) -> String {
-        let commands = self.commands.iter().flat_map(|row| row.faults("status"));
-        let calls = self.calls.iter().flat_map(|row| row.faults("refusal"));
-        let blocks = self.blocks.iter().flat_map(|row| row.faults("answers"));
-        commands.chain(calls).chain(blocks).collect()
+        let faults = |(_, what, rows): (_, &str, &[Row])| -> String {
+            rows.iter().flat_map(|row| row.faults(what)).collect()
+        };
+        self.tables().map(faults).concat()
     }
 
-    /// How many pairs can be reached, of commands, of calls and of blocks.
-    pub fn reachable(&self) -> [usize; 3] {
+    /// How many pairs can be reached, of each table.
+    pub fn reachable(&self) -> [usize; 4] {
         let pairs = |rows: &[Row]| rows.iter().map(|row| row.reachable.len()).sum();
-        [&self.commands, &self.calls, &self.blocks].map(|rows| pairs(rows))
+        self.tables().map(|(_, _, rows)| pairs(rows))
     }
 }
 
@@ -122,22 +141,32 @@ impl Watch for Counts {
             None => "other standard",
             Some(_) => "other fast",
         };
-        let mut rows = self.commands.iter_mut();
-        let row = rows.find(|row| row.name == name || row.name == other);
-        row.expect("each command has a row").counts[usize::from(status)] += 1;
+        let listed = self.commands.iter().any(|row| row.name == name);
+        let name = if listed { &name } else { other };
+        count(&mut self.commands, name, usize::from(status));
     }
 
     fn called(&mut self, letter: char, refusal: u8) {
-        let name = letter.to_string();
-        let row = self.calls.iter_mut().find(|row| row.name == name);
-        row.expect("each call has a row").counts[usize::from(refusal)] += 1;
+        count(&mut self.calls, &letter.to_string(), usize::from(refusal));
     }
 
     fn ended(&mut self, end: End, answers: usize) {
-        let name = name_of(end);
-        let row = self.blocks.iter_mut().find(|row| row.name == name);
-        row.expect("each end has a row").counts[answers.min(MOST_ANSWERS)] += 1;
+        count(&mut self.blocks, name_of(end), answers.min(MOST_ANSWERS));
     }
+
+    fn at_panel(&mut self, panel: Panel, standing: Standing, in_message: bool, status: u8) {
+        let status = usize::from(status);
+        count(&mut self.panel, &panel_name(panel, standing), status);
+        if in_message {
+            count(&mut self.panel, &in_message_name(panel), status);
+        }
+    }
+}
+
+/// One more of a result in the row of this name; each has one.
+fn count(rows: &mut [Row], name: &str, result: usize) {
+    let row = rows.iter_mut().find(|row| row.name == name);
+    row.expect("every name has a row").counts[result] += 1;
 }
 
 fn name_of(end: End) -> &'static str {
@@ -147,6 +176,21 @@ fn name_of(end: End) -> &'static str {
         End::WholeAndFull => "all, no room",
         End::Stopped => "stopped",
     }
+}
+
+fn panel_name(panel: Panel, standing: Standing) -> String {
+    let standing = match standing {
+        Standing::NotSetUp => "not set up",
+        Standing::Fresh => "no set",
+        Standing::Runs => "runs",
+        Standing::Stopped => "stopped",
+        Standing::Full => "full",
+    };
+    format!("{}, {standing}", panel.letter())
+}
+
+fn in_message_name(panel: Panel) -> String {
+    format!("{} in message", panel.letter())
 }
 
 /// A column for each result that some row reached or can reach.
@@ -188,6 +232,8 @@ mod tests {
         counts.called('E', 5);
         counts.ended(End::Whole, 9);
         counts.ended(End::Empty, 1);
+        counts.at_panel(Panel::Starts, Standing::Runs, true, 0x01);
+        counts.at_panel(Panel::Starts, Standing::Full, false, 0x88);
         let faults = counts.faults();
         let has = |line: &str| faults.lines().any(|l| l == line);
         assert!(has("never reached: C8 with status 82"));
@@ -200,6 +246,10 @@ mod tests {
         assert!(has("never reached: stopped with answers 01"));
         assert!(has("not to be reached: no bytes with answers 01"));
         assert!(!has("never reached: all taken with answers 03"));
+        assert!(has("never reached: F, runs with status 87"));
+        assert!(has("never reached: S in message with status 00"));
+        assert!(!has("never reached: S in message with status 01"));
+        assert!(has("not to be reached: S, full with status 88"));
     }
 
     #[test]
@@ -207,7 +257,7 @@ mod tests {
         let mut counts = Counts::none();
         counts.answered(0xFF, 0x81);
         let told = counts.tell();
-        assert_eq!(told.lines().count(), 1 + 36 + 1 + 8 + 1 + 4);
+        assert_eq!(told.lines().count(), 1 + 36 + 1 + 8 + 1 + 4 + 1 + 12);
         let last = told.lines().find(|l| l.starts_with("other fast")).unwrap();
         let cells: Vec<&str> = last.split_whitespace().collect();
         assert_eq!(cells[2..6], [".", ".", ".", "1"]);

@@ -115,6 +115,11 @@ impl Heard {
         self.from += settled(unsettled, rule);
         message
     }
+
+    /// Neither is a message open nor does a 0x2B wait.
+    pub fn is_settled(&self) -> bool {
+        self.from == self.bytes.len()
+    }
 }
 
 /// The byte that makes the bytes before it "add up to 0 modulo 256".

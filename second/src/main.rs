@@ -11,6 +11,7 @@ mod host;
 mod line;
 mod make;
 mod message;
+mod panel;
 mod play;
 mod reachable;
 mod recorder;
@@ -29,6 +30,8 @@ mod application_test;
 mod block_test;
 #[cfg(test)]
 mod order_test;
+#[cfg(test)]
+mod panel_test;
 #[cfg(test)]
 mod recorder_test;
 #[cfg(test)]
@@ -114,11 +117,11 @@ fn cover_scripts(files: &[&str]) -> Result<ExitCode, String> {
         let played = play::play_watched(&mut open(file)?, &mut io::sink(), &mut counts);
         played.map_err(|wrong| format!("{file}: {wrong}"))?;
     }
-    let [commands, calls, blocks] = counts.reachable();
+    let [commands, calls, blocks, panel] = counts.reachable();
     print!("{}", counts.tell());
     println!(
         "reachable: {commands} pairs of command and status, {calls} of call and refusal, \
-         {blocks} of a block's end and answers"
+         {blocks} of a block's end and answers, {panel} of the panel's finding and status"
     );
     let faults = counts.faults();
     print!("{faults}");

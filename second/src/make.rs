@@ -3,7 +3,8 @@
 //! A script is a row of steps: single messages right and wrong, noise, whole
 //! recordings that are set up, triggered and read back, commands for the gate's
 //! own program with its calls, tables of names that are registered and asked
-//! for, blocks of wire bytes, and calls of the other end of the cable.
+//! for, blocks of wire bytes, a panel that prepares and starts the recorder, and
+//! calls of the other end of the cable.
 
 mod application;
 mod blocks;
@@ -11,6 +12,7 @@ mod entries;
 mod host;
 mod memory;
 mod noise;
+mod panel;
 mod plan;
 mod recording;
 mod scope;
@@ -40,7 +42,7 @@ pub struct Maker {
 type Step = fn(&mut Maker);
 
 /// Each step with its weight.
-const STEPS: [(u64, Step); 31] = [
+const STEPS: [(u64, Step); 35] = [
     (8, Maker::fast_read),
     (8, Maker::fast_write),
     (10, Maker::block),
@@ -72,6 +74,10 @@ const STEPS: [(u64, Step); 31] = [
     (3, Maker::string),
     (2, Maker::string_edges),
     (8, Maker::blocks),
+    (7, Maker::panel_recording),
+    (5, Maker::panel_wrong),
+    (3, Maker::panel_call),
+    (5, Maker::panel_amid),
 ];
 
 /// The script of a seed: so many operations, then the memory shown.
@@ -120,6 +126,11 @@ impl Maker {
         for command in [0xC1, 0xC2, 0xC3, 0xC4, 0xC9, 0xC5, 0xC6] {
             if self.rng.once_in(2) {
                 self.send(command, &[]);
+            }
+        }
+        for step in [Maker::panel_amid, Maker::panel_wrong] {
+            if self.rng.once_in(2) {
+                step(self);
             }
         }
         if self.rng.once_in(2) {

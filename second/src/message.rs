@@ -31,6 +31,15 @@ impl Length for CommandLength {
 }
 
 impl Message {
+    /// A message that came whole.
+    pub fn right(command: u8, data: &[u8]) -> Message {
+        Message {
+            command,
+            data: data.to_vec(),
+            right_sum: true,
+        }
+    }
+
     /// Takes apart the literals of a whole message.
     pub fn of(literals: &[u8]) -> Message {
         let command = literals[0];

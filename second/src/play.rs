@@ -43,8 +43,50 @@ impl End {
     }
 }
 
-/// Whoever is told of every answer, of every call at the other end and of how
-/// blocks end.
+/// What the panel can do.
+#[derive(Clone, Copy, Debug, PartialEq, Eq)]
+pub enum Panel {
+    Prepares,
+    Starts,
+}
+
+impl Panel {
+    /// Of the line that does it.
+    pub fn letter(self) -> char {
+        match self {
+            Panel::Prepares => 'F',
+            Panel::Starts => 'S',
+        }
+    }
+}
+
+/// How the recorder stands when the panel does something.
+#[derive(Clone, Copy, Debug, PartialEq, Eq)]
+pub enum Standing {
+    NotSetUp,
+    /// It stands and has taken no set since it was prepared or started.
+    Fresh,
+    Runs,
+    /// It stopped before 'samples' sets were taken.
+    Stopped,
+    /// The buffer is full.
+    Full,
+}
+
+impl Standing {
+    fn at(target: &Target) -> Standing {
+        match &target.recorder {
+            None => Standing::NotSetUp,
+            Some(recorder) if recorder.runs() => Standing::Runs,
+            Some(recorder) if recorder.has_no_set() => Standing::Fresh,
+            Some(recorder) if recorder.is_full() => Standing::Full,
+            Some(_) => Standing::Stopped,
+        }
+    }
+}
+
+/// Whoever is told of every answer, of every call at the other end, of how
+/// blocks end and of what the panel does.
 pub trait Watch {
     /// A message of a command was answered with a status.
     fn answered(&mut self, command: u8, status: u8);
@@ -52,6 +94,8 @@ pub trait Watch {
     fn called(&mut self, letter: char, refusal: u8);
     /// A block ended so, with so many answers.
     fn ended(&mut self, end: End, answers: usize);
+    /// The panel got a status, in the midst of a message or not.
+    fn at_panel(&mut self, panel: Panel, standing: Standing, in_message: bool, status: u8);
 }
 
 /// Nobody.
@@ -59,6 +103,7 @@ impl Watch for () {
     fn answered(&mut self, _command: u8, _status: u8) {}
     fn called(&mut self, _letter: char, _refusal: u8) {}
     fn ended(&mut self, _end: End, _answers: usize) {}
+    fn at_panel(&mut self, _panel: Panel, _standing: Standing, _in_message: bool, _status: u8) {}
 }
 
 struct Player<'a, O: Write, W: Watch> {
@@ -147,6 +192,8 @@ impl<O: Write, W: Watch> Player<'_, O, W> {
             Operation::Report(result) => self.report(result),
             Operation::Register(list) => self.register(list),
             Operation::Block { room, bytes } => self.block(room, &bytes),
+            Operation::Prepare(data) => self.panel(Panel::Prepares, |gate| gate.prepare(&data)),
+            Operation::Start => self.panel(Panel::Starts, Target::start),
         }
     }
 
@@ -182,6 +229,13 @@ impl<O: Write, W: Watch> Player<'_, O, W> {
             self.watch.answered(answer.command, answer.status);
         }
         self.watch.ended(end, block.answers.len());
+    }
+
+    fn panel(&mut self, panel: Panel, does: impl FnOnce(&mut Target) -> u8) -> Result<(), Failure> {
+        let (standing, in_message) = (Standing::at(&self.target), self.target.is_in_message());
+        let status = does(&mut self.target);
+        self.watch.at_panel(panel, standing, in_message, status);
+        self.print(&format!("{} {status:02X}", panel.letter()), &[])
     }
 
     fn write(&mut self, letter: char, writer: Writer, call: Call) -> Result<(), Failure> {
@@ -339,6 +393,15 @@ mod tests {
             "K 0 5 9 {brief}{fill}\nA 5 2B 88 78\nK 3 0 0{all}\nK 3 0 0\nK 0 0 0{fill}\nA 9 2B 88 78\nD "
         );
         assert!(out.starts_with(&wanted), "{out}");
+    }
+
+    #[test]
+    fn the_panel_prepares_and_starts() {
+        let setup = "00 02 00 00 00 00 00 00 00 00 00 00 00 00 00 01 01 10 00";
+        let script = format!("S\nF\nB 2B C3\nF {setup}\nB 3D\nS\nS\nF {setup}\nB 2B C3 3D\n");
+        let (_, out) = played(&script);
+        let wanted = "S 88\nF 85\nF 00\nA 2 2B 02 FE\nS 00\nS 01\nF 87\nA 5 2B 01 FF\nD ";
+        assert!(out.starts_with(wanted), "{out}");
     }
 
     /// Indexes and the reader stay at a reset with tables.

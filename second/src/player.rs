@@ -8,6 +8,7 @@ mod commands;
 mod host;
 mod line;
 mod message;
+mod panel;
 mod play;
 mod recorder;
 mod refusals;

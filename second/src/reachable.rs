@@ -1,10 +1,11 @@
 //! What can be reached, written down from the paper: the statuses that answer
-//! each command, and the refusals of each call that a script makes.
+//! each command, the refusals of each call that a script makes, how blocks end
+//! and what the panel is told.
 //!
 //! Nothing here is computed from the refusals' table: a row there that refuses
 //! too much or too little shows as a pair too few or too many.
 
-use crate::play::End;
+use crate::play::{End, Panel, Standing};
 
 /// Commands served, and the statuses that can answer them.
 pub const SERVED: [(&[u8], &[u8]); 14] = [
@@ -56,4 +57,28 @@ pub const BLOCKS: [(End, &[u8]); 4] = [
     (End::Whole, &[0, 1, 2, 3]),
     (End::WholeAndFull, &[1, 2, 3]),
     (End::Stopped, &[1, 2, 3]),
+];
+
+/// What the panel can be told, by how the recorder stands. A refused setup is
+/// never 0x88: that is said of what needs one.
+pub const PANEL: [(Panel, Standing, &[u8]); 10] = [
+    (Panel::Prepares, Standing::NotSetUp, READ),
+    (Panel::Prepares, Standing::Fresh, READ),
+    (Panel::Prepares, Standing::Runs, &[0x83, 0x87]),
+    (Panel::Prepares, Standing::Stopped, READ),
+    (Panel::Prepares, Standing::Full, READ),
+    (Panel::Starts, Standing::NotSetUp, &[0x88]),
+    (Panel::Starts, Standing::Fresh, &[0x00]),
+    (Panel::Starts, Standing::Runs, &[0x01]),
+    (Panel::Starts, Standing::Stopped, &[0x00]),
+    (Panel::Starts, Standing::Full, &[0x00]),
+];
+
+/// The statuses of a setup that is looked at to its end.
+const READ: &[u8] = &[0x00, 0x83, 0x85, 0x86, 0x89];
+
+/// What it can be told in the midst of a message: the same.
+pub const PANEL_IN_MESSAGE: [(Panel, &[u8]); 2] = [
+    (Panel::Prepares, &[0x00, 0x83, 0x85, 0x86, 0x87, 0x89]),
+    (Panel::Starts, &[0x00, 0x01, 0x88]),
 ];

@@ -39,20 +39,22 @@ pub struct Recorder {
     trigger: Option<Trigger>,
     /// The list of the ticks since the start.
     list: Vec<Stretch>,
-    /// A stop came over the wire.
-    stop_came: bool,
+    /// Nothing has started it yet, or a stop came over the wire.
+    stands: bool,
     /// What `search` found in the stretches before `searched`.
     found: Option<Count>,
     searched: usize,
 }
 
 impl Recorder {
-    pub fn started(setup: Setup) -> Recorder {
+    /// "A recorder prepared and not started": it stands, and "counts as having
+    /// taken no set".
+    pub fn prepared(setup: Setup) -> Recorder {
         Recorder {
             trigger: Trigger::of(&setup),
             setup,
             list: Vec::new(),
-            stop_came: false,
+            stands: true,
             found: None,
             searched: 0,
         }
@@ -60,26 +62,35 @@ impl Recorder {
 
     /// A start forgets everything of the run before; the buffer's bytes stay.
     pub fn start(&mut self) {
-        *self = Recorder::started(self.setup.clone());
+        *self = Recorder::prepared(self.setup.clone());
+        self.stands = false;
     }
 
     pub fn stop(&mut self) {
-        self.stop_came = true;
+        self.stands = true;
     }
 
-    /// Runs until a stop came or all its sets are taken.
+    /// Runs from a start until a stop came or all its sets are taken.
     pub fn runs(&self) -> bool {
-        !self.stop_came && self.last_set().is_none_or(|last| self.taken() <= last)
+        !self.stands && self.last_set().is_none_or(|last| self.taken() <= last)
+    }
+
+    pub fn has_no_set(&self) -> bool {
+        self.taken() == 0
+    }
+
+    /// 'samples' sets are taken.
+    pub fn is_full(&self) -> bool {
+        self.taken() >= self.samples()
     }
 
     /// "The start index is 0 until 'samples' sets are taken, then the place
     /// that would be written next."
     pub fn start_index(&self) -> u16 {
-        let taken = self.taken();
-        if taken < self.samples() {
-            0
+        if self.is_full() {
+            self.place(self.taken()) as u16
         } else {
-            self.place(taken) as u16
+            0
         }
     }
 

@@ -89,12 +89,19 @@ fn any_setup(rng: &mut Rng) -> Setup {
     }
 }
 
+fn started(setup: Setup) -> Recorder {
+    let mut recorder = Recorder::prepared(setup);
+    assert!(!recorder.runs());
+    recorder.start();
+    recorder
+}
+
 #[test]
 fn agrees_with_one_told_tick_by_tick() {
     let mut rng = Rng::new(11);
     for _ in 0..3_000 {
         let setup = any_setup(&mut rng);
-        let mut derived = Recorder::started(setup.clone());
+        let mut derived = started(setup.clone());
         let mut told = Told {
             setup,
             ticks: 0,
@@ -139,7 +146,7 @@ fn long_runs() {
     setup.samples = 7;
     setup.divider = 0;
     let mut memory = vec![0; MEMORY];
-    let mut recorder = Recorder::started(setup);
+    let mut recorder = started(setup);
     recorder.ticks(65_540, &mut memory);
     assert_eq!(recorder.start_index(), (65_540 % 7) as u16);
     recorder.ticks(u64::MAX, &mut memory);
@@ -157,7 +164,7 @@ fn starts_afresh() {
     setup.samples = 2;
     setup.divider = 0;
     let mut memory = vec![0x55; MEMORY];
-    let mut recorder = Recorder::started(setup);
+    let mut recorder = started(setup);
     recorder.ticks(3, &mut memory);
     assert_eq!(recorder.start_index(), 1);
     recorder.stop();

@@ -280,38 +280,30 @@ mod tests {
     use super::*;
     use crate::message::fast_length;
 
-    fn message(command: u8, data: &[u8]) -> Message {
-        Message {
-            command,
-            data: data.to_vec(),
-            right_sum: true,
-        }
-    }
-
     /// Every fast command's fields fill just the data its code gives.
     #[test]
     fn fast_fields_fill_the_length_bits() {
         for command in 0xC0..=0xFF {
             let data = vec![0; fast_length(command).unwrap()];
-            let fits = request(&message(command, &data)).is_some();
+            let fits = request(&Message::right(command, &data)).is_some();
             assert_eq!(fits, order(command).is_some(), "{command:02X}");
         }
     }
 
     #[test]
     fn sizes_must_fit_the_length() {
-        assert!(request(&message(0x02, &[2, 0, 0, 8, 9])).is_some());
-        assert!(request(&message(0x02, &[2, 0, 0, 8])).is_none());
-        assert!(request(&message(0x03, &[1, 0, 0, 8, 9])).is_some());
-        assert!(request(&message(0x03, &[1, 0, 0, 8])).is_none());
-        assert!(request(&message(0x04, &[1, 0, 0, 0, 0])).is_some());
-        assert!(request(&message(0x04, &[1, 0, 0])).is_none());
-        assert!(request(&message(0x08, &[])).is_none());
-        assert!(request(&message(0x08, &[0])).is_some());
-        assert!(request(&message(0x0A, &[1, 1, 0, 0, 0, 0])).is_some());
-        assert!(request(&message(0x11, &[0, 0])).is_some());
-        assert!(request(&message(0x11, &[0])).is_none());
-        assert!(request(&message(0x11, &[0, 0, 0])).is_none());
+        assert!(request(&Message::right(0x02, &[2, 0, 0, 8, 9])).is_some());
+        assert!(request(&Message::right(0x02, &[2, 0, 0, 8])).is_none());
+        assert!(request(&Message::right(0x03, &[1, 0, 0, 8, 9])).is_some());
+        assert!(request(&Message::right(0x03, &[1, 0, 0, 8])).is_none());
+        assert!(request(&Message::right(0x04, &[1, 0, 0, 0, 0])).is_some());
+        assert!(request(&Message::right(0x04, &[1, 0, 0])).is_none());
+        assert!(request(&Message::right(0x08, &[])).is_none());
+        assert!(request(&Message::right(0x08, &[0])).is_some());
+        assert!(request(&Message::right(0x0A, &[1, 1, 0, 0, 0, 0])).is_some());
+        assert!(request(&Message::right(0x11, &[0, 0])).is_some());
+        assert!(request(&Message::right(0x11, &[0])).is_none());
+        assert!(request(&Message::right(0x11, &[0, 0, 0])).is_none());
     }
 
     #[test]
@@ -320,7 +312,7 @@ mod tests {
             size: 1,
             address: 0x0403_0201,
         });
-        let read = message(0xE0, &[1, 2, 3, 4]);
+        let read = Message::right(0xE0, &[1, 2, 3, 4]);
         assert_eq!(request(&read), Some(wanted));
     }
 }

@@ -9,6 +9,9 @@ const MOST_ROOM: usize = 600;
 const MOST_BLOCK_ROOM: usize = 2_000;
 const MOST_UNLIMITED: usize = 65_535;
 
+/// The most bytes an F line may give, far more than a setup can have.
+const MOST_SETUP: usize = 255;
+
 /// The most tables a G line may name, more than can be registered.
 const MOST_TABLES: usize = 40;
 
@@ -35,6 +38,9 @@ pub enum Operation {
         room: usize,
         bytes: Vec<u8>,
     },
+    /// The data part that the panel gives.
+    Prepare(Vec<u8>),
+    Start,
 }
 
 impl Operation {
@@ -107,6 +113,8 @@ impl Words<'_> {
                 room: self.room_up_to(MOST_BLOCK_ROOM)?,
                 bytes: self.bytes()?,
             }),
+            "F" => Ok(Operation::Prepare(self.bytes_up_to(MOST_SETUP)?)),
+            "S" => Ok(Operation::Start),
             other => Err(format!("`{other}` is no operation")),
         }
     }
@@ -170,6 +178,13 @@ impl Words<'_> {
     fn bytes(&mut self) -> Result<Vec<u8>, String> {
         self.0.by_ref().map(hex).collect()
     }
+
+    fn bytes_up_to(&mut self, most: usize) -> Result<Vec<u8>, String> {
+        match self.bytes()? {
+            bytes if bytes.len() <= most => Ok(bytes),
+            bytes => Err(format!("{} bytes are more than {most}", bytes.len())),
+        }
+    }
 }
 
 /// One or two hexadecimal digits.
@@ -213,6 +228,9 @@ mod tests {
         let block = |room, bytes| Some(Operation::Block { room, bytes });
         assert_eq!(read("K 0"), block(0, Vec::new()));
         assert_eq!(read("K 2000 2b 7"), block(2_000, vec![0x2B, 0x07]));
+        assert_eq!(read("F"), Some(Operation::Prepare(Vec::new())));
+        assert_eq!(read("F 2b 7"), Some(Operation::Prepare(vec![0x2B, 0x07])));
+        assert_eq!(read("S"), Some(Operation::Start));
         let call = Call {
             first: 0xD0,
             room: 600,
@@ -263,9 +281,19 @@ mod tests {
             "K 2001",
             "K 132 100",
             "K 132 0x",
+            "F 100",
+            "F -1",
+            "S 1",
+            "S 00",
         ] {
             assert!(parse(line).is_err(), "{line}");
         }
+    }
+
+    #[test]
+    fn up_to_255_bytes_of_a_setup() {
+        assert!(parse(&format!("F{}", " 00".repeat(255))).is_ok());
+        assert!(parse(&format!("F{}", " 00".repeat(256))).is_err());
     }
 
     #[test]

@@ -77,16 +77,25 @@ impl Target {
     pub fn byte(&mut self, byte: u8) -> Option<Answer> {
         let literals = self.heard.hear(byte, &CommandLength)?;
         let message = Message::of(&literals);
-        let (status, data) = match judge(&message, self) {
-            Ok(request) => carry_out(request, self),
-            // "A status with its top bit set carries no data."
-            Err(status) => (status, Vec::new()),
-        };
+        let (status, data) = self.answer(&message);
         Some(Answer {
             command: message.command,
             status,
             wire: wire(status, &data),
         })
+    }
+
+    pub fn is_in_message(&self) -> bool {
+        !self.heard.is_settled()
+    }
+
+    /// A message, refused or carried out: a status and the data beside it.
+    pub fn answer(&mut self, message: &Message) -> (u8, Vec<u8>) {
+        match judge(message, self) {
+            Ok(request) => carry_out(request, self),
+            // "A status with its top bit set carries no data."
+            Err(status) => (status, Vec::new()),
+        }
     }
 
     /// "One call takes a block and writes the answers one behind another."

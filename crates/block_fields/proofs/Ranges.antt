@@ -5,7 +5,7 @@ use Prim.Native.Nat.{ℕ, zero, suc, _+_, _<_, _≤_, _-_}
 use native.Mathlib.Nat.{add-zero}
 use native.Mathlib.Omega.{arith}
 use lib.ListN.{length, getD, set, take, drop, replicate, length-take, length-drop, length-set}
-use lib.Seq.{sets, drop-set-lt, drop-cons, drop-drop, take-add, set-getD, set-comm}
+use lib.Seq.{sets, drop-set-lt, drop-cons, drop-drop, take-add, set-getD, set-set, set-comm}
 use Rattle.document.specs.Areas.{bytesAt}
 
 module _ (l : List ℕ) where
@@ -74,3 +74,12 @@ pub sets-apart : (xs ys l : List ℕ) (p q : ℕ) → q + length ys ≤ p → se
 sets-apart xs [] l p q h = refl
 sets-apart xs (y ∷ ys) l p q h =
     ap (λ (k : List ℕ). sets k (suc q) ys) (byte-apart xs l p q y (omega arith)) ∙ sets-apart xs ys (set l q y) p (suc q) (omega arith)
+
+-- ---- a store over another
+
+pub sets-over : (xs ys l : List ℕ) (i : ℕ) → length xs ≤ length ys → sets (sets l i xs) i ys ≡ sets l i ys
+sets-over [] ys l i h = refl
+sets-over (x ∷ xs) [] l i h = let z : ⊥ = omega arith in absurd z
+sets-over (x ∷ xs) (y ∷ ys) l i h =
+    ap (λ (k : List ℕ). sets k (suc i) ys) (byte-apart xs (set l i x) (suc i) i y (omega arith) ∙ ap (λ (k : List ℕ). sets k (suc i) xs) (set-set l i x y))
+    ∙ sets-over xs ys (set l i y) (suc i) (omega arith)

@@ -3,7 +3,7 @@ use mathlib.Core.Path.{_≡_, refl}
 use Prim.Native.Nat.{ℕ, _<_}
 use lib.ListN.{length}
 use Rattle.document.specs.declared.Operation.{Operation}
-use Rattle.document.specs.declared.Operation.the-variants.{Unserved, Describe, DescribeBriefly, Read, Write, WriteMasked, SetUpScope, ReadScope, SetUpRecorder, Start, Stop, Status, QueryBuffer, SendCommand, CommandResult, TellTable, MeasureString}
+use Rattle.document.specs.declared.Operation.the-variants.{Unserved, Describe, DescribeBriefly, Read, Write, WriteMasked, SetUpScope, ReadScope, PrepareAndStart, Start, Stop, Status, QueryBuffer, SendCommand, CommandResult, TellTable, MeasureString}
 use Rattle.codes.specs.Numbering.{operations, numberOf, operationNumbered}
 use Rattle.codes.proofs.Entries.{same-rule}
 
@@ -16,7 +16,7 @@ operation-of-number Write served = refl
 operation-of-number WriteMasked served = refl
 operation-of-number SetUpScope served = refl
 operation-of-number ReadScope served = refl
-operation-of-number SetUpRecorder served = refl
+operation-of-number PrepareAndStart served = refl
 operation-of-number Start served = refl
 operation-of-number Stop served = refl
 operation-of-number Status served = refl

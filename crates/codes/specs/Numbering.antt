@@ -3,7 +3,7 @@ use mathlib.Core.List.{List, [], _∷_}
 use Prim.Native.Nat.{ℕ}
 use lib.ListN.{getD}
 use Rattle.document.specs.declared.Operation.{Operation}
-use Rattle.document.specs.declared.Operation.the-variants.{Unserved, Describe, DescribeBriefly, Read, Write, WriteMasked, SetUpScope, ReadScope, SetUpRecorder, Start, Stop, Status, QueryBuffer, SendCommand, CommandResult, TellTable, MeasureString}
+use Rattle.document.specs.declared.Operation.the-variants.{Unserved, Describe, DescribeBriefly, Read, Write, WriteMasked, SetUpScope, ReadScope, PrepareAndStart, Start, Stop, Status, QueryBuffer, SendCommand, CommandResult, TellTable, MeasureString}
 
 -- what is not served has no number, and 0 stands in its place
 abbrev pub numberOf : Operation → ℕ
@@ -15,7 +15,7 @@ numberOf Write = 3
 numberOf WriteMasked = 4
 numberOf SetUpScope = 5
 numberOf ReadScope = 6
-numberOf SetUpRecorder = 7
+numberOf PrepareAndStart = 7
 numberOf Start = 8
 numberOf Stop = 9
 numberOf Status = 10
@@ -34,7 +34,7 @@ operations =
     ∷ WriteMasked
     ∷ SetUpScope
     ∷ ReadScope
-    ∷ SetUpRecorder
+    ∷ PrepareAndStart
     ∷ Start
     ∷ Stop
     ∷ Status

@@ -15,7 +15,7 @@ pub const SET_UP_SCOPE: u16 = 5;
 
 pub const READ_SCOPE: u16 = 6;
 
-pub const SET_UP_RECORDER: u16 = 7;
+pub const PREPARE_AND_START: u16 = 7;
 
 pub const START: u16 = 8;
 

@@ -10,11 +10,11 @@ use crate::columns::EX;
 use crate::columns::FAST;
 use crate::columns::LENGTH;
 use crate::columns::MEASURE_STRING;
+use crate::columns::PREPARE_AND_START;
 use crate::columns::QUERY_BUFFER;
 use crate::columns::READ;
 use crate::columns::READ_SCOPE;
 use crate::columns::SEND_COMMAND;
-use crate::columns::SET_UP_RECORDER;
 use crate::columns::SET_UP_SCOPE;
 use crate::columns::SIZE;
 use crate::columns::START;
@@ -54,7 +54,7 @@ fn operation_in(entry: u16) -> Operation
         WRITE_MASKED => Operation::WriteMasked,
         SET_UP_SCOPE => Operation::SetUpScope,
         READ_SCOPE => Operation::ReadScope,
-        SET_UP_RECORDER => Operation::SetUpRecorder,
+        PREPARE_AND_START => Operation::PrepareAndStart,
         START => Operation::Start,
         STOP => Operation::Stop,
         STATUS => Operation::Status,

@@ -11,11 +11,11 @@ use crate::columns::DESCRIBE_BRIEFLY;
 use crate::columns::EX;
 use crate::columns::FAST;
 use crate::columns::MEASURE_STRING;
+use crate::columns::PREPARE_AND_START;
 use crate::columns::QUERY_BUFFER;
 use crate::columns::READ;
 use crate::columns::READ_SCOPE;
 use crate::columns::SEND_COMMAND;
-use crate::columns::SET_UP_RECORDER;
 use crate::columns::SET_UP_SCOPE;
 use crate::columns::SIZE_1;
 use crate::columns::SIZE_2;
@@ -137,8 +137,8 @@ pub fn row(number: u8) -> u16
         SCOPE_SETUP => STANDARD | TOLD | SET_UP_SCOPE,
         SCOPE_SETUP_EX => STANDARD | TOLD | SET_UP_SCOPE | EX,
         SCOPE_READ => FAST | DATA_0 | READ_SCOPE,
-        RECORDER_SETUP => STANDARD | TOLD | SET_UP_RECORDER,
-        RECORDER_SETUP_EX => STANDARD | TOLD | SET_UP_RECORDER | EX,
+        RECORDER_SETUP => STANDARD | TOLD | PREPARE_AND_START,
+        RECORDER_SETUP_EX => STANDARD | TOLD | PREPARE_AND_START | EX,
         RECORDER_START => FAST | DATA_0 | START,
         RECORDER_STOP => FAST | DATA_0 | STOP,
         RECORDER_STATUS => FAST | DATA_0 | STATUS,

@@ -11,7 +11,7 @@ use Rattle.document.specs.Application.Application.{waiting}
 use Rattle.document.specs.Gate.{Gate, Outcome, says}
 use Rattle.document.specs.Commands.{answered}
 use Rattle.document.specs.Asides.{Aside}
-use Rattle.document.specs.Asides.Aside.{tick, writes, collects, reports}
+use Rattle.document.specs.Asides.Aside.{tick, writes, collects, reports, prepares, starts}
 use Rattle.document.specs.Happenings.{Happening, Since, told, after, afterAll}
 use Rattle.document.specs.Happenings.Happening.{byte, aside}
 use Rattle.document.specs.Blocks.{answersOnWire}
@@ -29,7 +29,7 @@ use Rattle.demands.specs.Run.{Beside, Step, Singly}
 use Rattle.demands.specs.Run.Singly.{ends, happens, refuses}
 use Rattle.demands.specs.Stands.{Stands}
 use Rattle.demands.specs.Applying.{OnlySaid}
-use Rattle.demands.proofs.Served.{refused-kept, step-byte, step-tick, step-collect, step-report}
+use Rattle.demands.proofs.Served.{refused-kept, step-byte, step-tick, step-collect, step-report, step-prepare, step-start}
 use Rattle.demands.proofs.Runs.{Reached, reached-step}
 
 -- ---- what is handed out
@@ -45,6 +45,10 @@ module _ (h : House) (s : Since) (r : Reached h s) where
       ∙ ap (λ (g : Gate). h .commands ++ waitingIn (g .application)) (r .stands .gate)
   beside-hands (reports reported) next step =
       ap (λ (q : House). q .commands) (step-report h (r .long) (r .within) reported next (step .0) (step .1) (step .2)) ∙ sym (append-nil (h .commands))
+  beside-hands (prepares setup) next step =
+      ap (λ (q : House). q .commands) (step-prepare h (r .long) (r .within) setup next (step .0) (step .1) (step .2)) ∙ sym (append-nil (h .commands))
+  beside-hands starts next step =
+      ap (λ (q : House). q .commands) (step-start h (r .long) (r .within) next (step .0) (step .1) (step .2)) ∙ sym (append-nil (h .commands))
 
   step-hands : (e : Happening) (next : House) → IsBytes e → Step h e next → next .commands ≡ h .commands ++ handedAt s e
   step-hands (byte b) next small step =

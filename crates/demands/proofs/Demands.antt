@@ -2,10 +2,10 @@
 --
 -- A run is any list of things that happen since reset: a byte comes over the port and `log_gate_byte` is called, or a block of them and
 -- `log_gate_block` is, the gate ticks and `log_gate_tick` is called, the gate's own program writes its memory, or it calls
--- `log_gate_collect` and `log_gate_report`; and refused calls anywhere among them. Of a call only its promise is known
--- (`byte_call.Promises.ByteTaken`, `block_call.Promises.BlockDone`, `tick_call.Promises.TickTaken`,
--- `application_calls.Promises.CollectDone` and `ReportDone`), and that promise is the contract that the prover holds the compiled
--- function to. What the calls are compared with is document 01 and the requests as definitions (`document`), never a program.
+-- `log_gate_collect` and `log_gate_report`, and the front panel `log_gate_prepare` and `log_gate_start`; and refused calls anywhere among
+-- them. Of a call only its promise is known (`byte_call.Promises.ByteTaken`, `block_call.Promises.BlockDone`,
+-- `tick_call.Promises.TickTaken`, `application_calls.Promises.CollectDone` and `ReportDone`, `panel_calls.Promises.PrepareDone` and
+-- `StartDone`), and that promise is the contract that the prover holds the compiled function to. What the calls are compared with is document 01 and the requests as definitions (`document`), never a program.
 use mathlib.Core.Path.{_≡_, refl, sym, ap, subst, _∙_}
 use mathlib.Core.Bool.{true, false}
 use mathlib.Core.List.{List, [], _∷_, _++_}
@@ -20,6 +20,7 @@ use Rattle.document.specs.AnswerWriter.{answerRefusal}
 use Rattle.document.specs.CommandWriter.{commandRefusal}
 use Rattle.document.specs.Plan.{Plan}
 use Rattle.document.specs.Run.{Run as DocumentRun, started}
+use Rattle.document.specs.Recorder.{recorderPrepared}
 use Rattle.document.specs.Recorder.Recorder.{planned}
 use Rattle.document.specs.Sets.{setsTaken}
 use Rattle.document.specs.Application.{isPending}
@@ -27,7 +28,8 @@ use Rattle.document.specs.Application.Application.{waiting}
 use Rattle.document.specs.Tables.{Table}
 use Rattle.document.specs.Gate.{Gate, says, registered as gate}
 use Rattle.document.specs.Commands.{answered}
-use Rattle.document.specs.Asides.Aside.{tick, collects, reports}
+use Rattle.document.specs.Panel.{panelPrepares, panelStarts}
+use Rattle.document.specs.Asides.Aside.{tick, collects, reports, prepares, starts as starting}
 use Rattle.document.specs.Happenings.{Happening, Since, after as happened, afterAll, fromReset as since}
 use Rattle.document.specs.Happenings.Happening.{byte, aside}
 use Rattle.history.specs.History.{memoriesLeft, TriggersNext, Unstopped}
@@ -40,7 +42,7 @@ use Rattle.commands.specs.CommandWritten.{CommandWritten}
 use Rattle.outcomes.specs.Starts.{starts, Begins}
 use Rattle.outcomes.proofs.Recording.{start-begins}
 use Rattle.happenings.specs.Bytes.{bytesOf, besideBytes, AreBytes}
-use Rattle.happenings.specs.Recording.{events, ticksOf, AllUnstarted, AllUndisturbed}
+use Rattle.happenings.specs.Recording.{events, ticksOf, preparesAnew, startsAnew, AllUnstarted, AllUndisturbed}
 use Rattle.happenings.proofs.Resync.{told-bytes, bytes-after, resync-even, resync-next}
 use Rattle.state.specs.Within.{MemoryWithin}
 use Rattle.blocks.specs.Places.{stateLength}
@@ -53,6 +55,8 @@ use Rattle.happenings.proofs.Applying.{while-pending, between, handed-out-from-
 use Rattle.tick_call.specs.Promises.{TickTaken}
 use Rattle.application_calls.specs.Promises.{CollectDone, ReportDone}
 use Rattle.registering.specs.Promises.{RegisterDone}
+use Rattle.panel_calls.specs.declared.Said.{Said}
+use Rattle.panel_calls.specs.Promises.{PrepareDone, StartDone}
 use Rattle.byte_call.specs.declared.Taken.{Taken}
 use Rattle.byte_call.specs.Promises.{ByteTaken}
 use Rattle.block_call.specs.declared.BlockTaken.{BlockTaken}
@@ -62,25 +66,25 @@ use Rattle.reader.specs.Promises.{BeginDone, ReadDone}
 use Rattle.demands.specs.House.{House, gateIn}
 use Rattle.demands.specs.Lent.{lends}
 use Rattle.demands.specs.Run.{ByByte, ByBlock, Reset, Step, Refused, Singly, came, Run, Ready}
-use Rattle.demands.specs.Refused.{ResetRefused, CheckRefused, ByteRefused, BlockRefused, TickRefused, CollectRefused, ReportRefused, RegisterRefused, WriteRefused, BeginRefused, ReadRefused, WireRefused}
+use Rattle.demands.specs.Refused.{ResetRefused, CheckRefused, ByteRefused, BlockRefused, TickRefused, CollectRefused, ReportRefused, PanelRefused, RegisterRefused, WriteRefused, BeginRefused, ReadRefused, WireRefused}
 use Rattle.demands.specs.Sent.{Sent, BlockStands}
 use Rattle.demands.specs.Stands.{blank, Stands}
 use Rattle.demands.specs.Fresh.{AnsweredFresh, NothingByHalf}
 use Rattle.demands.specs.Recorded.{Recorded}
-use Rattle.demands.specs.Recorder.{Begun, Goes, FiresAtFirst, OnlyItsPlace}
+use Rattle.demands.specs.Recorder.{Begun, OnlyRecorder, Goes, FiresAtFirst, OnlyItsPlace}
 use Rattle.demands.specs.Readings.{ByRead, Readings, Reads}
 use Rattle.demands.proofs.Refused as calls
 use Rattle.demands.proofs.EndsRefused as both-ends
-use Rattle.demands.proofs.Served.{refused-kept, ready, room-lent, told-byte}
+use Rattle.demands.proofs.Served.{refused-kept, ready, room-lent, told-byte, told-prepare, told-start}
 use Rattle.demands.proofs.Turns.{turn-stands}
-use Rattle.demands.proofs.Runs.{Reached, reached-begun, reached-step, bytes-on, plan-fits, collect-only, report-only}
+use Rattle.demands.proofs.Runs.{Reached, reached-begun, reached-step, bytes-on, plan-fits, collect-only, report-only, prepare-only, start-only}
 use Rattle.demands.proofs.Blocks as blocks
 use Rattle.demands.proofs.Blocks.{singly, reached-run}
 use Rattle.demands.proofs.Fresh.{answered-fresh, by-half}
 use Rattle.demands.proofs.Recorded.{recorded}
 use Rattle.demands.specs.Applying.{OnlyCommand, OnlySaid}
 use Rattle.demands.proofs.Applying.{run-hands, only-said, sent-waits}
-use Rattle.demands.proofs.Recorder.{start-begun, tick-touches, run-fires, run-stops}
+use Rattle.demands.proofs.Recorder.{start-begun, panel-begun, panel-prepared, tick-touches, run-fires, run-stops}
 use Rattle.demands.proofs.Readings as readings
 
 -- ---- Demand 1: "The line may bring anything at any moment without a fault. No entry relies on its caller. Each refusal has one
@@ -112,6 +116,12 @@ demand-1-collect = calls.collect-refused
 
 pub demand-1-report : (block : List ℕ) (reported r : ℕ) (after : List ℕ) → ReportDone block reported r after → ReportRefused block reported r after
 demand-1-report = calls.report-refused
+
+pub demand-1-prepare : (block setup : List ℕ) (r : Said) (after : List ℕ) → PrepareDone block setup r after → PanelRefused block r after
+demand-1-prepare = calls.prepare-refused
+
+pub demand-1-start : (block : List ℕ) (r : Said) (after : List ℕ) → StartDone block r after → PanelRefused block r after
+demand-1-start = calls.start-refused
 
 pub demand-1-register : (block memory list : List ℕ) (r : ℕ) (after : List ℕ) → RegisterDone block memory list r after
     → RegisterRefused block memory list r after
@@ -184,6 +194,32 @@ module _ (block memory : List ℕ) (tables : List Table) (after : List ℕ) (lon
   -- "The gate registers up to 16 tables at reset": as registered they stay, whatever happens (2026-03)
   pub tables-stay : gateIn h .tables ≡ tables
   tables-stay = ap (λ (g : Gate). g .tables) (there .stands .gate) ∙ tables-kept first (since (gate tables memory))
+
+  -- ---- the front panel (2026-06)
+
+  -- "The panel gives 0x09's data part (above 64 bytes 0x83) and gets the same statuses, in 01's order."
+  module _ (setup : List ℕ) (next : House) (step : Step h (aside (prepares setup)) next) where
+    pub demand-2-prepare : step .0 .result .status ≡ panelPrepares (gateIn h) setup .answer .status
+    demand-2-prepare = told-prepare h (there .long) (there .within) setup next (step .0) (step .1) (step .2)
+
+    -- it touches nothing but the recorder, in the midst of a message or not
+    pub prepare-touches : AllBytes setup → OnlyRecorder h next
+    prepare-touches all = prepare-only h reached there setup next all step
+
+    -- "A recorder prepared and not started since": of it `document.Panel` has the laws
+    pub recorder-prepared : AllBytes setup → preparesAnew (gateIn h) setup ≡ true → gateIn next .recorder ≡ recorderPrepared false setup
+    recorder-prepared all = panel-prepared h next reached (there .stands) setup (reached-step h reached there (aside (prepares setup)) next all step .stands)
+
+  module _ (next : House) (step : Step h (aside starting) next) where
+    pub demand-2-start : step .0 .result .status ≡ panelStarts (gateIn h) .answer .status
+    demand-2-start = told-start h (there .long) (there .within) next (step .0) (step .1) (step .2)
+
+    pub start-touches : OnlyRecorder h next
+    start-touches = start-only h reached there next step
+
+    -- "01's sentence on reading round the buffer speaks again from the next start": the premise of the history below
+    pub recorder-begun-by-panel : startsAnew (gateIn h) ≡ true → Begun next
+    recorder-begun-by-panel = panel-begun h next reached (there .stands) (reached-step h reached there (aside starting) next tt step .stands)
 
   -- ---- a block at once (2026-05)
 

@@ -1,6 +1,6 @@
 -- "show that two outcomes allowed by one promise are equal": for each call of the header, result and every lent byte.
 use mathlib.Core.Path.{_≡_, sym, _∙_}
-use mathlib.Core.List.{List}
+use mathlib.Core.List.{List, []}
 use Prim.Native.Nat.{ℕ}
 use Rattle.document.specs.Answer.{Answer}
 use Rattle.line.specs.declared.Written.{Written}
@@ -10,6 +10,8 @@ use Rattle.checks.specs.Promises.{ResetDone, Checked}
 use Rattle.tick_call.specs.Promises.{TickTaken}
 use Rattle.application_calls.specs.Promises.{CollectDone, ReportDone}
 use Rattle.registering.specs.Promises.{RegisterDone}
+use Rattle.panel_calls.specs.declared.Said.{Said}
+use Rattle.panel_calls.specs.Promises.{PrepareDone, StartDone}
 use Rattle.byte_call.specs.declared.Taken.{Taken}
 use Rattle.byte_call.specs.Promises.{ByteTaken}
 use Rattle.block_call.specs.declared.BlockTaken.{BlockTaken}
@@ -51,6 +53,14 @@ module _ (block bytes memory buffer : List ℕ) (r s : BlockTaken) (x y m n c d 
 module _ (block buffer : List ℕ) (r s : Written) (x y c d : List ℕ) where
   pub collect-one-outcome : CollectDone block buffer r x c → CollectDone block buffer s y d → (r ≡ s) × (x ≡ y) × (c ≡ d)
   collect-one-outcome p q = (p .result ∙ sym (q .result), p .state ∙ sym (q .state), p .buffer-told ∙ sym (q .buffer-told))
+
+-- neither is lent a memory, so any will do
+module _ (block : List ℕ) (r s : Said) (x y : List ℕ) where
+  pub prepare-one-outcome : (setup : List ℕ) → PrepareDone block setup r x → PrepareDone block setup s y → (r ≡ s) × (x ≡ y)
+  prepare-one-outcome setup p q = (p .result [] ∙ sym (q .result []), p .state ∙ sym (q .state))
+
+  pub start-one-outcome : StartDone block r x → StartDone block s y → (r ≡ s) × (x ≡ y)
+  start-one-outcome p q = (p .result [] ∙ sym (q .result []), p .state ∙ sym (q .state))
 
 module _ (block : List ℕ) (b : ℕ) (buffer : List ℕ) (r s : ReadByte) (x y c d : List ℕ) where
   pub read-one-outcome : ReadDone block b buffer r x c → ReadDone block b buffer s y d → (r ≡ s) × (x ≡ y) × (c ≡ d)

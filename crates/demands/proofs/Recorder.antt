@@ -1,6 +1,6 @@
 -- The recorder of a house along a run: an accepted start, a tick, and the ticks behind a trigger.
 use mathlib.Core.Path.{_≡_, sym, ap, _∙_, subst}
-use mathlib.Core.Bool.{true}
+use mathlib.Core.Bool.{true, false}
 use mathlib.Core.List.{List, [], _∷_, _++_}
 use Prim.Native.Nat.{ℕ, suc, _+_, _*_}
 use lib.Dec.{ltb}
@@ -10,12 +10,13 @@ use Rattle.document.specs.Message.{Message, finishedBy}
 use Rattle.document.specs.Variables.{setSize}
 use Rattle.document.specs.Plan.{Plan}
 use Rattle.document.specs.Run.{Run as DocumentRun, started, placeBegins, memoryAfterTick}
-use Rattle.document.specs.Recorder.{Recorder, tickedMemory}
+use Rattle.document.specs.Recorder.{Recorder, recorderPrepared, tickedMemory}
 use Rattle.document.specs.Recorder.Recorder.{planned}
 use Rattle.document.specs.Gate.{Gate}
 use Rattle.document.specs.Commands.{answered}
+use Rattle.document.specs.Panel.{panelPrepares, panelStarts}
 use Rattle.document.specs.Asides.{beside}
-use Rattle.document.specs.Asides.Aside.{tick}
+use Rattle.document.specs.Asides.Aside.{tick, prepares, starts as starting}
 use Rattle.document.specs.Happenings.{Happening, Since, told, after, afterAll}
 use Rattle.document.specs.Happenings.Happening.{byte, aside}
 use Rattle.history.specs.History as history
@@ -25,7 +26,8 @@ use Rattle.history.proofs.Stop.{stops}
 use Rattle.history.proofs.Beyond.{trigger-at-first, first-triggers}
 use Rattle.outcomes.specs.Starts.{starts}
 use Rattle.outcomes.proofs.Recording.{start-begins}
-use Rattle.happenings.specs.Recording.{events, ticksOf, AllUnstarted}
+use Rattle.happenings.specs.Recording.{events, ticksOf, preparesAnew, startsAnew, AllUnstarted}
+use Rattle.happenings.proofs.Panel.{prepare-anew, start-anew}
 use Rattle.happenings.proofs.Ticks.{ticks-counted}
 use Rattle.happenings.proofs.Follows.{followed-all}
 use Rattle.demands.specs.House.{House, gateIn}
@@ -43,6 +45,21 @@ module _ (h last : House) (s : Since) (now : Stands h s) where
       ∙ ap (λ (ms : List Message). told (record { bytes = s .bytes ++ (b ∷ []); gate = s .gate; answers = s .answers }) ms .gate) finished
       ∙ ap (λ (g : Gate). answered g m .gate) (sym (now .gate)) in
       record { plan = begins .plan; recorder = ap (λ (g : Gate). g .recorder) gate ∙ begins .recorder }
+
+  -- the panel's start, where it starts the recorder anew (2026-06)
+  pub panel-begun : Stands last (after s (aside starting)) → startsAnew (gateIn h) ≡ true → Begun last
+  unfolding beside
+  panel-begun end start =
+      let begins = start-anew (gateIn h) start in
+      let gate : gateIn last ≡ panelStarts (gateIn h) .gate = end .gate ∙ ap (λ (g : Gate). panelStarts g .gate) (sym (now .gate)) in
+      record { plan = begins .0; recorder = ap (λ (g : Gate). g .recorder) gate ∙ begins .1 }
+
+  -- and its preparing, where it is accepted
+  pub panel-prepared : (setup : List ℕ) → Stands last (after s (aside (prepares setup))) → preparesAnew (gateIn h) setup ≡ true
+      → gateIn last .recorder ≡ recorderPrepared false setup
+  unfolding beside
+  panel-prepared setup end accepted =
+      ap (λ (g : Gate). g .recorder) (end .gate ∙ ap (λ (g : Gate). panelPrepares g setup .gate) (sym (now .gate))) ∙ prepare-anew (gateIn h) setup accepted
 
   module _ (p : Plan) (r : DocumentRun) (has : gateIn h .recorder ≡ planned p r) where
     pub tick-touches : PlanFits p → length (h .memory) ≡ memoryEnd → Stands last (after s (aside tick)) → OnlyItsPlace p r h last

@@ -17,25 +17,29 @@ use Rattle.application.specs.State.{applicationOf}
 use Rattle.document.specs.Gate.{Gate, Outcome, says}
 use Rattle.document.specs.Refusals.{refusal}
 use Rattle.document.specs.Commands.{answered}
+use Rattle.document.specs.Panel.{panelPrepares, panelStarts}
 use Rattle.document.proofs.Cases.{split}
 use Rattle.outcomes.proofs.Answered.{accepted-right}
 use Rattle.recorder.specs.State.{recorderOf}
 use Rattle.tables.specs.State.{registeredList}
+use Rattle.state.specs.State.{Target, gateOf}
 use Rattle.state.specs.Bounds.{freshWith, fresh}
 use Rattle.blocks.specs.Places.{stateLength}
 use Rattle.blocks.specs.Layout.{decodedApplication, decoded, encoded}
-use Rattle.checks.specs.Promises.{ResetDone, Checked, byteNumber, tickNumber, collectNumber, reportNumber}
+use Rattle.checks.specs.Promises.{ResetDone, Checked, byteNumber, tickNumber, collectNumber, reportNumber, panelNumber}
 use Rattle.target.specs.Turn.{Turn, turn}
 use Rattle.target.specs.Walk.{Walk}
 use Rattle.tick_call.specs.Promises.{tickedTarget, TickTaken}
 use Rattle.application_calls.specs.Promises.{collectedTarget, reportedTarget, CollectDone, ReportDone}
 use Rattle.registering.specs.Promises.{registerNumber, RegisterDone}
+use Rattle.panel_calls.specs.declared.Said.{Said}
+use Rattle.panel_calls.specs.Promises.{preparedTarget, startedTarget, PrepareDone, StartDone}
 use Rattle.byte_call.specs.declared.Taken.{Taken}
 use Rattle.byte_call.specs.Promises.{ByteTaken}
 use Rattle.block_call.specs.declared.BlockTaken.{BlockTaken}
 use Rattle.block_call.specs.Going.{walk}
 use Rattle.block_call.specs.Promises.{BlockDone}
-use Rattle.demands.specs.Refused.{ResetRefused, CheckRefused, ByteRefused, BlockRefused, TickRefused, CollectRefused, ReportRefused, RegisterRefused, WireRefused}
+use Rattle.demands.specs.Refused.{ResetRefused, CheckRefused, ByteRefused, BlockRefused, TickRefused, CollectRefused, ReportRefused, PanelRefused, RegisterRefused, WireRefused}
 use Rattle.demands.proofs.Goes.{stays}
 
 -- ---- calls
@@ -140,6 +144,33 @@ module _ (block : List ℕ) (reported r : ℕ) (after : List ℕ) (promised : Re
         unchanged = λ other.
             stays n after (sets block 0 (encoded (reportedTarget reported (decoded block)))) block (λ e. other (promised .number ∙ e)) (promised .state);
       }
+
+-- whatever is said and left where the panel's call is taken
+module _ (block : List ℕ) (r : Said) (after : List ℕ) (status : ℕ) (next : Target)
+    (said : r ≡ cond (eqb (panelNumber block) taken) (record { refusal = taken; status = status }) (record { refusal = panelNumber block; status = 0 }))
+    (left : after ≡ cond (eqb (panelNumber block) taken) (sets block 0 (encoded next)) block) where
+  panel-refused : PanelRefused block r after
+  panel-refused =
+      let n : ℕ = panelNumber block in
+      let given : Said = record { refusal = taken; status = status } in
+      let kept : Said = record { refusal = n; status = 0 } in
+      let number : r .refusal ≡ n = numbered (λ (x : Said). x .refusal) n r given kept refl refl said in
+      record {
+        number = number;
+        unchanged = λ other.
+            let no : n ≡ taken → ⊥ = λ e. other (number ∙ e) in (
+              ap (λ (x : Said). x .status) (stays n r given kept no said),
+              stays n after (sets block 0 (encoded next)) block no left,
+            );
+      }
+
+pub prepare-refused : (block setup : List ℕ) (r : Said) (after : List ℕ) → PrepareDone block setup r after → PanelRefused block r after
+prepare-refused block setup r after promised =
+    panel-refused block r after (panelPrepares (gateOf (decoded block .instruments) []) setup .answer .status) (preparedTarget setup (decoded block)) (promised .result []) (promised .state)
+
+pub start-refused : (block : List ℕ) (r : Said) (after : List ℕ) → StartDone block r after → PanelRefused block r after
+start-refused block r after promised =
+    panel-refused block r after (panelStarts (gateOf (decoded block .instruments) []) .answer .status) (startedTarget (decoded block)) (promised .result []) (promised .state)
 
 pub register-refused : (block memory list : List ℕ) (r : ℕ) (after : List ℕ) → RegisterDone block memory list r after
     → RegisterRefused block memory list r after

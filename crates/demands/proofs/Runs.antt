@@ -18,9 +18,9 @@ use Rattle.document.specs.Recorder.{Recorder, recorderAbsent, tickedMemory}
 use Rattle.document.specs.Recorder.Recorder.{absent, planned}
 use Rattle.document.specs.Application.{Application, afterCollect, afterReport, isCollected}
 use Rattle.document.specs.Tables.{Table}
-use Rattle.document.specs.Gate.{Gate, registered as gate, withMemory, withApplication}
+use Rattle.document.specs.Gate.{Gate, registered as gate, withMemory, withRecorder, withApplication}
 use Rattle.document.specs.Asides.{Aside, beside, tickedGate}
-use Rattle.document.specs.Asides.Aside.{tick, writes, collects, reports}
+use Rattle.document.specs.Asides.Aside.{tick, writes, collects, reports, prepares, starts}
 use Rattle.document.specs.Happenings.{Happening, Since, told, after, afterAll, fromReset as since}
 use Rattle.document.specs.Happenings.Happening.{byte, aside}
 use Rattle.document.specs.Blocks.{answersOnWire}
@@ -31,6 +31,7 @@ use Rattle.scope.specs.State.{scopeOf}
 use Rattle.plans.proofs.Granted.{sound-fits}
 use Rattle.recorder.specs.declared.state.Recorder.{Recorder as RecorderState}
 use Rattle.recorder.specs.State.{recorderOf}
+use Rattle.recorder.specs.Calls.{startedState}
 use Rattle.recorder.proofs.Keeps.{sound-parts}
 use Rattle.application.specs.State.{Command, applicationOf, collectedCommand, endedCommand}
 use Rattle.application.proofs.Means.{collected-means, ended-means}
@@ -39,9 +40,9 @@ use Rattle.state.specs.State.{Target, gateOf}
 use Rattle.tables.specs.State.{Registered, noTables, tablesOf, registeredList}
 use Rattle.state.specs.Bounds.{freshWith}
 use Rattle.state.specs.Widths.{TargetFits}
-use Rattle.state.specs.Within.{CommandWithin, TablesWithin, MemoryWithin, Within}
+use Rattle.state.specs.Within.{RecorderWithin, CommandWithin, TablesWithin, MemoryWithin, Within}
 use Rattle.state.proofs.ByteLaws.{all-at, all-append}
-use Rattle.state.proofs.Keeps.{recorder-ticked, command-collected, command-ended, memory-stored, memory-ticked, within-fits, within-registered, no-tables}
+use Rattle.state.proofs.Keeps.{recorder-started, recorder-ticked, command-collected, command-ended, memory-stored, memory-ticked, within-fits, within-registered, no-tables}
 use Rattle.blocks.specs.Places.{stateLength}
 use Rattle.blocks.specs.Layout.{decoded, encoded}
 use Rattle.blocks.proofs.Back.{stored-decoded}
@@ -52,6 +53,8 @@ use Rattle.target.proofs.Keeps.{byte-keeps}
 use Rattle.byte_call.proofs.Stores.{target-over}
 use Rattle.tick_call.specs.Promises.{tickedTarget}
 use Rattle.application_calls.specs.Promises.{withCommand}
+use Rattle.panel_calls.specs.Promises.{givenNext, recorderChanged}
+use Rattle.panel_calls.proofs.Kept.{prepare-means, start-means, given-within}
 use Rattle.happenings.specs.Bytes.{Bytes, bytesOf, BesideIsBytes, IsBytes, AreBytes}
 use Rattle.happenings.proofs.Resync.{told-bytes}
 use Rattle.happenings.proofs.Blocks.{wire-append, answersTo, told-answers}
@@ -61,7 +64,8 @@ use Rattle.demands.specs.Run.Reset.{by-reset, by-registering}
 use Rattle.demands.specs.Run.Singly.{ends, happens, refuses}
 use Rattle.demands.specs.Stands.{blank, linkIn, Stands}
 use Rattle.demands.specs.Applying.{OnlyCommand}
-use Rattle.demands.proofs.Served.{servedByte, servedTick, servedCollect, servedReport, refused-kept, room-lent, step-byte, step-tick, step-collect, step-report, report-fits}
+use Rattle.demands.specs.Recorder.{OnlyRecorder}
+use Rattle.demands.proofs.Served.{servedByte, servedTick, servedCollect, servedReport, servedPanel, refused-kept, room-lent, step-byte, step-tick, step-collect, step-report, report-fits, step-prepare, step-start}
 use Rattle.demands.proofs.Turns.{gateAfter, TurnStands, turn-stands}
 
 -- ---- what comes over the line is bytes
@@ -257,6 +261,90 @@ module _ (h : House) (s : Since) (r : Reached h s) where
         answers = ap (λ (q : House). q .answers) is;
       }
 
+  -- another recorder in the block: the link, in the midst of a message or not, the scope, the application command and the tables stay
+  recorder-keeps : (k : RecorderState) → RecorderWithin k → Within (recorderChanged (decoded (h .block)) k) (h .memory)
+  recorder-keeps k within =
+      let w = r .within in
+      record {
+        link-part = record { receiver = w .link-part .receiver; command = w .link-part .command; size = w .link-part .size; body = w .link-part .body };
+        scope-part = w .scope-part;
+        recorder-part = within;
+        application-part = w .application-part;
+        tables-part = w .tables-part;
+        memory-part = w .memory-part;
+      }
+
+  recorder-there : (k : RecorderState) → RecorderWithin k → decoded (servedPanel h k .block) ≡ recorderChanged (decoded (h .block)) k
+  recorder-there k within =
+      let next : Target = recorderChanged (decoded (h .block)) k in
+      stored-decoded (h .block) next (r .long) (within-fits next (h .memory) (recorder-keeps k within))
+
+  -- it stands for what the gate has then
+  reached-recorder : (k : RecorderState) (a : Aside) → RecorderWithin k → beside (s .gate) a ≡ withRecorder (s .gate) (recorderOf k)
+      → Reached (servedPanel h k) (after s (aside a))
+  reached-recorder k a within becomes =
+      let next : Target = recorderChanged (decoded (h .block)) k in
+      let there : decoded (sets (h .block) 0 (encoded next)) ≡ next = recorder-there k within in
+      record {
+        long = still-long (h .block) next (r .long);
+        within = subst (λ (q : Target). Within q (h .memory)) (sym there) (recorder-keeps k within);
+        stands =
+            record {
+              gate =
+                  ap (λ (q : Target). gateOf (q .instruments) (h .memory)) there
+                  ∙ ap (λ (g : Gate). withRecorder g (recorderOf k)) (r .stands .gate)
+                  ∙ sym becomes;
+              answers = r .stands .answers;
+              link-part = ap linkIn there ∙ r .stands .link-part;
+            };
+        bytes = r .bytes;
+        stored = still-stored (h .block) next (r .long) (within-fits next (h .memory) (recorder-keeps k within));
+      }
+
+  only-recorder : (k : RecorderState) (next : House) → RecorderWithin k → next ≡ servedPanel h k → OnlyRecorder h next
+  only-recorder k next within is =
+      let there : decoded (next .block) ≡ recorderChanged (decoded (h .block)) k = ap (λ (q : House). decoded (q .block)) is ∙ recorder-there k within in
+      record {
+        link-part = ap linkIn there;
+        scope = ap (λ (t : Target). t .instruments .scope) there;
+        application = ap (λ (t : Target). t .instruments .application) there;
+        tables = ap (λ (t : Target). t .instruments .tables) there;
+        memory = ap (λ (q : House). q .memory) is;
+        answers = ap (λ (q : House). q .answers) is;
+      }
+
+  abbrev recorder : RecorderState
+  recorder = decoded (h .block) .instruments .recorder
+
+  -- the recorder of the gate is that of the house
+  recorder-is : s .gate .recorder ≡ recorderOf (decoded (h .block) .instruments .recorder)
+  recorder-is = ap (λ (g : Gate). g .recorder) (sym (r .stands .gate))
+
+  given-keeps : (setup : List ℕ) → AllBytes setup → RecorderWithin (givenNext (decoded (h .block) .instruments .recorder) setup)
+  given-keeps setup all = given-within recorder setup all (r .within .recorder-part)
+
+  started-keeps : RecorderWithin (startedState (decoded (h .block) .instruments .recorder))
+  started-keeps = recorder-started recorder (r .within .recorder-part)
+
+  pub reached-prepare : (setup : List ℕ) → AllBytes setup
+      → Reached (servedPanel h (givenNext (decoded (h .block) .instruments .recorder) setup)) (after s (aside (prepares setup)))
+  unfolding beside
+  reached-prepare setup all =
+      reached-recorder (givenNext recorder setup) (prepares setup) (given-keeps setup all) (prepare-means (s .gate) recorder recorder-is setup)
+
+  pub reached-start : Reached (servedPanel h (startedState (decoded (h .block) .instruments .recorder))) (after s (aside starts))
+  unfolding beside
+  reached-start = reached-recorder (startedState recorder) starts started-keeps (start-means (s .gate) recorder recorder-is)
+
+  -- the panel touches nothing else
+  pub prepare-only : (setup : List ℕ) (next : House) → AllBytes setup → Beside h (prepares setup) next → OnlyRecorder h next
+  prepare-only setup next all step =
+      only-recorder (givenNext recorder setup) next (given-keeps setup all) (step-prepare h (r .long) (r .within) setup next (step .0) (step .1) (step .2))
+
+  pub start-only : (next : House) → Beside h starts next → OnlyRecorder h next
+  start-only next step =
+      only-recorder (startedState recorder) next started-keeps (step-start h (r .long) (r .within) next (step .0) (step .1) (step .2))
+
   abbrev command : Command
   command = decoded (h .block) .instruments .application
 
@@ -304,6 +392,11 @@ module _ (h : House) (s : Since) (r : Reached h s) where
       let known = report-fits h (r .long) (r .within) reported next (step .0) (step .1) (step .2) in
       subst (λ (q : House). Reached q (after s (aside (reports reported))))
       (sym (step-report h (r .long) (r .within) reported next (step .0) (step .1) (step .2))) (reached-report reported (known .0) (known .1))
+  reached-beside (prepares setup) next are step =
+      subst (λ (q : House). Reached q (after s (aside (prepares setup))))
+      (sym (step-prepare h (r .long) (r .within) setup next (step .0) (step .1) (step .2))) (reached-prepare setup are)
+  reached-beside starts next are step =
+      subst (λ (q : House). Reached q (after s (aside starts))) (sym (step-start h (r .long) (r .within) next (step .0) (step .1) (step .2))) reached-start
 
   -- whatever happens, with whatever lent
   pub reached-step : (e : Happening) (next : House) → IsBytes e → Step h e next → Reached next (after s e)

@@ -12,17 +12,20 @@ use Rattle.document.specs.Areas.{memoryEnd}
 use Rattle.document.specs.Numbers.{answerRoom, mostData, taken}
 use Rattle.document.specs.Application.{Application, newCommand, collectBuffer, isCollected}
 use Rattle.document.specs.Recorder.{tickedMemory}
+use Rattle.document.specs.Panel.{panelPrepares, panelStarts}
 use Rattle.line.proofs.Left.{sets-front}
+use Rattle.recorder.specs.declared.state.Recorder.{Recorder as RecorderState}
 use Rattle.recorder.specs.State.{recorderOf}
+use Rattle.recorder.specs.Calls.{startedState}
 use Rattle.application.specs.State.{applicationOf}
 use Rattle.application.proofs.Means.{new-few}
 use Rattle.happenings.specs.Applying.{ifAny, waitingIn}
-use Rattle.state.specs.State.{Target}
+use Rattle.state.specs.State.{Target, gateOf}
 use Rattle.state.specs.Within.{Within}
 use Rattle.state.proofs.Keeps.{within-sound}
 use Rattle.blocks.specs.Places.{stateLength}
 use Rattle.blocks.specs.Layout.{decodedApplication, decoded, encoded}
-use Rattle.checks.specs.Promises.{blockSound, byteNumber, tickNumber, collectNumber, reportNumber}
+use Rattle.checks.specs.Promises.{blockSound, byteNumber, tickNumber, collectNumber, reportNumber, panelNumber}
 use Rattle.checks.proofs.Numbers.{tick-known, byte-known}
 use Rattle.checks.proofs.ApplicationNumbers.{collect-known, report-known}
 use Rattle.checks.proofs.Settled.{block-known, long-decides}
@@ -30,15 +33,17 @@ use Rattle.target.specs.Turn.{Turn, turn}
 use Rattle.target.proofs.Keeps.{byte-keeps}
 use Rattle.tick_call.specs.Promises.{tickedTarget, TickTaken}
 use Rattle.application_calls.specs.Promises.{collectedTarget, reportedTarget}
+use Rattle.panel_calls.specs.declared.Said.{Said}
+use Rattle.panel_calls.specs.Promises.{givenNext, recorderChanged, preparedTarget, startedTarget}
 use Rattle.byte_call.specs.declared.Taken.{Taken}
 use Rattle.byte_call.specs.Promises.{ByteTaken}
 use Rattle.demands.specs.House.{House, gateIn}
 use Rattle.demands.specs.Lent.{Piece, lends, handedBack}
-use Rattle.demands.specs.Run.{handedOut, ByByte, ByBlock, ByTick, ByCollect, ByReport, ByRegister, Refused, Ready}
-use Rattle.demands.specs.Run.Refused.{refused-byte, refused-block, refused-tick, refused-collect, refused-report, refused-register}
+use Rattle.demands.specs.Run.{handedOut, ByByte, ByBlock, ByTick, ByCollect, ByReport, ByPrepare, ByStart, ByRegister, Refused, Ready}
+use Rattle.demands.specs.Run.Refused.{refused-byte, refused-block, refused-tick, refused-collect, refused-report, refused-prepare, refused-start, refused-register}
 use Rattle.demands.proofs.Goes.{goes}
 use Rattle.demands.proofs.Lends.{lent-back, lent-whole, whole-back}
-use Rattle.demands.proofs.Refused.{byte-refused, block-refused, tick-refused, collect-refused, report-refused, register-refused}
+use Rattle.demands.proofs.Refused.{byte-refused, block-refused, tick-refused, collect-refused, report-refused, prepare-refused, start-refused, register-refused}
 
 -- ---- refused
 
@@ -86,6 +91,18 @@ report-kept h next reported c other =
     let block : handedBack (h .block) (c .state) (c .after) ≡ h .block = back-as-was (h .block) (c .state) (c .after) kept in
     c .house ∙ (λ j. record { block = block j; memory = h .memory; answers = h .answers; commands = h .commands })
 
+prepare-kept : (h next : House) (setup : List ℕ) (c : ByPrepare h setup next) → (c .result .refusal ≡ taken → ⊥) → next ≡ h
+prepare-kept h next setup c other =
+    let kept = prepare-refused (lends (h .block) (c .state)) setup (c .result) (c .after) (c .promised) .unchanged other in
+    let block : handedBack (h .block) (c .state) (c .after) ≡ h .block = back-as-was (h .block) (c .state) (c .after) (kept .1) in
+    c .house ∙ (λ j. record { block = block j; memory = h .memory; answers = h .answers; commands = h .commands })
+
+start-kept : (h next : House) (c : ByStart h next) → (c .result .refusal ≡ taken → ⊥) → next ≡ h
+start-kept h next c other =
+    let kept = start-refused (lends (h .block) (c .state)) (c .result) (c .after) (c .promised) .unchanged other in
+    let block : handedBack (h .block) (c .state) (c .after) ≡ h .block = back-as-was (h .block) (c .state) (c .after) (kept .1) in
+    c .house ∙ (λ j. record { block = block j; memory = h .memory; answers = h .answers; commands = h .commands })
+
 register-kept : (h next : House) (list : List ℕ) (c : ByRegister h list next) → (c .result ≡ taken → ⊥) → next ≡ h
 register-kept h next list c other =
     let kept = register-refused (lends (h .block) (c .state)) (lends (h .memory) (c .memory)) list (c .result) (c .after) (c .promised) .unchanged other in
@@ -98,6 +115,8 @@ refused-kept h next (refused-block bytes call other) = block-kept h next bytes c
 refused-kept h next (refused-tick call other) = tick-kept h next call other
 refused-kept h next (refused-collect call other) = collect-kept h next call other
 refused-kept h next (refused-report reported call other) = report-kept h next reported call other
+refused-kept h next (refused-prepare setup call other) = prepare-kept h next setup call other
+refused-kept h next (refused-start call other) = start-kept h next call other
 refused-kept h next (refused-register list call other) = register-kept h next list call other
 
 -- ---- taken
@@ -144,6 +163,16 @@ servedReport h reported =
       commands = h .commands;
     }
 
+-- behind a call of the panel's that leaves this recorder
+abbrev pub servedPanel : House → RecorderState → House
+servedPanel h r =
+    record {
+      block = sets (h .block) 0 (encoded (recorderChanged (decoded (h .block)) r));
+      memory = h .memory;
+      answers = h .answers;
+      commands = h .commands;
+    }
+
 -- a command that fits stands at the front of the buffer
 front-handed : (new buffer : List ℕ) → length new ≤ length buffer → handedOut (length new) (sets buffer 0 new) ≡ ifAny new
 front-handed [] buffer fits = refl
@@ -164,6 +193,7 @@ module _ (h : House) (long : stateLength ≤ length (h .block)) (w : Within (dec
         byte-taken = λ buffer room. rw (sound, eq-eqb (length (h .memory)) memoryEnd (w .memory-part .size), le-ltb (length buffer) answerRoom room) refl;
         tick-taken = rw (sound, eq-eqb (length (h .memory)) memoryEnd (w .memory-part .size)) refl;
         collect-taken = λ buffer room. rw (sound, le-ltb (length buffer) mostData room) refl;
+        panel-taken = rw sound refl;
       }
 
   module _ (b : ℕ) (small : b < 256) (next : House) (c : ByByte h b next) (fine : c .result .refusal ≡ taken) (whole : lends (h .block) (c .state) ≡ h .block) where
@@ -287,4 +317,52 @@ module _ (h : House) (long : stateLength ≤ length (h .block)) (w : Within (dec
         let block : handedBack (h .block) (c .state) (c .after) ≡ sets (h .block) 0 (encoded (reportedTarget reported (decoded (h .block)))) =
         all-back (h .block) (c .state) (c .after) (sets (h .block) 0 (encoded (reportedTarget reported (decoded (h .block))))) whole after
         (length-sets (h .block) 0 (encoded (reportedTarget reported (decoded (h .block))))) in
+        c .house ∙ (λ j. record { block = block j; memory = h .memory; answers = h .answers; commands = h .commands })
+
+  -- what comes back of a state that was stored over all that was lent
+  stored-back : (state : Piece) (after : List ℕ) (r : RecorderState) → lends (h .block) state ≡ h .block
+      → after ≡ sets (h .block) 0 (encoded (recorderChanged (decoded (h .block)) r))
+      → handedBack (h .block) state after ≡ servedPanel h r .block
+  stored-back state after r whole e =
+      all-back (h .block) state after (servedPanel h r .block) whole e (length-sets (h .block) 0 (encoded (recorderChanged (decoded (h .block)) r)))
+
+  module _ (setup : List ℕ) (next : House) (c : ByPrepare h setup next) (fine : c .result .refusal ≡ taken) (whole : lends (h .block) (c .state) ≡ h .block) where
+    prepare-number : panelNumber (lends (h .block) (c .state)) ≡ taken
+    prepare-number = sym (prepare-refused (lends (h .block) (c .state)) setup (c .result) (c .after) (c .promised) .number) ∙ fine
+
+    -- "gets the same statuses"
+    pub told-prepare : c .result .status ≡ panelPrepares (gateIn h) setup .answer .status
+    told-prepare =
+        let said : List ℕ → ℕ = λ l. panelPrepares (gateOf (decoded l .instruments) (h .memory)) setup .answer .status in
+        let lentBlock : List ℕ = lends (h .block) (c .state) in
+        let n : ℕ = panelNumber lentBlock in
+        ap (λ (x : Said). x .status) (goes n (c .result) (record { refusal = taken; status = said lentBlock }) (record { refusal = n; status = 0 }) prepare-number (c .promised .result (h .memory)))
+        ∙ ap said whole
+
+    pub step-prepare : next ≡ servedPanel h (givenNext (decoded (h .block) .instruments .recorder) setup)
+    step-prepare =
+        let lentBlock : List ℕ = lends (h .block) (c .state) in
+        let after = goes (panelNumber lentBlock) (c .after) (sets lentBlock 0 (encoded (preparedTarget setup (decoded lentBlock)))) lentBlock prepare-number (c .promised .state)
+        ∙ ap (λ (l : List ℕ). sets l 0 (encoded (preparedTarget setup (decoded l)))) whole in
+        let block = stored-back (c .state) (c .after) (givenNext (decoded (h .block) .instruments .recorder) setup) whole after in
+        c .house ∙ (λ j. record { block = block j; memory = h .memory; answers = h .answers; commands = h .commands })
+
+  module _ (next : House) (c : ByStart h next) (fine : c .result .refusal ≡ taken) (whole : lends (h .block) (c .state) ≡ h .block) where
+    start-number : panelNumber (lends (h .block) (c .state)) ≡ taken
+    start-number = sym (start-refused (lends (h .block) (c .state)) (c .result) (c .after) (c .promised) .number) ∙ fine
+
+    pub told-start : c .result .status ≡ panelStarts (gateIn h) .answer .status
+    told-start =
+        let said : List ℕ → ℕ = λ l. panelStarts (gateOf (decoded l .instruments) (h .memory)) .answer .status in
+        let lentBlock : List ℕ = lends (h .block) (c .state) in
+        let n : ℕ = panelNumber lentBlock in
+        ap (λ (x : Said). x .status) (goes n (c .result) (record { refusal = taken; status = said lentBlock }) (record { refusal = n; status = 0 }) start-number (c .promised .result (h .memory)))
+        ∙ ap said whole
+
+    pub step-start : next ≡ servedPanel h (startedState (decoded (h .block) .instruments .recorder))
+    step-start =
+        let lentBlock : List ℕ = lends (h .block) (c .state) in
+        let after = goes (panelNumber lentBlock) (c .after) (sets lentBlock 0 (encoded (startedTarget (decoded lentBlock)))) lentBlock start-number (c .promised .state)
+        ∙ ap (λ (l : List ℕ). sets l 0 (encoded (startedTarget (decoded l)))) whole in
+        let block = stored-back (c .state) (c .after) (startedState (decoded (h .block) .instruments .recorder)) whole after in
         c .house ∙ (λ j. record { block = block j; memory = h .memory; answers = h .answers; commands = h .commands })

@@ -9,12 +9,23 @@ use Rattle.document.specs.Plan.{Plan}
 use Rattle.document.specs.Run.{Run, started, placeBegins}
 use Rattle.document.specs.Recorder.Recorder.{planned}
 use Rattle.history.specs.History.{Event, begun, takesNext, beyondIn, NoneBeyond, TriggersNext}
+use Rattle.blocks.specs.Layout.{decoded}
 use Rattle.demands.specs.House.{House, gateIn}
+use Rattle.demands.specs.Stands.{linkIn}
 
 -- an accepted start leaves a recorder with its plan, at its start
 pub record Begun (h : House) : Type 0 where
   pub plan : Plan
   pub recorder : gateIn h .recorder ≡ planned plan started
+
+-- the recorder may have changed, and nothing else has: not the link, in the midst of a message or not (2026-06)
+pub record OnlyRecorder (h next : House) : Type 0 where
+  pub link-part : linkIn (decoded (next .block)) ≡ linkIn (decoded (h .block))
+  pub scope : decoded (next .block) .instruments .scope ≡ decoded (h .block) .instruments .scope
+  pub application : decoded (next .block) .instruments .application ≡ decoded (h .block) .instruments .application
+  pub tables : decoded (next .block) .instruments .tables ≡ decoded (h .block) .instruments .tables
+  pub memory : next .memory ≡ h .memory
+  pub answers : next .answers ≡ h .answers
 
 -- a recorder with this plan, which goes on or not
 pub record Goes (p : Plan) (h : House) (on : Bool) : Type 0 where

@@ -15,8 +15,9 @@ use Rattle.document.specs.Commands.{answered}
 use Rattle.line.specs.declared.Written.{Written}
 use Rattle.host.specs.Reader.{idle, stepped}
 use Rattle.blocks.specs.Places.{stateLength}
-use Rattle.checks.specs.Promises.{blockSound, byteNumber, tickNumber, collectNumber, reportNumber}
+use Rattle.checks.specs.Promises.{blockSound, byteNumber, tickNumber, collectNumber, reportNumber, panelNumber}
 use Rattle.registering.specs.Promises.{registerNumber}
+use Rattle.panel_calls.specs.declared.Said.{Said}
 use Rattle.byte_call.specs.declared.Taken.{Taken}
 use Rattle.block_call.specs.declared.BlockTaken.{BlockTaken}
 use Rattle.reader.specs.declared.calls.ReadByte.{ReadByte}
@@ -54,6 +55,11 @@ pub record CollectRefused (block buffer : List ℕ) (r : Written) (after told : 
 pub record ReportRefused (block : List ℕ) (reported r : ℕ) (after : List ℕ) : Type 0 where
   pub number : r ≡ reportNumber block reported
   pub unchanged : (r ≡ taken → ⊥) → after ≡ block
+
+-- the panel's preparing and its start
+pub record PanelRefused (block : List ℕ) (r : Said) (after : List ℕ) : Type 0 where
+  pub number : r .refusal ≡ panelNumber block
+  pub unchanged : (r .refusal ≡ taken → ⊥) → (r .status ≡ 0) × (after ≡ block)
 
 pub record RegisterRefused (block memory list : List ℕ) (r : ℕ) (after : List ℕ) : Type 0 where
   pub number : r ≡ registerNumber block memory list

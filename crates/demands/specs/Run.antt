@@ -12,14 +12,16 @@ use Rattle.document.specs.Stores.{stored}
 use Rattle.document.specs.Bytes.{AllBytes}
 use Rattle.document.specs.Tables.{Table, tablesIn}
 use Rattle.document.specs.Asides.{Aside}
-use Rattle.document.specs.Asides.Aside.{tick, writes, collects, reports}
+use Rattle.document.specs.Asides.Aside.{tick, writes, collects, reports, prepares, starts}
 use Rattle.document.specs.Happenings.{Happening}
 use Rattle.document.specs.Happenings.Happening.{byte, aside}
 use Rattle.line.specs.declared.Written.{Written}
-use Rattle.checks.specs.Promises.{ResetDone, byteNumber, tickNumber, collectNumber}
+use Rattle.checks.specs.Promises.{ResetDone, byteNumber, tickNumber, collectNumber, panelNumber}
 use Rattle.tick_call.specs.Promises.{TickTaken}
 use Rattle.application_calls.specs.Promises.{CollectDone, ReportDone}
 use Rattle.registering.specs.Promises.{RegisterDone}
+use Rattle.panel_calls.specs.declared.Said.{Said}
+use Rattle.panel_calls.specs.Promises.{PrepareDone, StartDone}
 use Rattle.byte_call.specs.declared.Taken.{Taken}
 use Rattle.byte_call.specs.Promises.{ByteTaken}
 use Rattle.block_call.specs.declared.BlockTaken.{BlockTaken}
@@ -119,6 +121,36 @@ pub record ByReport (h : House) (reported : ℕ) (next : House) : Type 0 where
         commands = h .commands;
       }
 
+-- `log_gate_prepare` was called
+pub record ByPrepare (h : House) (setup : List ℕ) (next : House) : Type 0 where
+  pub state : Piece
+  pub result : Said
+  pub after : List ℕ
+  pub promised : PrepareDone (lends (h .block) state) setup result after
+  pub house :
+      next
+      ≡ record {
+        block = handedBack (h .block) state after;
+        memory = h .memory;
+        answers = h .answers;
+        commands = h .commands;
+      }
+
+-- `log_gate_start` was called
+pub record ByStart (h next : House) : Type 0 where
+  pub state : Piece
+  pub result : Said
+  pub after : List ℕ
+  pub promised : StartDone (lends (h .block) state) result after
+  pub house :
+      next
+      ≡ record {
+        block = handedBack (h .block) state after;
+        memory = h .memory;
+        answers = h .answers;
+        commands = h .commands;
+      }
+
 -- `log_gate_register` was called
 pub record ByRegister (h : House) (list : List ℕ) (next : House) : Type 0 where
   pub state : Piece
@@ -149,6 +181,10 @@ Beside h collects next =
     (call : ByCollect h next) × (call .result .refusal ≡ taken) × (lends (h .block) (call .state) ≡ h .block)
 Beside h (reports reported) next =
     (call : ByReport h reported next) × (call .result ≡ taken) × (lends (h .block) (call .state) ≡ h .block)
+Beside h (prepares setup) next =
+    (call : ByPrepare h setup next) × (call .result .refusal ≡ taken) × (lends (h .block) (call .state) ≡ h .block)
+Beside h starts next =
+    (call : ByStart h next) × (call .result .refusal ≡ taken) × (lends (h .block) (call .state) ≡ h .block)
 
 abbrev pub Step : House → Happening → House → Type 0
 Step h (byte b) next = (call : ByByte h b next) × (call .result .refusal ≡ taken) × (lends (h .block) (call .state) ≡ h .block)
@@ -161,6 +197,8 @@ pub data Refused (h next : House) : Type 0 where
   refused-tick : (call : ByTick h next) → (call .result ≡ taken → ⊥) → Refused h next
   refused-collect : (call : ByCollect h next) → (call .result .refusal ≡ taken → ⊥) → Refused h next
   refused-report : (reported : ℕ) (call : ByReport h reported next) → (call .result ≡ taken → ⊥) → Refused h next
+  refused-prepare : (setup : List ℕ) (call : ByPrepare h setup next) → (call .result .refusal ≡ taken → ⊥) → Refused h next
+  refused-start : (call : ByStart h next) → (call .result .refusal ≡ taken → ⊥) → Refused h next
   refused-register : (list : List ℕ) (call : ByRegister h list next) → (call .result ≡ taken → ⊥) → Refused h next
 
 -- every byte comes by a call of its own
@@ -183,8 +221,10 @@ pub data Run : House → List Happening → House → Type 0 where
       → Run next es last → Run h (came (call .result .taken) bytes ++ es) last
   refuses : (h next last : House) (es : List Happening) → Refused h next → Run next es last → Run h es last
 
--- a byte, a block, a tick or a collection that is lent the block, the memory and room for an answer or for a command is taken; a report waits for its command
+-- a byte, a block, a tick or a collection that is lent the block, the memory and room for an answer or for a command is taken, and so are
+-- the panel's calls; a report waits for its command
 pub record Ready (h : House) : Type 0 where
   pub byte-taken : (buffer : List ℕ) → answerRoom ≤ length buffer → byteNumber (h .block) (h .memory) buffer ≡ taken
   pub tick-taken : tickNumber (h .block) (h .memory) ≡ taken
   pub collect-taken : (buffer : List ℕ) → mostData ≤ length buffer → collectNumber (h .block) buffer ≡ taken
+  pub panel-taken : panelNumber (h .block) ≡ taken

@@ -6,6 +6,7 @@ use Rattle.document.specs.Services.{serviceOf}
 use Rattle.document.specs.Message.{wellFormed, onWire, heard, finishedBy}
 use Rattle.document.specs.Refusals.{refusal}
 use Rattle.document.specs.Commands.{answered}
+use Rattle.document.specs.Panel.{panelPrepares, panelStarts}
 use Rattle.document.specs.Asides.{beside}
 use Rattle.document.specs.Answer.{answerOnWire, answersHeard, answerFinishedBy}
 use Rattle.document.specs.AnswerWriter.{answerRefusal, answerWritten, answerBuffer}
@@ -13,6 +14,7 @@ use Rattle.document.specs.CommandWriter.{commandRefusal, commandWritten,
 use Rattle.document.specs.AnswerReader.{readRoomRefusal, brought}
 use Rattle.document.specs.Plan.{planIn}
 use Rattle.document.specs.Trigger.{fires, isBeyond}
+use Rattle.document.specs.Run.{ranTick, memoryAfterTick}
 use Rattle.document.specs.Sets.{setsTaken}
 use Rattle.document.specs.CallRows.{Line, callRows, answerRows, commandRows, statusRows}
 use Rattle.document.specs.ReaderRows.{readerRows}
@@ -21,6 +23,7 @@ use Rattle.document.specs.BaseTypes.{sizeOfCode}
 use Rattle.document.specs.Tables.{isListGood}
 use Rattle.document.specs.TableRows.{entryRows, listRows}
 use Rattle.document.specs.BlockRows.{blockRows}
+use Rattle.document.specs.PanelRows.{panelLines}
 use Rattle.document.specs.SetRows.{plainPlan, exPlan, plainPlanNoTrigger, plansIn, bufferAnswers, histories, taken, written, lasts, rounds}
 use Rattle.document.proofs.Rows.{holds-eq, lists-eq}
 
@@ -43,6 +46,10 @@ entries-hold = lists-eq (map (λ (l : Line). l .gives) entryRows) (map (λ (l : 
 pub blocks-hold : map (λ (l : Line). l .gives) blockRows ≡ map (λ (l : Line). l .says) blockRows
 unfolding blockRows answerOnWire heard finishedBy serviceOf refusal answered beside
 blocks-hold = lists-eq (map (λ (l : Line). l .gives) blockRows) (map (λ (l : Line). l .says) blockRows) refl
+
+pub panel-holds : map (λ (l : Line). l .gives) panelLines ≡ map (λ (l : Line). l .says) panelLines
+unfolding panelLines heard finishedBy serviceOf refusal answered planIn ranTick memoryAfterTick beside panelPrepares panelStarts
+panel-holds = lists-eq (map (λ (l : Line). l .gives) panelLines) (map (λ (l : Line). l .says) panelLines) refl
 
 pub plans-hold : plansIn ≡ (plainPlan ∷ exPlan ∷ plainPlanNoTrigger ∷ [])
 unfolding planIn

@@ -5,6 +5,7 @@ pub mod Cases
 pub mod Levels
 pub mod Order
 pub mod Pairs
+pub mod Panel
 pub mod Places
 pub mod Refused
 pub mod Rows

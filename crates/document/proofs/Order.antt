@@ -11,7 +11,7 @@ use Rattle.document.specs.Services.{serviceOf}
 use Rattle.document.specs.Gate.{Gate}
 use Rattle.document.specs.Refusals.{Refusal, when, order, lines, table}
 use Rattle.document.specs.declared.Operation.{Operation}
-use Rattle.document.specs.declared.Operation.the-variants.{Unserved, Describe, DescribeBriefly, Read, Write, WriteMasked, SetUpScope, ReadScope, SetUpRecorder, Start, Stop, Status, QueryBuffer, SendCommand, CommandResult, TellTable, MeasureString}
+use Rattle.document.specs.declared.Operation.the-variants.{Unserved, Describe, DescribeBriefly, Read, Write, WriteMasked, SetUpScope, ReadScope, PrepareAndStart, Start, Stop, Status, QueryBuffer, SendCommand, CommandResult, TellTable, MeasureString}
 use Rattle.document.specs.declared.Service.{Service}
 
 -- whether the statuses of these lines come in this order, each at most once
@@ -31,7 +31,7 @@ module _ (g : Gate) (s : Service) (body : List ℕ) (sum long : Bool) where
   ordered WriteMasked = refl
   ordered SetUpScope = refl
   ordered ReadScope = refl
-  ordered SetUpRecorder = refl
+  ordered PrepareAndStart = refl
   ordered Start = refl
   ordered Stop = refl
   ordered Status = refl

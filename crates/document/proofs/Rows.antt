@@ -14,10 +14,12 @@ use Rattle.document.specs.Run.{ranTick, memoryAfterTick}
 use Rattle.document.specs.Permission.{mayBeWritten}
 use Rattle.document.specs.Refusals.{refusal}
 use Rattle.document.specs.Commands.{answered}
+use Rattle.document.specs.Panel.{panelPrepares, panelStarts}
 use Rattle.document.specs.Asides.{beside}
 use Rattle.document.specs.Strings.{beforeZero, hasZero}
 use Rattle.document.specs.ApplicationRows.{applicationRows}
 use Rattle.document.specs.TableRows.{tableRows, namesByStep}
+use Rattle.document.specs.PanelRows.{panelRows, midstRows}
 use Rattle.document.specs.Rows.{Row, saidBy, byteByByte, stepByStep}
 use Rattle.document.specs.LineRows.{lineRows, pairedBytes, tokens}
 use Rattle.document.specs.ReadRows.{readRows}
@@ -88,19 +90,19 @@ holds-eq given said e = none-differs (same (same eqb)) (same-eq (same eqb) (same
 -- ---- the table
 
 abbrev rows : List Row
-unfolding readRows writeRows scopeRows setupRows recorderRows triggerRows applicationRows
-rows = readRows ++ writeRows ++ scopeRows ++ setupRows ++ recorderRows ++ triggerRows ++ applicationRows
+unfolding readRows writeRows scopeRows setupRows recorderRows triggerRows applicationRows panelRows
+rows = readRows ++ writeRows ++ scopeRows ++ setupRows ++ recorderRows ++ triggerRows ++ applicationRows ++ panelRows
 
 abbrev pub given : List (List (List ℕ))
-unfolding lineRows readRows writeRows scopeRows setupRows recorderRows triggerRows applicationRows tableRows
-given = map byteByByte lineRows ++ map stepByStep rows ++ map namesByStep tableRows
+unfolding lineRows readRows writeRows scopeRows setupRows recorderRows triggerRows applicationRows panelRows midstRows tableRows
+given = map byteByByte lineRows ++ map byteByByte midstRows ++ map stepByStep rows ++ map namesByStep tableRows
 
 abbrev pub said : List (List (List ℕ))
-unfolding lineRows readRows writeRows scopeRows setupRows recorderRows triggerRows applicationRows tableRows
-said = map saidBy lineRows ++ map saidBy rows ++ map saidBy tableRows
+unfolding lineRows readRows writeRows scopeRows setupRows recorderRows triggerRows applicationRows panelRows midstRows tableRows
+said = map saidBy lineRows ++ map saidBy midstRows ++ map saidBy rows ++ map saidBy tableRows
 
 pub rows-hold : given ≡ said
-unfolding lineRows readRows writeRows scopeRows setupRows recorderRows triggerRows applicationRows tableRows answerOnWire heard finishedBy serviceOf mayBeWritten refusal answered planIn fires isBeyond ranTick memoryAfterTick beside beforeZero hasZero
+unfolding lineRows readRows writeRows scopeRows setupRows recorderRows triggerRows applicationRows panelRows midstRows tableRows panelPrepares panelStarts answerOnWire heard finishedBy serviceOf mayBeWritten refusal answered planIn fires isBeyond ranTick memoryAfterTick beside beforeZero hasZero
 rows-hold = holds-eq given said refl
 
 pub edges-hold : map firesAt edges ≡ map (λ (e : Edge). e .fires) edges

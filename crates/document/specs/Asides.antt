@@ -5,6 +5,7 @@ use Rattle.document.specs.Stores.{stored}
 use Rattle.document.specs.Recorder.{ticked, tickedMemory}
 use Rattle.document.specs.Application.{afterCollect, afterReport}
 use Rattle.document.specs.Gate.{Gate, withMemory, withRecorder, withApplication}
+use Rattle.document.specs.Panel.{panelPrepares, panelStarts}
 
 pub data Aside : Type 0 where
   -- "The gate calls a tick."
@@ -15,6 +16,10 @@ pub data Aside : Type 0 where
   collects : Aside
   -- "and later reports a result"
   reports : ℕ → Aside
+  -- "The front panel wants to prepare the recorder" (2026-06)
+  prepares : List ℕ → Aside
+  -- and starts it
+  starts : Aside
 
 abbrev pub tickedGate : Gate → Gate
 tickedGate g = withMemory (withRecorder g (ticked (g .recorder) (g .memory))) (tickedMemory (g .recorder) (g .memory))
@@ -24,3 +29,5 @@ beside g tick = tickedGate g
 beside g (writes address bytes) = withMemory g (stored (g .memory) address bytes)
 beside g collects = withApplication g (afterCollect (g .application))
 beside g (reports result) = withApplication g (afterReport result (g .application))
+beside g (prepares body) = panelPrepares g body .gate
+beside g starts = panelStarts g .gate

@@ -9,8 +9,8 @@ use Rattle.document.specs.Message.{Message}
 use Rattle.document.specs.Areas.{bytesAt}
 use Rattle.document.specs.Stores.{stored, maskStored}
 use Rattle.document.specs.Variables.{addressWidth}
-use Rattle.document.specs.Scope.{Scope, scopeSetUp, scopeRead}
-use Rattle.document.specs.Recorder.{Recorder, isRunning, recorderSetUp, recorderStarted, recorderHalted, bufferAnswer}
+use Rattle.document.specs.Scope.{scopeSetUp, scopeRead}
+use Rattle.document.specs.Recorder.{isRunning, recorderPrepared, recorderStarted, recorderHalted, bufferAnswer}
 use Rattle.document.specs.Services.{serviceOf}
 use Rattle.document.specs.Fields.{sizeField, addressField, dataField, maskField}
 use Rattle.document.specs.Values.{number, littleEndian}
@@ -21,7 +21,7 @@ use Rattle.document.specs.Application.Application.{waiting}
 use Rattle.document.specs.Gate.{Gate, Outcome, says, withMemory, withScope, withRecorder, withApplication}
 use Rattle.document.specs.Refusals.{Refusal, firstOf, servedLines, refusal}
 use Rattle.document.specs.declared.Operation.{Operation}
-use Rattle.document.specs.declared.Operation.the-variants.{Unserved, Describe, DescribeBriefly, Read, Write, WriteMasked, SetUpScope, ReadScope, SetUpRecorder, Start, Stop, Status, QueryBuffer, SendCommand, CommandResult, TellTable, MeasureString}
+use Rattle.document.specs.declared.Operation.the-variants.{Unserved, Describe, DescribeBriefly, Read, Write, WriteMasked, SetUpScope, ReadScope, PrepareAndStart, Start, Stop, Status, QueryBuffer, SendCommand, CommandResult, TellTable, MeasureString}
 use Rattle.document.specs.declared.Service.{Service}
 
 -- "03 00 01 01 00 40 00 10 01 40, then "LOG GATE" and 17 zeros (35 bytes)"
@@ -42,9 +42,17 @@ abbrev pub writtenMasked : Gate → Service → List ℕ → Outcome
 writtenMasked g s body =
     says (withMemory g (maskStored (g .memory) (addressField s body) (dataField s body) (maskField s body))) done []
 
--- "0xC1: running answers 0x01, else starts, 0x00."
+-- "preparing" (2026-06)
+abbrev pub prepare : Gate → Bool → List ℕ → Outcome
+prepare g ex body = says (withRecorder g (recorderPrepared ex body)) done []
+
+-- "and starting"; "0xC1: running answers 0x01, else starts, 0x00."
 abbrev pub start : Gate → Outcome
 start g = says (withRecorder g (recorderStarted (g .recorder))) (cond (isRunning (g .recorder)) recorderRuns done) []
+
+-- "Commands 0x09 and 0x0B become the two in a row"
+abbrev pub prepareAndStart : Gate → Bool → List ℕ → Outcome
+prepareAndStart g ex body = start (prepare g ex body .gate)
 
 -- "0xC2: stopped answers 0x02, else stops, 0x00."
 abbrev pub stop : Gate → Outcome
@@ -64,7 +72,7 @@ doing Write g s body = written g s body
 doing WriteMasked g s body = writtenMasked g s body
 doing SetUpScope g s body = says (withScope g (scopeSetUp (s .ex) body)) done []
 doing ReadScope g s body = says g done (scopeRead (g .scope) (g .memory))
-doing SetUpRecorder g s body = says (withRecorder g (recorderSetUp (s .ex) body)) done []
+doing PrepareAndStart g s body = prepareAndStart g (s .ex) body
 doing Start g s body = start g
 doing Stop g s body = stop g
 doing Status g s body = status g

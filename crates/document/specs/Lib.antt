@@ -38,6 +38,7 @@ pub mod Run
 pub mod Recorder
 pub mod Sets
 -- since reset, and "Staples to try"
+pub mod Panel
 pub mod Asides
 pub mod Happenings
 pub mod Blocks
@@ -62,4 +63,5 @@ pub mod TriggerRows
 pub mod ApplicationRows
 pub mod TableRows
 pub mod BlockRows
+pub mod PanelRows
 pub mod SetRows

@@ -5,7 +5,7 @@ use Prim.Native.Nat.{ℕ}
 use Rattle.document.specs.Areas.{bufferBegin}
 use Rattle.document.specs.Values.{littleEndian}
 use Rattle.document.specs.Plan.{Plan, planIn}
-use Rattle.document.specs.Run.{Run, started, stopped, startIndex, ranTick, memoryAfterTick}
+use Rattle.document.specs.Run.{Run, started, stopped, prepared, startIndex, ranTick, memoryAfterTick}
 
 pub data Recorder : Type 0 where
   absent : Recorder
@@ -20,11 +20,11 @@ abbrev pub isRunning : Recorder → Bool
 isRunning absent = false
 isRunning (planned p r) = r .running
 
--- "Accepted, it also starts."
-abbrev pub recorderSetUp : Bool → List ℕ → Recorder
-recorderSetUp ex body = planned (planIn ex body) started
+-- "Split the recorder setup in two, preparing and starting." (2026-06): nothing of the former setup is left
+abbrev pub recorderPrepared : Bool → List ℕ → Recorder
+recorderPrepared ex body = planned (planIn ex body) prepared
 
--- "0xC1: running answers 0x01, else starts"
+-- "0xC1: running answers 0x01, else starts": nothing of the run before is left
 abbrev pub recorderStarted : Recorder → Recorder
 recorderStarted absent = absent
 recorderStarted (planned p r) = planned p (cond (r .running) r started)

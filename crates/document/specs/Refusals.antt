@@ -19,7 +19,7 @@ use Rattle.document.specs.Application.{isPending}
 use Rattle.document.specs.Gate.{Gate}
 use Rattle.document.specs.Permission.{mayBeWritten}
 use Rattle.document.specs.declared.Operation.{Operation}
-use Rattle.document.specs.declared.Operation.the-variants.{Unserved, Describe, DescribeBriefly, Read, Write, WriteMasked, SetUpScope, ReadScope, SetUpRecorder, Start, Stop, Status, QueryBuffer, SendCommand, CommandResult, TellTable, MeasureString}
+use Rattle.document.specs.declared.Operation.the-variants.{Unserved, Describe, DescribeBriefly, Read, Write, WriteMasked, SetUpScope, ReadScope, PrepareAndStart, Start, Stop, Status, QueryBuffer, SendCommand, CommandResult, TellTable, MeasureString}
 use Rattle.document.specs.declared.Service.{Service}
 
 -- a line of the table: the status, and whether it applies
@@ -115,7 +115,7 @@ lines Write g s body = writeLines g s body (sizeField s body)
 lines WriteMasked g s body = writeLines g s body (2 * sizeField s body)
 lines SetUpScope g s body = scopeSetUpLines (s .ex) body
 lines ReadScope g s body = scopeReadLines g
-lines SetUpRecorder g s body = recorderSetUpLines g (s .ex) body
+lines PrepareAndStart g s body = recorderSetUpLines g (s .ex) body
 lines Start g s body = recorderLines g
 lines Stop g s body = recorderLines g
 lines Status g s body = recorderLines g

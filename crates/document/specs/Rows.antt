@@ -12,7 +12,7 @@ use Rattle.document.specs.Gate.{fresh}
 use Rattle.document.specs.Happenings.{Happening, Since, told, afterAll, fromReset}
 use Rattle.document.specs.Happenings.Happening.{byte, aside}
 use Rattle.document.specs.Asides.{Aside}
-use Rattle.document.specs.Asides.Aside.{tick, writes, collects, reports}
+use Rattle.document.specs.Asides.Aside.{tick, writes, collects, reports, prepares, starts}
 use Rattle.document.specs.Staples.{zeros}
 
 pub record Step : Type 0 where
@@ -73,6 +73,13 @@ collecting = beside (collects ∷ [])
 
 abbrev pub reporting : ℕ → Step
 reporting result = beside (reports result ∷ [])
+
+-- the panel prepares, and starts (2026-06)
+abbrev pub preparing : List ℕ → Step
+preparing setup = beside (prepares setup ∷ [])
+
+abbrev pub starting : Step
+starting = beside (starts ∷ [])
 
 -- byte 16 takes these values, one at each tick
 abbrev eachTick : List ℕ → List Aside

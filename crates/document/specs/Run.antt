@@ -37,6 +37,11 @@ started = record { running = true; wait = 0; place = 0; full = false; watch = un
 abbrev pub stopped : Run → Run
 stopped r = record { running = false; wait = r .wait; place = r .place; full = r .full; watch = r .watch }
 
+-- "A recorder prepared and not started since .. counts as having taken no set" (2026-06): what a start and a stop with no tick
+-- between leave
+abbrev pub prepared : Run
+prepared = stopped started
+
 -- "The start index is 0 until 'samples' sets are taken, then the place that would be written next."
 abbrev pub startIndex : Run → ℕ
 startIndex r = cond (r .full) (r .place) 0

@@ -4,7 +4,7 @@ use mathlib.Core.List.{List, [], _∷_}
 use Prim.Native.Nat.{ℕ}
 use lib.Dec.{eqb}
 use Rattle.document.specs.declared.Operation.{Operation}
-use Rattle.document.specs.declared.Operation.the-variants.{Unserved, Describe, DescribeBriefly, Read, Write, WriteMasked, SetUpScope, ReadScope, SetUpRecorder, Start, Stop, Status, QueryBuffer, SendCommand, CommandResult, TellTable, MeasureString}
+use Rattle.document.specs.declared.Operation.the-variants.{Unserved, Describe, DescribeBriefly, Read, Write, WriteMasked, SetUpScope, ReadScope, PrepareAndStart, Start, Stop, Status, QueryBuffer, SendCommand, CommandResult, TellTable, MeasureString}
 use Rattle.document.specs.declared.Service.{Service}
 
 -- a line of the list
@@ -54,8 +54,8 @@ commands =
     ∷ ex 0x0A SetUpScope 0
     ∷ plain 0xC5 ReadScope 0
     -- "0x09 (0x0B)"
-    ∷ plain 0x09 SetUpRecorder 0
-    ∷ ex 0x0B SetUpRecorder 0
+    ∷ plain 0x09 PrepareAndStart 0
+    ∷ ex 0x0B PrepareAndStart 0
     -- "0xC1", "0xC2", "0xC3", "0xC4 (0xC9)"
     ∷ plain 0xC1 Start 0
     ∷ plain 0xC2 Stop 0

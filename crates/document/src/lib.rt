@@ -17,7 +17,7 @@ pub enum Operation {
     WriteMasked,
     SetUpScope,
     ReadScope,
-    SetUpRecorder,
+    PrepareAndStart,
     Start,
     Stop,
     Status,

@@ -3,7 +3,7 @@ use mathlib.Core.List.{List}
 use Prim.Native.Nat.{ℕ}
 use Rattle.document.specs.declared.Service.{Service}
 use Rattle.outcomes.specs.Changes.{Change, changeOf}
-use Rattle.outcomes.specs.Changes.Change.{nothing, store, maskedStore, scopeSetUp, recorderSetUp, recorderStart, recorderStop, commandSent}
+use Rattle.outcomes.specs.Changes.Change.{nothing, store, maskedStore, scopeSetUp, recorderPrepareAndStart, recorderStart, recorderStop, commandSent}
 use Rattle.fields.specs.Blocks.{OwnFits}
 
 -- how many parts of its size stand behind the address: data, or data and mask
@@ -12,7 +12,7 @@ partsOf nothing = 0
 partsOf store = 1
 partsOf maskedStore = 2
 partsOf scopeSetUp = 0
-partsOf recorderSetUp = 0
+partsOf recorderPrepareAndStart = 0
 partsOf recorderStart = 0
 partsOf recorderStop = 0
 partsOf commandSent = 0

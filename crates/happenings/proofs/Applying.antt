@@ -17,19 +17,20 @@ use Rattle.document.specs.Gate.{Gate, Outcome, registered, says, withApplicatio
 use Rattle.document.specs.Refusals.{sendLines, firstOf, refusal}
 use Rattle.document.specs.Commands.{doing, served, answered}
 use Rattle.document.specs.Asides.{Aside, beside}
-use Rattle.document.specs.Asides.Aside.{tick, writes, collects, reports}
+use Rattle.document.specs.Asides.Aside.{tick, writes, collects, reports, prepares, starts as starting}
 use Rattle.document.specs.Happenings.{Happening, Since, told, after, afterAll, fromReset}
 use Rattle.document.specs.Happenings.Happening.{byte, aside}
 use Rattle.document.specs.declared.Operation.the-variants.{Unserved}
 use Rattle.document.specs.declared.Service.{Service}
 use Rattle.document.proofs.Cases.{split, neither, both, and-right}
 use Rattle.outcomes.specs.Changes.{Change, changeOf, changed, Accepted}
-use Rattle.outcomes.specs.Changes.Change.{nothing, store, maskedStore, scopeSetUp, recorderSetUp, recorderStart, recorderStop, commandSent}
+use Rattle.outcomes.specs.Changes.Change.{nothing, store, maskedStore, scopeSetUp, recorderPrepareAndStart, recorderStart, recorderStop, commandSent}
 use Rattle.outcomes.proofs.Answered.{answered-served, accepted-gate, accepted, refused-gate}
 use Rattle.outcomes.proofs.Firsts.{none-applies}
 use Rattle.line.proofs.Pairing.{waitsAfter}
 use Rattle.happenings.specs.Bytes.{bytesOf}
 use Rattle.happenings.specs.Applying.{sends, sentBy, sentAt, sentOf, ifAny, waitingIn, waitingAt, handedBeside, handedAt, handedOut, unrefusedSoFar, Pending, WhilePending, NoResult, Unreported, AllUnreported}
+use Rattle.happenings.proofs.Panel.{prepare-touches, start-touches}
 use Rattle.happenings.proofs.Happened.{at-last}
 
 -- ---- of the list "Commands", only 0x10 sends
@@ -39,7 +40,7 @@ isSent nothing = false
 isSent store = false
 isSent maskedStore = false
 isSent scopeSetUp = false
-isSent recorderSetUp = false
+isSent recorderPrepareAndStart = false
 isSent recorderStart = false
 isSent recorderStop = false
 isSent commandSent = true
@@ -85,7 +86,7 @@ module _ (g : Gate) (s : Service) (body : List ℕ) where
   not-sent store other = refl
   not-sent maskedStore other = refl
   not-sent scopeSetUp other = refl
-  not-sent recorderSetUp other = refl
+  not-sent recorderPrepareAndStart other = refl
   not-sent recorderStart other = refl
   not-sent recorderStop other = refl
   not-sent commandSent other = neither (sym other)
@@ -223,6 +224,10 @@ beside-hands g tick = append-nil (waitingIn (g .application))
 beside-hands g (writes address bytes) = append-nil (waitingIn (g .application))
 beside-hands g collects = ap (λ (l : List (List ℕ)). waitingIn (g .application) ++ l) (sym (waits-once (g .application)))
 beside-hands g (reports result) = append-nil (waitingIn (g .application)) ∙ sym (reported-waits result (g .application))
+beside-hands g (prepares setup) =
+    append-nil (waitingIn (g .application)) ∙ ap (λ (q : Gate). waitingIn (q .application)) (sym (prepare-touches g setup))
+beside-hands g starting =
+    append-nil (waitingIn (g .application)) ∙ ap (λ (q : Gate). waitingIn (q .application)) (sym (start-touches g))
 
 happening-hands : (s : Since) (h : Happening) → waitingAt s ++ sentAt s h ≡ handedAt s h ++ waitingAt (after s h)
 happening-hands s (byte b) = by (finishedBy (s .bytes) b)
@@ -271,6 +276,8 @@ beside-pending g tick quiet pending = pending
 beside-pending g (writes address bytes) quiet pending = pending
 beside-pending g collects quiet pending = collect-pending (g .application) pending
 beside-pending g (reports result) quiet pending = uncollected-pending result (g .application) quiet pending
+beside-pending g (prepares setup) quiet pending = ap (λ (q : Gate). isPending (q .application)) (prepare-touches g setup) ∙ pending
+beside-pending g starting quiet pending = ap (λ (q : Gate). isPending (q .application)) (start-touches g) ∙ pending
 
 stays-pending : (s : Since) (h : Happening) → Unreported s h → Pending s → Pending (after s h)
 stays-pending s (byte b) quiet pending = by (finishedBy (s .bytes) b)

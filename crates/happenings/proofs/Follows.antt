@@ -2,7 +2,7 @@
 use mathlib.Core.Path.{_≡_, refl, sym, ap, subst, _∙_}
 use mathlib.Core.Bool.{false}
 use mathlib.Core.List.{List, [], _∷_, _++_}
-use Prim.Native.Nat.{ℕ, _<_}
+use Prim.Native.Nat.{ℕ}
 use lib.ListN.{length, drop}
 use Rattle.document.specs.Areas.{bufferBegin, memoryEnd}
 use Rattle.document.specs.Message.{Message, finishedBy}
@@ -13,9 +13,10 @@ use Rattle.document.specs.Recorder.{Recorder, ticked, tickedMemory}
 use Rattle.document.specs.Recorder.Recorder.{planned}
 use Rattle.document.specs.Gate.{Gate}
 use Rattle.document.specs.Commands.{answered}
+use Rattle.document.specs.Panel.{panelPrepares, panelStarts}
 use Rattle.document.specs.Happenings.{Happening, Since, told, after, afterAll}
 use Rattle.document.specs.Asides.{Aside, beside}
-use Rattle.document.specs.Asides.Aside.{tick, writes, collects, reports}
+use Rattle.document.specs.Asides.Aside.{tick, writes, collects, reports, prepares, starts as starting}
 use Rattle.document.specs.Happenings.Happening.{byte, aside}
 use Rattle.document.proofs.Cases.{split}
 use Rattle.memory.proofs.Copies.{stored-length}
@@ -23,8 +24,9 @@ use Rattle.history.specs.History.{Event, Recording, AllLeaveBuffer}
 use Rattle.history.specs.History as history
 use Rattle.outcomes.specs.Starts.{starts, stops}
 use Rattle.outcomes.proofs.Recording.{stop-stops, others-pass}
-use Rattle.happenings.specs.Recording.{eventsOf, eventsBeside, eventsAt, events, NoStart, Unstarted, AllUnstarted, LeavesBuffer, Undisturbed, AllUndisturbed}
+use Rattle.happenings.specs.Recording.{eventsOf, eventsBeside, eventsAt, events, NoStart, Unstarted, AllUnstarted, NothingNew, Undisturbed, AllUndisturbed}
 use Rattle.happenings.proofs.Recording.{message-leaves, ticked-length}
+use Rattle.happenings.proofs.Panel.{prepare-refused, start-passes}
 
 -- the gate's recorder has this plan, and goes through this history
 pub record Follows (p : Plan) (gate : Gate) (g : Recording) : Type 0 where
@@ -70,9 +72,17 @@ module _ (p : Plan) where
             (followed-message (s .gate) g m ms f
             (subst (λ (l : List Message). NoStart (s .gate) l) e quiet))
 
-    followed-beside : (a : Aside) → Followed (LeavesBuffer (s .gate) a) (beside (s .gate) a) g (eventsBeside (s .gate) a)
+    -- what changes nothing
+    followed-same : {quiet : Type 0} (gate : Gate) → gate ≡ s .gate → Followed quiet gate g []
+    followed-same gate same =
+        record {
+          follows = subst (λ (q : Gate). Follows p q g) (sym same) f;
+          leaves = λ quiet. tt;
+        }
+
+    followed-beside : (a : Aside) → NothingNew (s .gate) a → Followed (Undisturbed s (aside a)) (beside (s .gate) a) g (eventsBeside (s .gate) a)
     unfolding beside
-    followed-beside tick =
+    followed-beside tick old =
         record {
           follows =
               record {
@@ -86,17 +96,19 @@ module _ (p : Plan) where
               };
           leaves = λ quiet. (tt, tt);
         }
-    followed-beside (writes address bytes) =
+    followed-beside (writes address bytes) old =
         let size : length (stored (s .gate .memory) address bytes) ≡ memoryEnd =
         stored-length (s .gate .memory) (stored (s .gate .memory) address bytes) bytes address refl ∙ f .size in
         record {
           follows = record { recorder = f .recorder; memory = refl; size = size };
-          leaves = λ quiet. ((size, quiet ∙ ap (drop bufferBegin) (f .memory)), tt);
+          leaves = λ quiet. ((size, quiet .1 ∙ ap (drop bufferBegin) (f .memory)), tt);
         }
-    followed-beside collects =
+    followed-beside collects old =
         record { follows = record { recorder = f .recorder; memory = f .memory; size = f .size }; leaves = λ quiet. tt }
-    followed-beside (reports result) =
+    followed-beside (reports result) old =
         record { follows = record { recorder = f .recorder; memory = f .memory; size = f .size }; leaves = λ quiet. tt }
+    followed-beside (prepares setup) old = followed-same (panelPrepares (s .gate) setup .gate) (prepare-refused (s .gate) setup old)
+    followed-beside starting old = followed-same (panelStarts (s .gate) .gate) (start-passes (s .gate) old)
 
   -- ---- one after the other
   after-append : (es fs : List Event) (g : Recording) → history.after p g (es ++ fs) ≡ history.after p (history.after p g es) fs
@@ -123,7 +135,7 @@ module _ (p : Plan) where
       followed-append (after s (byte b) .gate) (afterAll (after s (byte b)) hs .gate) g (eventsAt s (byte b)) (events (after s (byte b)) hs) one
       (followed-all hs (after s (byte b)) (history.after p g (eventsAt s (byte b))) (one .follows) (quiet .1))
   followed-all (aside a ∷ hs) s g f quiet =
-      let one = followed-beside s g f a in
+      let one = followed-beside s g f a (quiet .0) in
       followed-append (beside (s .gate) a) (afterAll (after s (aside a)) hs .gate) g (eventsBeside (s .gate) a) (events (after s (aside a)) hs) one
       (followed-all hs (after s (aside a)) (history.after p g (eventsBeside (s .gate) a)) (one .follows) (quiet .1))
 
@@ -131,4 +143,4 @@ module _ (p : Plan) where
 pub unstarted : (hs : List Happening) (s : Since) → AllUndisturbed s hs → AllUnstarted s hs
 unstarted [] s quiet = tt
 unstarted (byte b ∷ hs) s quiet = (quiet .0, unstarted hs (after s (byte b)) (quiet .1))
-unstarted (aside a ∷ hs) s quiet = (tt, unstarted hs (after s (aside a)) (quiet .1))
+unstarted (aside a ∷ hs) s quiet = (quiet .0 .0, unstarted hs (after s (aside a)) (quiet .1))

@@ -3,6 +3,7 @@ pub mod Happened
 pub mod Resync
 pub mod FreshLink
 pub mod Recording
+pub mod Panel
 pub mod Ticks
 pub mod Follows
 pub mod Applying

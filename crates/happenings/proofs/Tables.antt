@@ -1,5 +1,5 @@
 -- "demand 3's fresh link has the same tables" (2026-03): nothing that happens since reset changes the tables.
-use mathlib.Core.Path.{_≡_, refl, _∙_}
+use mathlib.Core.Path.{_≡_, refl, ap, _∙_}
 use mathlib.Core.List.{List, [], _∷_}
 use Prim.Native.Nat.{ℕ}
 use Rattle.document.specs.Message.{Message, finishedBy}
@@ -7,20 +7,21 @@ use Rattle.document.specs.Services.{serviceOf}
 use Rattle.document.specs.Gate.{Gate}
 use Rattle.document.specs.Commands.{answered}
 use Rattle.document.specs.Asides.{Aside, beside}
-use Rattle.document.specs.Asides.Aside.{tick, writes, collects, reports}
+use Rattle.document.specs.Asides.Aside.{tick, writes, collects, reports, prepares, starts as starting}
 use Rattle.document.specs.Happenings.{Happening, Since, told, after, afterAll}
 use Rattle.document.specs.Happenings.Happening.{byte, aside}
 use Rattle.document.specs.declared.Service.{Service}
 use Rattle.outcomes.specs.Changes.{Change, changeOf, changed}
-use Rattle.outcomes.specs.Changes.Change.{nothing, store, maskedStore, scopeSetUp, recorderSetUp, recorderStart, recorderStop, commandSent}
+use Rattle.outcomes.specs.Changes.Change.{nothing, store, maskedStore, scopeSetUp, recorderPrepareAndStart, recorderStart, recorderStop, commandSent}
 use Rattle.outcomes.proofs.Answered.{answered-gate}
+use Rattle.happenings.proofs.Panel.{prepare-touches, start-touches}
 
 changed-tables : (c : Change) (g : Gate) (s : Service) (body : List ℕ) → changed c g s body .tables ≡ g .tables
 changed-tables nothing g s body = refl
 changed-tables store g s body = refl
 changed-tables maskedStore g s body = refl
 changed-tables scopeSetUp g s body = refl
-changed-tables recorderSetUp g s body = refl
+changed-tables recorderPrepareAndStart g s body = refl
 changed-tables recorderStart g s body = refl
 changed-tables recorderStop g s body = refl
 changed-tables commandSent g s body = refl
@@ -37,6 +38,8 @@ aside-tables g tick = refl
 aside-tables g (writes address bytes) = refl
 aside-tables g collects = refl
 aside-tables g (reports result) = refl
+aside-tables g (prepares setup) = ap (λ (q : Gate). q .tables) (prepare-touches g setup)
+aside-tables g starting = ap (λ (q : Gate). q .tables) (start-touches g)
 
 told-tables : (s : Since) (ms : List Message) → told s ms .gate .tables ≡ s .gate .tables
 told-tables s [] = refl

@@ -1,12 +1,12 @@
 -- The ticks among the recorder's events are those among what happens.
 use mathlib.Core.Path.{_≡_, refl, _∙_}
 use mathlib.Core.List.{List, [], _∷_, _++_}
-use Prim.Native.Nat.{ℕ, _+_}
+use Prim.Native.Nat.{_+_}
 use native.Mathlib.Omega.{arith}
 use Rattle.document.specs.Message.{Message, finishedBy}
 use Rattle.document.specs.Gate.{Gate}
 use Rattle.document.specs.Asides.{Aside}
-use Rattle.document.specs.Asides.Aside.{tick, writes, collects, reports}
+use Rattle.document.specs.Asides.Aside.{tick, writes, collects, reports, prepares, starts as starting}
 use Rattle.document.specs.Happenings.{Happening, Since, after}
 use Rattle.document.specs.Happenings.Happening.{byte, aside}
 use Rattle.document.proofs.Cases.{split}
@@ -30,6 +30,8 @@ aside-ticks g tick = refl
 aside-ticks g (writes address bytes) = refl
 aside-ticks g collects = refl
 aside-ticks g (reports result) = refl
+aside-ticks g (prepares setup) = refl
+aside-ticks g starting = refl
 
 pub ticks-counted : (hs : List Happening) (s : Since) → ticks (events s hs) ≡ ticksOf hs
 ticks-counted [] s = refl

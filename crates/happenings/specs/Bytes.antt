@@ -4,7 +4,7 @@ use Prim.Native.Nat.{ℕ, _<_}
 use lib.ListN.{getD}
 use Rattle.document.specs.Bytes.{AllBytes}
 use Rattle.document.specs.Asides.{Aside}
-use Rattle.document.specs.Asides.Aside.{tick, writes, collects, reports}
+use Rattle.document.specs.Asides.Aside.{tick, writes, collects, reports, prepares, starts as starting}
 use Rattle.document.specs.Happenings.{Happening}
 use Rattle.document.specs.Happenings.Happening.{byte, aside}
 
@@ -30,6 +30,8 @@ BesideIsBytes tick = Unit {0}
 BesideIsBytes (writes address bytes) = AllBytes bytes
 BesideIsBytes collects = Unit {0}
 BesideIsBytes (reports result) = result < 256
+BesideIsBytes (prepares setup) = AllBytes setup
+BesideIsBytes starting = Unit {0}
 
 abbrev pub IsBytes : Happening → Type 0
 IsBytes (byte b) = b < 256

@@ -1,5 +1,6 @@
 -- The laws, lowest first.
 pub mod Statuses
 pub mod Changing
+pub mod InARow
 pub mod Sending
 pub mod Listed

@@ -1,31 +1,30 @@
 -- What is said of the recorder: its own statuses, alone or with the data that they give.
 use mathlib.Core.Path.{_≡_, refl, sym, ap}
-use mathlib.Core.List.{List, [], _++_}
+use mathlib.Core.List.{List, _++_}
 use Prim.Native.Nat.{ℕ}
 use native.Mathlib.Omega.{arith}
 use Rattle.document.specs.Numbers.{done}
 use Rattle.document.specs.Areas.{bufferBegin}
 use Rattle.document.specs.Values.{littleEndian}
 use Rattle.document.specs.Variables.{addressWidth}
-use Rattle.document.specs.Recorder.{Recorder, recorderAbsent, recorderSetUp, bufferAnswer}
+use Rattle.document.specs.Recorder.{Recorder, recorderAbsent, bufferAnswer}
 use Rattle.document.specs.Recorder.Recorder.{absent, planned}
-use Rattle.document.specs.Gate.{Gate, Outcome, says, withRecorder}
+use Rattle.document.specs.Gate.{Gate, Outcome, says}
 use Rattle.document.specs.Refusals.{recorderSetUpLines, queryLines}
-use Rattle.document.specs.Commands.{served}
-use Rattle.document.specs.declared.Operation.the-variants.{SetUpRecorder, Start, Stop, Status, QueryBuffer}
+use Rattle.document.specs.Commands.{served, prepareAndStart}
+use Rattle.document.specs.declared.Operation.the-variants.{PrepareAndStart, Start, Stop, Status, QueryBuffer}
 use Rattle.document.specs.declared.Service.{Service}
 use Rattle.document.proofs.Cases.{split}
-use Rattle.recorder.specs.Setup as recorder
+use Rattle.recorder.specs.Preparing.{prepareStatus}
 use Rattle.recorder.specs.Calls.{startStatus, stopStatus, statusStatus, queryStatus, indexOf}
 use Rattle.outcomes.specs.Known.{knownAs}
 use Rattle.outcomes.proofs.Firsts.{unless-alone, unless-refused, unless-none}
 use Rattle.instruments.specs.Operates.{alone}
 
 module _ (g : Gate) (s : Service) (body : List ℕ) where
-  pub recorder-set-up : alone (recorder.setUpStatus (g .recorder) (s .ex) body) ≡ served g (knownAs SetUpRecorder s) body .answer
-  unfolding served recorder.setUpStatus
-  recorder-set-up =
-      sym (unless-alone g (recorderSetUpLines g (s .ex) body) (says (withRecorder g (recorderSetUp (s .ex) body)) done []) refl)
+  pub recorder-prepared : alone (prepareStatus (g .recorder) (s .ex) body) ≡ served g (knownAs PrepareAndStart s) body .answer
+  unfolding served prepareStatus
+  recorder-prepared = sym (unless-alone g (recorderSetUpLines g (s .ex) body) (prepareAndStart g (s .ex) body) refl)
 
   pub recorder-started : alone (startStatus (g .recorder)) ≡ served g (knownAs Start s) body .answer
   unfolding served

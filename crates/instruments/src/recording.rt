@@ -1,21 +1,26 @@
 // The recorder's commands.
 ghost use mathlib.Core.Path.{_≡_};
+ghost use mathlib.Core.Bool.{cond};
 ghost use mathlib.Core.List.{List, _++_};
 ghost use Prim.Native.Nat.{ℕ, _≤_};
+ghost use lib.Dec.{eqb};
 ghost use lib.ListN.{length};
+ghost use lib.Seq.{sets};
 ghost use Rattle.document.specs.Areas.{bufferBegin};
 ghost use Rattle.document.specs.Numbers.{answerRoom, done};
 ghost use Rattle.document.specs.Values.{littleEndian};
 ghost use Rattle.document.specs.Variables.{addressWidth};
 ghost use Rattle.document.specs.Commands.{served};
-ghost use Rattle.document.specs.declared.Operation.the-variants.{SetUpRecorder, Start, Stop, Status, QueryBuffer};
+ghost use Rattle.document.specs.declared.Operation.the-variants.{PrepareAndStart, Start, Stop, Status, QueryBuffer};
 ghost use Rattle.document.specs.declared.Service.{Service};
 ghost use Rattle.outcomes.specs.Known.{knownAs};
 ghost use Rattle.line.specs.Told.{Told};
-ghost use Rattle.state.specs.State.{gateOf};
+ghost use Rattle.recorder.specs.State.{recorderOf};
+ghost use Rattle.recorder.specs.Preparing.{prepareStatus, preparedState};
+ghost use Rattle.state.specs.State.{gateOf, withRecorder};
 ghost use Rattle.target.specs.After.{instrumentsAfter};
 ghost use Rattle.blocks.specs.Places.{bodyPlace, scopePlace, stateLength};
-ghost use Rattle.blocks.specs.Layout.{dataTo, decodedInstruments};
+ghost use Rattle.blocks.specs.Layout.{dataTo, decodedRecorder, decodedInstruments, encodedInstruments};
 ghost use Rattle.instruments.specs.Operates.{alone, Settles};
 use answers::alone;
 use answers::done_three_words;
@@ -26,19 +31,31 @@ use blocks::recorder_in;
 use codes::DONE;
 use document::Service;
 use memory::BUFFER_BEGIN;
-use storing::store_recorder;
+use storing::store_prepared;
 
 // The message's data stand in the block, up to a place. What is refused stores nothing.
-pub fn set_up_recorder(state: &mut [u8], service: Service, to: usize) -> u8
+fn prepare(state: &mut [u8], ex: bool, to: usize) -> u8
     requires { ⌜ (stateLength ≤ length (now state)) × (bodyPlace ≤ to) × (to ≤ scopePlace) ⌝ }
-    ensures { λ r. ⌜ ((memory : List ℕ) → Settles (served (gateOf (decodedInstruments (now (state .entry))) memory) (knownAs SetUpRecorder service) (dataTo (now (state .entry)) to)) (instrumentsAfter SetUpRecorder (decodedInstruments (now (state .entry))) service (dataTo (now (state .entry)) to)) (now (state .entry)) r (now (state .exit)) memory) ⌝ }
+    ensures { λ r. ⌜ (r ≡ prepareStatus (recorderOf (decodedRecorder (now (state .entry)))) ex (dataTo (now (state .entry)) to)) × (now (state .exit) ≡ cond (eqb r done) (sets (now (state .entry)) scopePlace (encodedInstruments (withRecorder (decodedInstruments (now (state .entry))) (preparedState ex (dataTo (now (state .entry)) to))))) (now (state .entry))) ⌝ }
 {
-    let status = recorder_in(state).set_up_status(service.ex, &state[BODY..to]);
+    let status = recorder_in(state).prepare_status(ex, &state[BODY..to]);
     if status != DONE {
         return status;
     }
-    store_recorder(state, service.ex, to);
+    store_prepared(state, ex, to);
     DONE
+}
+
+// The two in a row.
+pub fn prepare_and_start(state: &mut [u8], service: Service, to: usize) -> u8
+    requires { ⌜ (stateLength ≤ length (now state)) × (bodyPlace ≤ to) × (to ≤ scopePlace) ⌝ }
+    ensures { λ r. ⌜ ((memory : List ℕ) → Settles (served (gateOf (decodedInstruments (now (state .entry))) memory) (knownAs PrepareAndStart service) (dataTo (now (state .entry)) to)) (instrumentsAfter PrepareAndStart (decodedInstruments (now (state .entry))) service (dataTo (now (state .entry)) to)) (now (state .entry)) r (now (state .exit)) memory) ⌝ }
+{
+    let status = prepare(state, service.ex, to);
+    if status != DONE {
+        return status;
+    }
+    start(state)
 }
 
 // A start and a stop leave the plan as it is.

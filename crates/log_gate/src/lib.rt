@@ -4,6 +4,7 @@ mod application;
 mod ends;
 mod lengths;
 mod names;
+mod panel;
 mod target;
 
 pub use application::log_gate_collect;
@@ -17,6 +18,8 @@ pub use lengths::LOG_GATE_MEMORY;
 pub use lengths::LOG_GATE_READER;
 pub use lengths::LOG_GATE_STATE;
 pub use names::log_gate_register;
+pub use panel::log_gate_prepare;
+pub use panel::log_gate_start;
 pub use target::log_gate_block;
 pub use target::log_gate_byte;
 pub use target::log_gate_check;

@@ -22,7 +22,7 @@ use Rattle.document.specs.Commands.{doing}
 use Rattle.document.specs.Answer.{Answer}
 use Rattle.document.specs.AnswerWriter.{answerFormed}
 use Rattle.document.specs.declared.Operation.{Operation}
-use Rattle.document.specs.declared.Operation.the-variants.{Unserved, Describe, DescribeBriefly, Read, Write, WriteMasked, SetUpScope, ReadScope, SetUpRecorder, Start, Stop, Status, QueryBuffer, SendCommand, CommandResult, TellTable, MeasureString}
+use Rattle.document.specs.declared.Operation.the-variants.{Unserved, Describe, DescribeBriefly, Read, Write, WriteMasked, SetUpScope, ReadScope, PrepareAndStart, Start, Stop, Status, QueryBuffer, SendCommand, CommandResult, TellTable, MeasureString}
 use Rattle.document.specs.declared.Service.{Service}
 use Rattle.document.specs.declared.Variable.{Variable}
 use Rattle.document.proofs.Cases.{split}
@@ -145,7 +145,7 @@ carried SetUpScope g s body =
     }
 carried ReadScope g s body =
     record { gate = refl; known = (refl, refl, (refl, refl, tt)); accepted = λ none. tt; refused = λ some. tt; answer = right-scope g s body }
-carried SetUpRecorder g s body =
+carried PrepareAndStart g s body =
     record {
       gate = refl;
       known = (refl, refl, (refl, refl, (refl, refl, (refl, refl, tt))));

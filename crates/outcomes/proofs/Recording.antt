@@ -18,16 +18,16 @@ use Rattle.document.specs.Commands.{answered}
 use Rattle.document.specs.declared.Service.{Service}
 use Rattle.document.proofs.Cases.{split, neither, both}
 use Rattle.outcomes.specs.Changes.{Change, changeOf, changed, Accepted}
-use Rattle.outcomes.specs.Changes.Change.{nothing, store, maskedStore, scopeSetUp, recorderSetUp, recorderStart, recorderStop, commandSent}
+use Rattle.outcomes.specs.Changes.Change.{nothing, store, maskedStore, scopeSetUp, recorderPrepareAndStart, recorderStart, recorderStop, commandSent}
 use Rattle.outcomes.specs.Starts.{begins, halts, starts, stops, Begins}
 use Rattle.outcomes.proofs.Answered.{accepted-gate, accepted, refused-gate}
 
 -- "running answers 0x01": it goes on as it was
-started-same : (r : Recorder) → isRunning r ≡ true → recorderStarted r ≡ r
+pub started-same : (r : Recorder) → isRunning r ≡ true → recorderStarted r ≡ r
 started-same absent runs = neither runs
 started-same (planned p r) runs = rw runs refl
 
-begun : (r : Recorder) → recorderAbsent r ≡ false → isRunning r ≡ false → (p : Plan) × (recorderStarted r ≡ planned p started)
+pub begun : (r : Recorder) → recorderAbsent r ≡ false → isRunning r ≡ false → (p : Plan) × (recorderStarted r ≡ planned p started)
 begun absent there still = neither (sym there)
 begun (planned p r) there still = (p, rw still refl)
 
@@ -39,7 +39,7 @@ module _ (g : Gate) (s : Service) (body : List ℕ) where
   passes store no-start no-stop = refl
   passes maskedStore no-start no-stop = refl
   passes scopeSetUp no-start no-stop = refl
-  passes recorderSetUp no-start no-stop = neither (sym no-start)
+  passes recorderPrepareAndStart no-start no-stop = neither (sym no-start)
   passes recorderStart no-start no-stop = started-same (g .recorder) (not-false (isRunning (g .recorder)) no-start)
   passes recorderStop no-start no-stop = neither (sym no-stop)
   passes commandSent no-start no-stop = refl
@@ -49,7 +49,7 @@ module _ (g : Gate) (s : Service) (body : List ℕ) where
   stopping store stop = neither stop
   stopping maskedStore stop = neither stop
   stopping scopeSetUp stop = neither stop
-  stopping recorderSetUp stop = neither stop
+  stopping recorderPrepareAndStart stop = neither stop
   stopping recorderStart stop = neither stop
   stopping recorderStop stop = refl
   stopping commandSent stop = neither stop
@@ -60,7 +60,7 @@ module _ (g : Gate) (s : Service) (body : List ℕ) where
   beginning store there start = neither start
   beginning maskedStore there start = neither start
   beginning scopeSetUp there start = neither start
-  beginning recorderSetUp there start = (planIn (s .ex) body, refl)
+  beginning recorderPrepareAndStart there start = (planIn (s .ex) body, refl)
   beginning recorderStart there start = begun (g .recorder) there (not-true (isRunning (g .recorder)) start)
   beginning recorderStop there start = neither start
   beginning commandSent there start = neither start

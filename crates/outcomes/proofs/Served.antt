@@ -16,7 +16,7 @@ use Rattle.document.specs.AnswerWriter.{answerFormed}
 use Rattle.document.specs.declared.Service.{Service}
 use Rattle.document.proofs.Cases.{split, neither}
 use Rattle.outcomes.specs.Changes.{Change, changeOf, changed, Accepted, Refused, leavesMemory}
-use Rattle.outcomes.specs.Changes.Change.{nothing, store, maskedStore, scopeSetUp, recorderSetUp, recorderStart, recorderStop, commandSent}
+use Rattle.outcomes.specs.Changes.Change.{nothing, store, maskedStore, scopeSetUp, recorderPrepareAndStart, recorderStart, recorderStop, commandSent}
 use Rattle.outcomes.proofs.Firsts.{first-known}
 use Rattle.outcomes.proofs.Carried.{Carried, carried}
 
@@ -59,7 +59,7 @@ module _ (g : Gate) (s : Service) (body : List ℕ) where
   memory-kept store leaves = neither leaves
   memory-kept maskedStore leaves = neither leaves
   memory-kept scopeSetUp leaves = refl
-  memory-kept recorderSetUp leaves = refl
+  memory-kept recorderPrepareAndStart leaves = refl
   memory-kept recorderStart leaves = refl
   memory-kept recorderStop leaves = refl
   memory-kept commandSent leaves = refl
@@ -77,7 +77,7 @@ module _ (g : Gate) (s : Service) (body : List ℕ) where
     memory-changed store accepted = plain accepted
     memory-changed maskedStore accepted = masked accepted
     memory-changed scopeSetUp accepted = same
-    memory-changed recorderSetUp accepted = same
+    memory-changed recorderPrepareAndStart accepted = same
     memory-changed recorderStart accepted = same
     memory-changed recorderStop accepted = same
     memory-changed commandSent accepted = same

@@ -13,7 +13,7 @@ use Rattle.document.specs.Gate.{Gate, withMemory, withScope, withRecorder, with
 use Rattle.document.specs.Permission.{mayBeWritten}
 use Rattle.document.specs.Refusals.{firstOf, scopeSetUpLines, recorderSetUpLines, sendLines}
 use Rattle.document.specs.declared.Operation.{Operation}
-use Rattle.document.specs.declared.Operation.the-variants.{Unserved, Describe, DescribeBriefly, Read, Write, WriteMasked, SetUpScope, ReadScope, SetUpRecorder, Start, Stop, Status, QueryBuffer, SendCommand, CommandResult, TellTable, MeasureString}
+use Rattle.document.specs.declared.Operation.the-variants.{Unserved, Describe, DescribeBriefly, Read, Write, WriteMasked, SetUpScope, ReadScope, PrepareAndStart, Start, Stop, Status, QueryBuffer, SendCommand, CommandResult, TellTable, MeasureString}
 use Rattle.document.specs.declared.Service.{Service}
 
 pub data Change : Type 0 where
@@ -21,7 +21,7 @@ pub data Change : Type 0 where
   store : Change
   maskedStore : Change
   scopeSetUp : Change
-  recorderSetUp : Change
+  recorderPrepareAndStart : Change
   recorderStart : Change
   recorderStop : Change
   commandSent : Change
@@ -35,7 +35,7 @@ changeOf Write = store
 changeOf WriteMasked = maskedStore
 changeOf SetUpScope = scopeSetUp
 changeOf ReadScope = nothing
-changeOf SetUpRecorder = recorderSetUp
+changeOf PrepareAndStart = recorderPrepareAndStart
 changeOf Start = recorderStart
 changeOf Stop = recorderStop
 changeOf Status = nothing
@@ -52,7 +52,7 @@ changed store g s body = withMemory g (stored (g .memory) (addressField s body) 
 changed maskedStore g s body =
     withMemory g (maskStored (g .memory) (addressField s body) (dataField s body) (maskField s body))
 changed scopeSetUp g s body = withScope g (scope.scopeSetUp (s .ex) body)
-changed recorderSetUp g s body = withRecorder g (recorder.recorderSetUp (s .ex) body)
+changed recorderPrepareAndStart g s body = withRecorder g (recorder.recorderStarted (recorder.recorderPrepared (s .ex) body))
 changed recorderStart g s body = withRecorder g (recorder.recorderStarted (g .recorder))
 changed recorderStop g s body = withRecorder g (recorder.recorderHalted (g .recorder))
 changed commandSent g s body = withApplication g (waiting body)
@@ -63,7 +63,7 @@ Accepted nothing g s body = Unit {0}
 Accepted store g s body = mayBeWritten g (addressField s body) (sizeField s body) ≡ true
 Accepted maskedStore g s body = mayBeWritten g (addressField s body) (sizeField s body) ≡ true
 Accepted scopeSetUp g s body = firstOf (scopeSetUpLines (s .ex) body) ≡ done
-Accepted recorderSetUp g s body = firstOf (recorderSetUpLines g (s .ex) body) ≡ done
+Accepted recorderPrepareAndStart g s body = firstOf (recorderSetUpLines g (s .ex) body) ≡ done
 Accepted recorderStart g s body = recorder.recorderAbsent (g .recorder) ≡ false
 Accepted recorderStop g s body = recorder.recorderAbsent (g .recorder) ≡ false
 Accepted commandSent g s body = firstOf (sendLines g body) ≡ done
@@ -74,7 +74,7 @@ Refused nothing g s body = Unit {0}
 Refused store g s body = Unit {0}
 Refused maskedStore g s body = Unit {0}
 Refused scopeSetUp g s body = firstOf (scopeSetUpLines (s .ex) body) ≡ done → ⊥
-Refused recorderSetUp g s body = firstOf (recorderSetUpLines g (s .ex) body) ≡ done → ⊥
+Refused recorderPrepareAndStart g s body = firstOf (recorderSetUpLines g (s .ex) body) ≡ done → ⊥
 Refused recorderStart g s body = recorder.recorderAbsent (g .recorder) ≡ true
 Refused recorderStop g s body = recorder.recorderAbsent (g .recorder) ≡ true
 Refused commandSent g s body = firstOf (sendLines g body) ≡ done → ⊥
@@ -85,7 +85,7 @@ leavesMemory nothing = true
 leavesMemory store = false
 leavesMemory maskedStore = false
 leavesMemory scopeSetUp = true
-leavesMemory recorderSetUp = true
+leavesMemory recorderPrepareAndStart = true
 leavesMemory recorderStart = true
 leavesMemory recorderStop = true
 leavesMemory commandSent = true

@@ -13,15 +13,15 @@ use Rattle.document.specs.Gate.{Gate}
 use Rattle.document.specs.Refusals.{refusal}
 use Rattle.document.specs.Commands.{answered}
 use Rattle.outcomes.specs.Changes.{Change, changeOf}
-use Rattle.outcomes.specs.Changes.Change.{nothing, store, maskedStore, scopeSetUp, recorderSetUp, recorderStart, recorderStop, commandSent}
+use Rattle.outcomes.specs.Changes.Change.{nothing, store, maskedStore, scopeSetUp, recorderPrepareAndStart, recorderStart, recorderStop, commandSent}
 
--- a setup, which "also starts", or a start while the recorder is stopped
+-- a setup, which prepares and starts, or a start while the recorder is stopped
 abbrev pub begins : Change → Bool → Bool
 begins nothing runs = false
 begins store runs = false
 begins maskedStore runs = false
 begins scopeSetUp runs = false
-begins recorderSetUp runs = true
+begins recorderPrepareAndStart runs = true
 begins recorderStart runs = not runs
 begins recorderStop runs = false
 begins commandSent runs = false
@@ -31,7 +31,7 @@ halts nothing = false
 halts store = false
 halts maskedStore = false
 halts scopeSetUp = false
-halts recorderSetUp = false
+halts recorderPrepareAndStart = false
 halts recorderStart = false
 halts recorderStop = true
 halts commandSent = false

@@ -3,7 +3,6 @@
 -- the state: what it means, and its bounds
 pub mod State
 pub mod Bounds
--- the setup
-pub mod Setup
 -- the calls
 pub mod Calls
+pub mod Preparing

@@ -1,6 +1,6 @@
-// The recorder between its ticks: setup, start, stop, status and start index.
+// The recorder between its ticks: preparing, start, stop, status and start index.
 mod calls;
-mod setup;
+mod preparing;
 mod state;
 
 pub use calls::Answered;

@@ -8,7 +8,7 @@ use lib.Dec.{leb}
 use borrow.Author.Tests.{lt-ltb, le-leb, eqb-true}
 use Rattle.document.specs.Plan.{Plan}
 use Rattle.document.specs.Trigger.{triggerValue, fires, isBeyond}
-use Rattle.document.specs.Run.{Watch, Run, started, stopped, lookedAt, watched, goesOn, ranTick}
+use Rattle.document.specs.Run.{Watch, Run, started, stopped, prepared, lookedAt, watched, goesOn, ranTick}
 use Rattle.document.specs.Run.Watch.{unprimed, previous, triggered}
 use Rattle.history.specs.History.{CountsFit, setsLeft}
 use Rattle.history.proofs.Ticks.{by-case, stopped-run, waits-run, takes-run}
@@ -87,8 +87,12 @@ module _ (p : PlanState) (r : RunState) (s : runSound p r ≡ true) where
       ap (runSound p) (sym (halted-again p r s))
       ∙ run-sound p (stopped (runOf r)) (stopped-fits (planOf p) (runOf r) run-counts) run-value
 
+-- a run as a start or a preparing leaves it
 pub started-run-sound : (p : PlanState) → planSound p ≡ true → runSound p (runKept started) ≡ true
 started-run-sound p s = run-sound p started (started-fits (planOf p) (sound-fits p s)) tt
+
+pub prepared-run-sound : (p : PlanState) → planSound p ≡ true → runSound p (runKept prepared) ≡ true
+prepared-run-sound p s = run-sound p prepared (stopped-fits (planOf p) started (started-fits (planOf p) (sound-fits p s))) tt
 
 -- a value of the trigger's size leaves one
 value-looked : (p : Plan) (size : ℕ) (come : Bool) (x : ℕ) → x < 2 ^ (8 * size) → ValueFits size (lookedAt p come x)

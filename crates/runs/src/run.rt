@@ -1,6 +1,6 @@
 // What changes while a recorder runs: numbers alone, so that every bit pattern is a value and one outside the bounds can be refused.
 ghost use mathlib.Core.Path.{_≡_};
-ghost use Rattle.document.specs.Run.{started};
+ghost use Rattle.document.specs.Run.{started, prepared};
 ghost use Rattle.runs.specs.State.{runKept};
 
 // How far the trigger has come.
@@ -25,16 +25,24 @@ pub struct Run {
 }
 
 impl Run {
-    // A start sets every field, so that nothing of the run before is left.
-    pub fn restarted(mut self) -> Run
-        ensures { λ r. ⌜ r ≡ runKept started ⌝ }
+    // Every field is set, so that nothing of the run before is left.
+    pub fn prepared(mut self) -> Run
+        ensures { λ r. ⌜ r ≡ runKept prepared ⌝ }
     {
-        self.running = 1;
+        self.running = 0;
         self.full = 0;
         self.watch = UNPRIMED;
         self.wait = 0;
         self.place = 0;
         self.value = 0;
         self
+    }
+
+    pub fn restarted(self) -> Run
+        ensures { λ r. ⌜ r ≡ runKept started ⌝ }
+    {
+        let mut run = self.prepared();
+        run.running = 1;
+        run
     }
 }

@@ -22,9 +22,9 @@ use codes::NOT_SERVED;
 use document::Operation;
 use document::Service;
 use instruments::command_result;
+use instruments::prepare_and_start;
 use instruments::query_buffer;
 use instruments::send_command;
-use instruments::set_up_recorder;
 use instruments::start;
 use instruments::status;
 use instruments::stop;
@@ -56,7 +56,7 @@ pub fn serve(
         Operation::WriteMasked => write_masked(service, &state[BODY..to], memory),
         Operation::SetUpScope => set_up_scope(state, service, to),
         Operation::ReadScope => return read_scope(state, memory, out),
-        Operation::SetUpRecorder => set_up_recorder(state, service, to),
+        Operation::PrepareAndStart => prepare_and_start(state, service, to),
         Operation::Start => start(state),
         Operation::Stop => stop(state),
         Operation::Status => status(state),

@@ -31,7 +31,7 @@ use Rattle.runs.specs.State.{runOf}
 use Rattle.recorder.specs.State.{recorderOf, withRun, noRecorder}
 use Rattle.runs.specs.Bounds.{runSound}
 use Rattle.recorder.specs.Bounds.{sound}
-use Rattle.recorder.specs.Setup as recorder
+use Rattle.recorder.specs.Preparing.{preparedState}
 use Rattle.recorder.specs.Calls.{startStatus, stopStatus, startedState, haltedState}
 use Rattle.ticks.specs.Tick.{tickedState}
 use Rattle.runs.proofs.Granted.{run-bounds, previous-fits, left-fits-post}
@@ -146,12 +146,9 @@ scope-fit s ex body all fits =
     (kept-fit (variablesIn ex body) (definitions-fit ex (countIn body) (drop 1 body) (all-drop 1 body all))))
     (λ f. subst (λ (q : Scope). VariablesFit (q .variables)) (sym (next-refused ex body s (eqb-false _ _ f))) fits)
 
-pub set-up-fit : (r : RecorderState) (ex : Bool) (body : List ℕ) → AllBytes body → RecorderFits r → RecorderFits (recorder.setUpNext r ex body)
-unfolding recorder.setUpNext
-set-up-fit r ex body all fits =
-    split (eqb (recorder.setUpStatus (recorderOf r) ex body) done)
-    (λ t. rw t (record { plan = plan-fit ex body all; run = record { wait = omega arith; place = omega arith; value = omega arith } }))
-    (λ f. rw f fits)
+pub prepared-fit : (ex : Bool) (body : List ℕ) → AllBytes body → RecorderFits (preparedState ex body)
+prepared-fit ex body all =
+    record { plan = plan-fit ex body all; run = record { wait = omega arith; place = omega arith; value = omega arith } }
 
 pub started-fit : (r : RecorderState) → RecorderFits r → RecorderFits (startedState r)
 started-fit r fits =

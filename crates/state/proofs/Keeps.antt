@@ -4,10 +4,11 @@ use mathlib.Core.Bool.{Bool, true}
 use mathlib.Core.List.{List, []}
 use Prim.Native.Nat.{ℕ, _+_, _*_, _^_, _<_, _≤_}
 use native.Mathlib.Omega.{arith}
+use borrow.Author.Tests.{eqb-true}
 use lib.Dec.{eqb}
 use lib.ListN.{length, take, drop, length-append, length-drop}
-use Rattle.document.specs.Numbers.{mostData}
-use Rattle.document.specs.Areas.{memoryEnd, bytesAt}
+use Rattle.document.specs.Numbers.{mostData, done}
+use Rattle.document.specs.Areas.{bytesAt}
 use Rattle.document.specs.Bytes.{AllBytes}
 use Rattle.document.specs.Stores.{stored}
 use Rattle.document.specs.Variables.{addressWidth}
@@ -25,7 +26,8 @@ use Rattle.scope.proofs.Bounds.{new-sound as new-scope}
 use Rattle.scope.proofs.Accepted as scope-accepted
 use Rattle.plans.specs.State.{triggerOf}
 use Rattle.recorder.specs.declared.state.Recorder.{Recorder as RecorderState}
-use Rattle.recorder.specs.Setup as recorder
+use Rattle.recorder.specs.State.{recorderOf}
+use Rattle.recorder.specs.Preparing.{prepareStatus, preparedState, bothNext}
 use Rattle.recorder.specs.Calls.{startedState, haltedState}
 use Rattle.ticks.specs.Tick.{tickedState}
 use Rattle.recorder.proofs.Answers as recorder-answers
@@ -38,10 +40,10 @@ use Rattle.application.proofs.Means.{fresh-sound, sent-sound, collected-sound, 
 use Rattle.state.specs.State.{Target}
 use Rattle.state.specs.Bounds.{sound, freshWith}
 use Rattle.state.specs.Widths.{TargetFits}
-use Rattle.state.specs.Within.{ScopeWithin, RecorderWithin, CommandWithin, TablesWithin, MemoryWithin, LinkWithin, Within}
+use Rattle.state.specs.Within.{ScopeWithin, RecorderWithin, CommandWithin, TablesWithin, MemoryWithin, Within}
 use Rattle.state.proofs.Parts.{whole-of}
 use Rattle.state.proofs.ByteLaws.{take-short, all-sets, all-take, all-range, all-values, all-zeros, number-below, all-append, all-drop}
-use Rattle.state.proofs.Fits.{scope-fit, set-up-fit, started-fit, halted-fit, ticked-fit, kept-fit, no-recorder-fit}
+use Rattle.state.proofs.Fits.{scope-fit, prepared-fit, started-fit, halted-fit, ticked-fit, kept-fit, no-recorder-fit}
 
 -- ---- the numbers that bytes of the memory or a message hold
 
@@ -61,18 +63,18 @@ value-fits r m all =
     number-below (bytesAt m (r .plan .address) (r .plan .size)) (r .plan .size) (all-range m (r .plan .address) (r .plan .size) all)
     (take-short (r .plan .size) (drop (r .plan .address) m))
 
--- ---- setups, start and stop
+-- ---- setups, a preparing, start and stop
 
 module _ (ex : Bool) (body : List ℕ) (all : AllBytes body) where
   pub scope-set-up : (s : Scope) → ScopeWithin s → ScopeWithin (scope.setUpNext s ex body)
   scope-set-up s w =
       record { sound = scope-accepted.set-up-sound ex body s (w .sound); fits = scope-fit s ex body all (w .fits) }
 
-  pub recorder-set-up : (r : RecorderState) → RecorderWithin r → RecorderWithin (recorder.setUpNext r ex body)
-  recorder-set-up r w =
+  pub recorder-prepared : (r : RecorderState) → prepareStatus (recorderOf r) ex body ≡ done → RecorderWithin (preparedState ex body)
+  recorder-prepared r taken =
       record {
-        sound = recorder-answers.set-up-sound r ex body (w .sound) (threshold-fits ex body all);
-        fits = set-up-fit r ex body all (w .fits);
+        sound = recorder-answers.prepared-sound r ex body taken (threshold-fits ex body all);
+        fits = prepared-fit ex body all;
       }
 
 pub recorder-started : (r : RecorderState) → RecorderWithin r → RecorderWithin (startedState r)
@@ -80,6 +82,14 @@ recorder-started r w = record { sound = recorder-keeps.started-sound r (w .sound
 
 pub recorder-halted : (r : RecorderState) → RecorderWithin r → RecorderWithin (haltedState r)
 recorder-halted r w = record { sound = recorder-keeps.halted-sound r (w .sound); fits = halted-fit r (w .fits) }
+
+-- "the two in a row"
+pub recorder-both : (ex : Bool) (body : List ℕ) → AllBytes body → (r : RecorderState) → RecorderWithin r → RecorderWithin (bothNext r ex body)
+unfolding bothNext
+recorder-both ex body all r w =
+    split (eqb (prepareStatus (recorderOf r) ex body) done)
+    (λ none. rw none (recorder-started (preparedState ex body) (recorder-prepared ex body all r (eqb-true _ _ none))))
+    (λ some. rw some w)
 
 -- ---- a tick
 

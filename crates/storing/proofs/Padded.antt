@@ -6,7 +6,7 @@ use Prim.Native.Nat.{ℕ, zero, suc, _+_, _-_, _*_, _≤_}
 use native.Mathlib.Nat.{zero-add}
 use native.Mathlib.Omega.{arith}
 use lib.ListN.{length, set, drop, replicate, length-replicate, replicate-append-replicate}
-use lib.Seq.{sets, sets-eq, drop-at, drop-drop}
+use lib.Seq.{sets, sets-eq, drop-at}
 use Rattle.document.specs.declared.Variable.{Variable}
 use Rattle.document.specs.Values.{littleEndian}
 use Rattle.document.specs.Variables.{definitionsIn, countIn, variablesIn}
@@ -56,10 +56,10 @@ variables-stored l vs at n e h =
     ∙ (λ i. sets (set l at (sym e i)) (f i) (bytes ++ replicate ((8 - sym e i) * 5) 0))
     ∙ ap (sets (set l at (length vs)) (suc at)) (sym (padded vs (omega arith)))
 
--- the same of a part that begins at a place of the block
-pub part-stored : (ex : Bool) (l : List ℕ) (at from n : ℕ) → n ≡ countIn (drop from l) → n ≤ 8
-    → sets (set (sets l (at + 1) (encodedDefinitions (definitionsIn ex n (drop (from + 1) l)))) at n) (at + 1 + n * 5) (replicate ((8 - n) * 5) 0)
-    ≡ sets l at (encodedVariables (kept (variablesIn ex (drop from l))))
-part-stored ex l at from n counted few =
-    variables-stored l (definitionsIn ex n (drop (from + 1) l)) at n (definitions-length ex n (drop (from + 1) l)) few
-    ∙ (λ i. sets l at (encodedVariables (kept (definitionsIn ex (counted i) (sym (drop-drop 1 from l) i)))))
+-- the same of a part, which begins with its count
+pub part-stored : (ex : Bool) (l part : List ℕ) (at n : ℕ) → n ≡ countIn part → n ≤ 8
+    → sets (set (sets l (at + 1) (encodedDefinitions (definitionsIn ex n (drop 1 part)))) at n) (at + 1 + n * 5) (replicate ((8 - n) * 5) 0)
+    ≡ sets l at (encodedVariables (kept (variablesIn ex part)))
+part-stored ex l part at n counted few =
+    variables-stored l (definitionsIn ex n (drop 1 part)) at n (definitions-length ex n (drop 1 part)) few
+    ∙ ap (λ (k : ℕ). sets l at (encodedVariables (kept (definitionsIn ex k (drop 1 part))))) counted

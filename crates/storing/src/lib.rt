@@ -3,5 +3,8 @@ mod parts;
 mod recording;
 mod scoping;
 
-pub use recording::store_recorder;
+pub use parts::enclose;
+pub use recording::prepare_run;
+pub use recording::store_numbers;
+pub use recording::store_prepared;
 pub use scoping::store_scope;

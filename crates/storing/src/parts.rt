@@ -1,8 +1,8 @@
 // A part of a setup's data, a count and the definitions behind it, stored as the block has them: every address in four bytes, and zeros
 // behind the last of up to eight.
 ghost use mathlib.Core.Path.{_≡_};
-ghost use Prim.Native.Nat.{_+_, _*_, _≤_};
-ghost use lib.ListN.{length, drop};
+ghost use Prim.Native.Nat.{_+_, _-_, _*_, _≤_};
+ghost use lib.ListN.{length, set, drop, replicate};
 ghost use lib.Seq.{sets};
 ghost use Rattle.document.specs.Variables.{definitionWidth, definitionsIn, countIn, variablesIn, lengthGiven};
 ghost use Rattle.variables.specs.State.{kept};
@@ -34,6 +34,16 @@ fn store_definitions(block: &mut [u8], at: usize, from: usize, n: usize, ex: boo
     }
 }
 
+// The count in front of the definitions, and zeros behind them.
+pub fn enclose(block: &mut [u8], at: usize, count: u8)
+    requires { ⌜ (count ≤ 8) × (at + variablesLength ≤ length (now block)) ⌝ }
+    ensures { λ _. ⌜ now (block .exit) ≡ sets (set (now (block .entry)) at count) (at + 1 + count * 5) (replicate ((8 - count) * 5) 0) ⌝ }
+{
+    let n = usize_of_u8(count);
+    block[at] = count;
+    clear(block, at + 1 + n * 5, (MOST_VARIABLES - n) * 5);
+}
+
 pub(crate) fn store_variables(block: &mut [u8], at: usize, from: usize, ex: bool)
     requires { ⌜ (countIn (drop from (now block)) ≤ 8) × (from + lengthGiven ex (drop from (now block)) ≤ at) × (at + variablesLength ≤ length (now block)) ⌝ }
     ensures { λ _. ⌜ now (block .exit) ≡ sets (now (block .entry)) at (encodedVariables (kept (variablesIn ex (drop from (now (block .entry)))))) ⌝ }
@@ -41,6 +51,5 @@ pub(crate) fn store_variables(block: &mut [u8], at: usize, from: usize, ex: bool
     let count = block[from];
     let n = usize_of_u8(count);
     store_definitions(block, at + 1, from + 1, n, ex);
-    block[at] = count;
-    clear(block, at + 1 + n * 5, (MOST_VARIABLES - n) * 5);
+    enclose(block, at, count);
 }

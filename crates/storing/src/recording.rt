@@ -1,14 +1,16 @@
-// The recorder that an accepted setup leaves: its plan, and a run as a start leaves it.
+// A recorder prepared: the plan of an accepted setup, and a run that has taken no set.
 ghost use mathlib.Core.Path.{_≡_};
 ghost use Prim.Native.Nat.{_≤_};
-ghost use lib.ListN.{length};
+ghost use lib.ListN.{length, set};
 ghost use lib.Seq.{sets};
 ghost use Rattle.document.specs.Numbers.{done};
+ghost use Rattle.document.specs.Run.{prepared};
 ghost use Rattle.setups.specs.Setup.{bodyStatus};
-ghost use Rattle.recorder.specs.Setup.{setUpState};
+ghost use Rattle.runs.specs.State.{runKept};
+ghost use Rattle.recorder.specs.Preparing.{preparedState};
 ghost use Rattle.state.specs.State.{withRecorder};
-ghost use Rattle.blocks.specs.Layout.{dataTo, decodedInstruments, encodedInstruments};
-ghost use Rattle.blocks.specs.Places.{bodyPlace, scopePlace, stateLength};
+ghost use Rattle.blocks.specs.Layout.{dataTo, decodedInstruments, encodedInstruments, encodedNumbers, encodedRun};
+ghost use Rattle.blocks.specs.Places.{bodyPlace, scopePlace, recorderPlace, planPlace, runPlace, stateLength};
 use crate::parts::store_variables;
 use blocks::BODY;
 use blocks::READY;
@@ -17,19 +19,35 @@ use blocks::put_numbers;
 use blocks::put_run;
 use blocks::run_in;
 use definitions::address_width;
+use plans::Plan;
 use setups::read_plan;
 
+// The plan without its variables, from now on the one that is set up.
+pub fn store_numbers(block: &mut [u8], plan: Plan)
+    requires { ⌜ stateLength ≤ length (now block) ⌝ }
+    ensures { λ _. ⌜ now (block .exit) ≡ sets (set (now (block .entry)) recorderPlace 1) planPlace (encodedNumbers plan) ⌝ }
+{
+    block[READY] = 1;
+    put_numbers(block, plan);
+}
+
+pub fn prepare_run(block: &mut [u8])
+    requires { ⌜ stateLength ≤ length (now block) ⌝ }
+    ensures { λ _. ⌜ now (block .exit) ≡ sets (now (block .entry)) runPlace (encodedRun (runKept prepared)) ⌝ }
+{
+    let former = run_in(block);
+    let run = former.prepared();
+    put_run(block, run);
+}
+
 // The message's data stand in the block, up to a place.
-pub fn store_recorder(block: &mut [u8], ex: bool, to: usize)
+pub fn store_prepared(block: &mut [u8], ex: bool, to: usize)
     requires { ⌜ (stateLength ≤ length (now block)) × (bodyPlace ≤ to) × (to ≤ scopePlace) × (bodyStatus ex (dataTo (now block) to) ≡ done) ⌝ }
-    ensures { λ _. ⌜ now (block .exit) ≡ sets (now (block .entry)) scopePlace (encodedInstruments (withRecorder (decodedInstruments (now (block .entry))) (setUpState ex (dataTo (now (block .entry)) to)))) ⌝ }
+    ensures { λ _. ⌜ now (block .exit) ≡ sets (now (block .entry)) scopePlace (encodedInstruments (withRecorder (decodedInstruments (now (block .entry))) (preparedState ex (dataTo (now (block .entry)) to)))) ⌝ }
 {
     let plan = read_plan(ex, &block[BODY..to]);
     let from = BODY + 13 + address_width(ex);
-    block[READY] = 1;
-    put_numbers(block, plan);
+    store_numbers(block, plan);
     store_variables(block, RECORDED, from, ex);
-    let former = run_in(block);
-    let run = former.restarted();
-    put_run(block, run);
+    prepare_run(block);
 }

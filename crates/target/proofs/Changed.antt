@@ -15,12 +15,12 @@ use Rattle.document.specs.declared.Service.{Service}
 use Rattle.scope.specs.Setup as scope
 use Rattle.scope.specs.State.{scopeOf}
 use Rattle.scope.proofs.Accepted.{set-up-scope, next-refused}
-use Rattle.recorder.specs.Setup as recorder
+use Rattle.recorder.specs.Preparing.{prepareStatus, bothNext}
 use Rattle.recorder.specs.State.{recorderOf}
-use Rattle.recorder.proofs.Answers.{set-up-means}
+use Rattle.recorder.proofs.Answers.{both-mean}
 use Rattle.recorder.proofs.Meanings.{started-means, halted-means}
 use Rattle.outcomes.specs.Changes.{Change, changeOf, changed, Accepted, Refused}
-use Rattle.outcomes.specs.Changes.Change.{nothing, store, maskedStore, scopeSetUp, recorderSetUp, recorderStart, recorderStop, commandSent}
+use Rattle.outcomes.specs.Changes.Change.{nothing, store, maskedStore, scopeSetUp, recorderPrepareAndStart, recorderStart, recorderStop, commandSent}
 use Rattle.outcomes.proofs.Served.{served-either, served-memory}
 use Rattle.tables.specs.State.{tablesOf}
 use Rattle.application.specs.State.{applicationOf}
@@ -29,32 +29,32 @@ use Rattle.state.specs.State.{Instruments, gateOf, withScope, withApplication}
 use Rattle.target.specs.After.{instrumentsChanged, instrumentsAfter}
 use Rattle.state.specs.Within.{ScopeWithin, RecorderWithin, CommandWithin, MemoryWithin}
 use Rattle.state.proofs.ByteLaws.{all-range, all-masked}
-use Rattle.state.proofs.Keeps.{scope-set-up, recorder-set-up, recorder-started, recorder-halted, memory-stored, command-sent}
+use Rattle.state.proofs.Keeps.{scope-set-up, recorder-both, recorder-started, recorder-halted, memory-stored, command-sent}
 
 module _ (i : Instruments) (memory : List ℕ) (s : Service) (body : List ℕ) where
   abbrev g : Gate
   g = gateOf i memory
 
   refused-kept : (c : Change) → Refused c g s body → instrumentsChanged c i s body ≡ i
-  unfolding scope.setUpStatus recorder.setUpStatus recorder.setUpNext
+  unfolding scope.setUpStatus prepareStatus bothNext
   refused-kept nothing r = refl
   refused-kept store r = refl
   refused-kept maskedStore r = refl
   refused-kept scopeSetUp r = λ j. withScope i (next-refused (s .ex) body (i .scope) r j)
-  refused-kept recorderSetUp r = rw (ne-eqb (recorder.setUpStatus (recorderOf (i .recorder)) (s .ex) body) done r) refl
+  refused-kept recorderPrepareAndStart r = rw (ne-eqb (prepareStatus (recorderOf (i .recorder)) (s .ex) body) done r) refl
   refused-kept recorderStart r = rw r refl
   refused-kept recorderStop r = rw r refl
   refused-kept commandSent r = λ j. withApplication i (send-refused body (i .application) g refl r j)
 
   accepted-kept : (c : Change) → Accepted c g s body → gateOf (instrumentsChanged c i s body) (changed c g s body .memory) ≡ changed c g s body
-  unfolding scope.setUpStatus recorder.setUpStatus
+  unfolding scope.setUpStatus prepareStatus
   accepted-kept nothing a = refl
   accepted-kept store a = refl
   accepted-kept maskedStore a = refl
   accepted-kept scopeSetUp a =
       λ j. record { memory = memory; scope = set-up-scope (s .ex) body (i .scope) a j; recorder = recorderOf (i .recorder); application = applicationOf (i .application); tables = tablesOf (i .tables) }
-  accepted-kept recorderSetUp a =
-      λ j. record { memory = memory; scope = scopeOf (i .scope); recorder = set-up-means (i .recorder) (s .ex) body a j; application = applicationOf (i .application); tables = tablesOf (i .tables) }
+  accepted-kept recorderPrepareAndStart a =
+      λ j. record { memory = memory; scope = scopeOf (i .scope); recorder = both-mean (i .recorder) (s .ex) body a j; application = applicationOf (i .application); tables = tablesOf (i .tables) }
   accepted-kept recorderStart a =
       λ j. record { memory = memory; scope = scopeOf (i .scope); recorder = started-means (i .recorder) j; application = applicationOf (i .application); tables = tablesOf (i .tables) }
   accepted-kept recorderStop a =
@@ -76,7 +76,7 @@ module _ (i : Instruments) (s : Service) (body : List ℕ) (all : AllBytes body)
   scope-changed store w = w
   scope-changed maskedStore w = w
   scope-changed scopeSetUp w = scope-set-up (s .ex) body all (i .scope) w
-  scope-changed recorderSetUp w = w
+  scope-changed recorderPrepareAndStart w = w
   scope-changed recorderStart w = w
   scope-changed recorderStop w = w
   scope-changed commandSent w = w
@@ -86,7 +86,7 @@ module _ (i : Instruments) (s : Service) (body : List ℕ) (all : AllBytes body)
   recorder-changed store w = w
   recorder-changed maskedStore w = w
   recorder-changed scopeSetUp w = w
-  recorder-changed recorderSetUp w = recorder-set-up (s .ex) body all (i .recorder) w
+  recorder-changed recorderPrepareAndStart w = recorder-both (s .ex) body all (i .recorder) w
   recorder-changed recorderStart w = recorder-started (i .recorder) w
   recorder-changed recorderStop w = recorder-halted (i .recorder) w
   recorder-changed commandSent w = w
@@ -96,7 +96,7 @@ module _ (i : Instruments) (s : Service) (body : List ℕ) (all : AllBytes body)
   application-changed store few w = w
   application-changed maskedStore few w = w
   application-changed scopeSetUp few w = w
-  application-changed recorderSetUp few w = w
+  application-changed recorderPrepareAndStart few w = w
   application-changed recorderStart few w = w
   application-changed recorderStop few w = w
   application-changed commandSent few w =
@@ -108,7 +108,7 @@ tables-changed i s body nothing = refl
 tables-changed i s body store = refl
 tables-changed i s body maskedStore = refl
 tables-changed i s body scopeSetUp = refl
-tables-changed i s body recorderSetUp = refl
+tables-changed i s body recorderPrepareAndStart = refl
 tables-changed i s body recorderStart = refl
 tables-changed i s body recorderStop = refl
 tables-changed i s body commandSent = refl

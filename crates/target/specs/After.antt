@@ -4,10 +4,10 @@ use Prim.Native.Nat.{ℕ}
 use Rattle.document.specs.declared.Operation.{Operation}
 use Rattle.document.specs.declared.Service.{Service}
 use Rattle.scope.specs.Setup as scope
-use Rattle.recorder.specs.Setup as recorder
+use Rattle.recorder.specs.Preparing.{bothNext}
 use Rattle.recorder.specs.Calls.{startedState, haltedState}
 use Rattle.outcomes.specs.Changes.{Change, changeOf}
-use Rattle.outcomes.specs.Changes.Change.{nothing, store, maskedStore, scopeSetUp, recorderSetUp, recorderStart, recorderStop, commandSent}
+use Rattle.outcomes.specs.Changes.Change.{nothing, store, maskedStore, scopeSetUp, recorderPrepareAndStart, recorderStart, recorderStop, commandSent}
 use Rattle.application.specs.State.{sendNext}
 use Rattle.state.specs.State.{Instruments, withScope, withRecorder, withApplication}
 
@@ -17,7 +17,7 @@ instrumentsChanged nothing i s body = i
 instrumentsChanged store i s body = i
 instrumentsChanged maskedStore i s body = i
 instrumentsChanged scopeSetUp i s body = withScope i (scope.setUpNext (i .scope) (s .ex) body)
-instrumentsChanged recorderSetUp i s body = withRecorder i (recorder.setUpNext (i .recorder) (s .ex) body)
+instrumentsChanged recorderPrepareAndStart i s body = withRecorder i (bothNext (i .recorder) (s .ex) body)
 instrumentsChanged recorderStart i s body = withRecorder i (startedState (i .recorder))
 instrumentsChanged recorderStop i s body = withRecorder i (haltedState (i .recorder))
 instrumentsChanged commandSent i s body = withApplication i (sendNext body (i .application))

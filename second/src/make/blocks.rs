@@ -94,6 +94,7 @@ impl Maker {
             2 => self.some_poke(),
             3 => self.move_trigger(),
             4 => self.application_call(),
+            6 => self.panel_call(),
             5 => {
                 let room = self.block_room();
                 self.block_line(room, &[]);

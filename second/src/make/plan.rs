@@ -167,15 +167,25 @@ impl Maker {
         }
     }
 
-    /// A setup that is accepted but for one thing, at times two.
+    /// A setup with something wrong, mostly while no recorder runs.
     pub fn setup_wrong(&mut self) {
         if !self.rng.once_in(4) {
             self.send(0xC2, &[]);
         }
         let mut plan = self.plan();
-        self.spoil(&mut plan);
+        let data = self.spoiled(&mut plan);
+        self.send(plan.command(), &data);
+        if self.rng.once_in(2) {
+            // What was set up before still stands.
+            self.recorder_command();
+        }
+    }
+
+    /// The data part of a plan that is spoiled in one thing, at times in two.
+    pub fn spoiled(&mut self, plan: &mut Plan) -> Vec<u8> {
+        self.spoil(plan);
         if self.rng.once_in(5) {
-            self.spoil(&mut plan);
+            self.spoil(plan);
         }
         let mut data = plan.data();
         match self.rng.below(12) {
@@ -185,11 +195,7 @@ impl Maker {
             3 if !plan.wide => data[15] = *self.rng.pick(&[0, 1, 8, 9, 255]),
             _ => {}
         }
-        self.send(plan.command(), &data);
-        if self.rng.once_in(2) {
-            // What was set up before still stands.
-            self.recorder_command();
-        }
+        data
     }
 
     fn spoil(&mut self, plan: &mut Plan) {

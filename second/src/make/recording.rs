@@ -10,20 +10,18 @@ const MOST_TICKS: u64 = 70_000;
 impl Maker {
     /// Any of the recorder's short commands, in whatever state it is.
     pub fn recorder_command(&mut self) {
-        let commands = [0xC1, 0xC2, 0xC3, 0xC3, 0xC3, 0xC4, 0xC9];
-        let command = *self.rng.pick(&commands);
+        let command = self.of_recorder();
         self.send(command, &[]);
+    }
+
+    pub fn of_recorder(&mut self) -> u8 {
+        *self.rng.pick(&[0xC1, 0xC2, 0xC3, 0xC3, 0xC3, 0xC4, 0xC9])
     }
 
     /// A recording from its setup to its reading, at times started again.
     pub fn recording(&mut self) {
         let plan = self.set_up();
-        self.rounds(&plan);
-        if !self.rng.once_in(4) {
-            self.cross(&plan);
-        }
-        self.run_out(&plan);
-        self.read_back(&plan);
+        self.record(&plan);
         if self.rng.once_in(3) {
             self.send(0xC1, &[]);
             self.rounds(&plan);
@@ -31,24 +29,39 @@ impl Maker {
         }
     }
 
-    /// A setup, mostly behind a stop, since it is refused while one runs.
+    /// What comes behind a start: changing values, mostly a trigger, the stop.
+    pub fn record(&mut self, plan: &Plan) {
+        self.rounds(plan);
+        if !self.rng.once_in(4) {
+            self.cross(plan);
+        }
+        self.run_out(plan);
+        self.read_back(plan);
+    }
+
+    /// A setup, mostly behind a stop.
     fn set_up(&mut self) -> Plan {
         let plan = self.plan();
         self.send_setup(&plan);
         plan
     }
 
-    pub fn send_setup(&mut self, plan: &Plan) {
+    /// A setup is refused while the recorder runs.
+    pub fn stop_mostly(&mut self) {
         if !self.rng.once_in(6) {
             self.send(0xC2, &[]);
         }
+    }
+
+    pub fn send_setup(&mut self, plan: &Plan) {
+        self.stop_mostly();
         self.plan = Some(plan.clone());
         self.move_trigger();
         self.send(plan.command(), &plan.data());
     }
 
     /// Some rounds of changed values and ticks.
-    fn rounds(&mut self, plan: &Plan) {
+    pub fn rounds(&mut self, plan: &Plan) {
         for _ in 0..1 + self.rng.below(6) {
             match self.rng.below(6) {
                 0 => self.write_trigger(plan),
@@ -63,7 +76,7 @@ impl Maker {
     }
 
     /// Ticks around whole steps of the divider.
-    fn some_steps(&mut self, plan: &Plan) {
+    pub fn some_steps(&mut self, plan: &Plan) {
         let step = plan.step();
         let few = 1 + self.rng.below(12);
         let counts = [1, 1, step, step, step + 1, step - 1, 2 * step, few];
@@ -158,7 +171,7 @@ impl Maker {
     }
 
     /// The buffer query, mostly behind a stop, and reads of the buffer.
-    fn read_back(&mut self, plan: &Plan) {
+    pub fn read_back(&mut self, plan: &Plan) {
         if !self.rng.once_in(5) {
             self.send(0xC2, &[]);
         }

@@ -8,7 +8,7 @@ use lib.ListN.{length}
 use lib.Seq.{length-sets}
 use Rattle.document.specs.Numbers.{notServed}
 use Rattle.document.specs.declared.Operation.{Operation}
-use Rattle.document.specs.declared.Operation.the-variants.{Unserved, Describe, DescribeBriefly, Read, Write, WriteMasked, SetUpScope, ReadScope, SetUpRecorder, Start, Stop, Status, QueryBuffer, SendCommand, CommandResult, TellTable, MeasureString}
+use Rattle.document.specs.declared.Operation.the-variants.{Unserved, Describe, DescribeBriefly, Read, Write, WriteMasked, SetUpScope, ReadScope, PrepareAndStart, Start, Stop, Status, QueryBuffer, SendCommand, CommandResult, TellTable, MeasureString}
 use Rattle.document.specs.Commands.{served}
 use Rattle.outcomes.specs.Changes.{changeOf}
 use Rattle.fields.specs.Blocks.{OwnFits}
@@ -183,8 +183,8 @@ returns-4 c =
 enum-told-9 : tie.Need-enum-told-9
 enum-told-9 c = search needs
 
-set-up-recorder-requires : tie.Need-set-up-recorder-requires
-set-up-recorder-requires c κs = search needs
+prepare-and-start-requires : tie.Need-prepare-and-start-requires
+prepare-and-start-requires c κs = search needs
 
 enum-told-10 : tie.Need-enum-told-10
 enum-told-10 c = search needs
@@ -309,7 +309,7 @@ module _ (m : tie.At-match-came) where
       (⊎-elim (λ w. met q (w .10) (w .8) (w .9) (wrote q Write (w .1 .given .1) refl (w .5 .result) _ (w .5 .ensures _ refl)))
       (⊎-elim (λ w. met q (w .10) (w .8) (w .9) (wrote q WriteMasked (w .1 .given .1) refl (w .5 .result) _ (w .5 .ensures _ refl)))
       (⊎-elim (λ w. met q (w .8) (w .6) (w .7) (settles q SetUpScope (w .1 .given .1) (w .3 .result) _ _ (w .3 .ensures _)))
-      (⊎-elim (λ w. met q (w .8) (w .6) (w .7) (settles q SetUpRecorder (w .1 .given .1) (w .3 .result) _ _ (w .3 .ensures _)))
+      (⊎-elim (λ w. met q (w .8) (w .6) (w .7) (settles q PrepareAndStart (w .1 .given .1) (w .3 .result) _ _ (w .3 .ensures _)))
       (⊎-elim (λ w. met q (w .8) (w .6) (w .7) (settles q Start (w .1 .given .1) (w .3 .result) _ _ (w .3 .ensures _ (q .service) _)))
       (⊎-elim (λ w. met q (w .8) (w .6) (w .7) (settles q Stop (w .1 .given .1) (w .3 .result) _ _ (w .3 .ensures _ (q .service) _)))
       (⊎-elim (λ w. met q (w .6) (w .4) (w .5) (says q Status (w .1 .given .1) refl (w .3 .result) (w .3 .ensures _ (q .service) _))) (λ w. met q (w .8) (w .6) (w .7) (settles q SendCommand (w .1 .given .1) (w .3 .result) _ _ (w .3 .ensures _ (q .service)))))))))))
@@ -392,7 +392,7 @@ serve-spec =
     same-length-8
     returns-4
     enum-told-9
-    set-up-recorder-requires
+    prepare-and-start-requires
     enum-told-10
     start-requires
     enum-told-11

@@ -4,10 +4,11 @@ use mathlib.Core.List.{List}
 use Prim.Native.Nat.{ℕ, _+_, _-_, _*_, _≤_}
 use native.Mathlib.Nat.{add-zero}
 use native.Mathlib.Omega.{arith}
-use lib.ListN.{getD, set, drop, replicate, length-set}
-use lib.Seq.{sets, getD-drop}
+use lib.ListN.{getD, set, drop, replicate}
+use lib.Seq.{sets, getD-drop, drop-drop}
 use borrow.Author.Needs.{needs}
-use Rattle.document.specs.Variables.{definitionWidth, countIn}
+use Rattle.document.specs.Variables.{definitionWidth, definitionsIn, countIn}
+use Rattle.blocks.specs.Layout.{encodedDefinitions}
 use Rattle.storing.proofs.Padded.{part-stored}
 use Rattle.storing.proofs.parts.store_variables.Statement.{statement}
 use Rattle.storing.proofs.parts.store_variables.Tie as tie
@@ -20,15 +21,16 @@ module _ (u : tie.After-usize-of-u8) where
   abbrev block : List ℕ
   block = begun .args .block .now
 
-  counted : u .usize-of-u8 .result ≡ countIn (drop (begun .args .from) block)
-  counted =
-      u .usize-of-u8 .ensures .0
-      ∙ sym (getD-drop (begun .args .from) block 0 0 ∙ ap (λ (k : ℕ). getD block k 0) (add-zero (begun .args .from)))
+  abbrev count : ℕ
+  count = getD block (begun .args .from) 0
 
-  few : u .usize-of-u8 .result ≤ 8
+  counted : count ≡ countIn (drop (begun .args .from) block)
+  counted = sym (getD-drop (begun .args .from) block 0 0 ∙ ap (λ (k : ℕ). getD block k 0) (add-zero (begun .args .from)))
+
+  few : count ≤ 8
   few = omega (arith, counted, begun .pre .0)
 
-  fits : begun .args .from + 1 + u .usize-of-u8 .result * definitionWidth (begun .args .ex) ≤ begun .args .at + 1
+  fits : begun .args .from + 1 + count * definitionWidth (begun .args .ex) ≤ begun .args .at + 1
   fits = omega (arith, ap (λ (k : ℕ). k * definitionWidth (begun .args .ex)) counted, begun .pre .1)
 
 slice-read-count : tie.Need-slice-read-count
@@ -44,48 +46,32 @@ add-store-definitions-2 : tie.Need-add-store-definitions-2
 add-store-definitions-2 c = search needs
 
 store-definitions-requires : tie.Need-store-definitions-requires
-store-definitions-requires c κs = let u = c .before in (fits u, omega (arith, few u, begun u .pre .2))
+store-definitions-requires c κs =
+    let u = c .before in
+    let n = u .usize-of-u8 .ensures .0 in
+    (omega (arith, ap (λ (k : ℕ). k * definitionWidth (begun u .args .ex)) n, fits u), omega (arith, n, few u, begun u .pre .2))
 
-slice-write-block : tie.Need-slice-write-block
-slice-write-block c = search needs
-
-add-clear : tie.Need-add-clear
-add-clear c = search needs
-
-mul-clear : tie.Need-mul-clear
-mul-clear c = search needs
-
-add-clear-2 : tie.Need-add-clear-2
-add-clear-2 c = search needs
-
-sub-clear : tie.Need-sub-clear
-sub-clear c = few (c .before .before .before .before .before)
-
-mul-clear-2 : tie.Need-mul-clear-2
-mul-clear-2 c = search needs
-
-clear-requires : tie.Need-clear-requires
-clear-requires c κs =
+enclose-requires : tie.Need-enclose-requires
+enclose-requires c κs =
     let stored = c .before .before .before in
     let u = stored .before .before in
-    simp length-set (omega (arith, stored .store-definitions .kept .0, few u, begun u .pre .2))
+    (few u, omega (arith, stored .store-definitions .kept .0, begun u .pre .2))
 
 same-length : tie.Need-same-length
-same-length c =
-    let cleared = c .before .before in
-    let stored = cleared .before .before .before .before in
-    cleared .clear .kept .0 ∙ simp length-set (stored .store-definitions .kept .0)
+same-length c = search needs
 
 returns : tie.Need-returns
 returns c =
-    let cleared = c .before .before in
-    let stored = cleared .before .before .before .before in
+    let enclosed = c .before .before in
+    let stored = enclosed .before .before .before .before in
     let u = stored .before .before in
     let a = begun u .args in
-    let n = u .usize-of-u8 .result in
-    cleared .clear .ensures
-    ∙ (λ i. sets (set (stored .store-definitions .ensures i) (a .at) (sym (u .usize-of-u8 .ensures .0) i)) (a .at + 1 + n * 5) (replicate ((8 - n) * 5) 0))
-    ∙ part-stored (a .ex) (block u) (a .at) (a .from) n (counted u) (few u)
+    let source = block u in
+    let n : ℕ = count u in
+    enclosed .enclose .ensures
+    ∙ (λ i. sets (set (stored .store-definitions .ensures i) (a .at) n) (a .at + 1 + n * 5) (replicate ((8 - n) * 5) 0))
+    ∙ (λ i. sets (set (sets source (a .at + 1) (encodedDefinitions (definitionsIn (a .ex) (u .usize-of-u8 .ensures .0 i) (sym (drop-drop 1 (a .from) source) i)))) (a .at) n) (a .at + 1 + n * 5) (replicate ((8 - n) * 5) 0))
+    ∙ part-stored (a .ex) source (drop (a .from) source) (a .at) n (counted u) (few u)
 
 pub store-variables-spec : {M : Type 1} → statement M
 store-variables-spec =
@@ -96,12 +82,6 @@ store-variables-spec =
     add-store-definitions
     add-store-definitions-2
     store-definitions-requires
-    slice-write-block
-    add-clear
-    mul-clear
-    add-clear-2
-    sub-clear
-    mul-clear-2
-    clear-requires
+    enclose-requires
     same-length
     returns)

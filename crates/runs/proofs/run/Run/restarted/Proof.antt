@@ -1,10 +1,17 @@
--- A start is a run as it is kept, number by number.
-use mathlib.Core.Path.{refl}
+-- All but the flag is as a preparing leaves it.
+use mathlib.Core.Path.{ap}
+use borrow.Author.Needs.{needs}
+use Rattle.runs.specs.declared.run.Run.{Run}
 use Rattle.runs.proofs.run.Run.restarted.Statement.{statement}
 use Rattle.runs.proofs.run.Run.restarted.Tie as tie
 
+prepared-requires : tie.Need-prepared-requires
+prepared-requires c κs = search needs
+
 returns : tie.Need-returns
-returns c = refl
+returns c =
+    ap (λ (r : Run). record { running = 1; full = r .full; watch = r .watch; wait = r .wait; place = r .place; value = r .value })
+    (c .prepared .ensures)
 
 pub restarted-spec : {M : Type 1} → statement M
-restarted-spec = tie.close (tie.spec returns)
+restarted-spec = tie.close (tie.spec prepared-requires returns)

@@ -2,8 +2,8 @@
 use mathlib.Core.Path.{sym, _∙_}
 use borrow.Author.Needs.{needs}
 use Rattle.recorder.proofs.Answers.{while-running, while-stopped}
-use Rattle.recorder.proofs.state.Recorder.set_up_status.Statement.{statement}
-use Rattle.recorder.proofs.state.Recorder.set_up_status.Tie as tie
+use Rattle.recorder.proofs.state.Recorder.prepare_status.Statement.{statement}
+use Rattle.recorder.proofs.state.Recorder.prepare_status.Tie as tie
 
 is-running-requires : tie.Need-is-running-requires
 is-running-requires c κs = search needs
@@ -23,6 +23,6 @@ returns-2 c =
     c .setup-status .ensures
     ∙ sym (while-stopped (a .self) (a .ex) (a .body .now) (sym (e .before .is-running .ensures) ∙ e .if1 .left))
 
-pub set-up-status-spec : {M : Type 1} → statement M
-set-up-status-spec =
+pub prepare-status-spec : {M : Type 1} → statement M
+prepare-status-spec =
     tie.close (tie.spec is-running-requires returns setup-status-requires returns-2)

@@ -1,31 +1,28 @@
--- Ready, numbers, variables and run, one behind the other: stores that meet are one store, and what stands around them is there already.
+-- Ready, numbers, variables and run, one behind the other. What is stored in front of the variables leaves the data as they were.
 use mathlib.Core.Path.{_≡_, ap, _∙_}
 use mathlib.Core.Bool.{Bool}
 use mathlib.Core.List.{List}
 use Prim.Native.Nat.{ℕ, _+_, _-_, _≤_}
 use native.Mathlib.Omega.{arith}
-use lib.ListN.{length, set, take, drop, length-set}
-use lib.Seq.{sets, length-sets, take-set-le}
+use lib.ListN.{length, set, take, drop}
+use lib.Seq.{sets, take-set-le}
 use borrow.Author.Needs.{needs}
 use Rattle.document.specs.declared.Variable.{Variable}
 use Rattle.document.specs.Plan.{headWidth, variablesPart, recordedIn}
 use Rattle.document.specs.Variables.{countIn, lengthGiven}
-use Rattle.variables.specs.State.{noVariables, kept}
+use Rattle.variables.specs.State.{kept}
 use Rattle.variables.proofs.Wrong.{count-right}
 use Rattle.plans.specs.declared.plan.Plan.{Plan}
-use Rattle.runs.specs.declared.run.Run.{Run}
 use Rattle.setups.proofs.SetUps.{Accepted, accepted}
-use Rattle.recorder.specs.Setup.{setUpState}
+use Rattle.recorder.specs.Preparing.{preparedState}
 use Rattle.history.proofs.Bytes.{take-sets}
 use Rattle.blocks.specs.Layout.{dataTo, encodedNumbers, encodedVariables, encodedRun}
-use Rattle.blocks.specs.Places.{bodyPlace, scopePlace, recorderPlace, planPlace, recordedPlace, runPlace, stateLength}
-use Rattle.blocks.proofs.Parts.{recorder-length}
-use Rattle.blocks.proofs.Stored.{recorder-stored}
+use Rattle.blocks.specs.Places.{bodyPlace, scopePlace, recorderPlace, planPlace, recordedPlace, runPlace}
 use Rattle.storing.proofs.Fronts.{count-same, length-same, variables-same}
 use Rattle.storing.proofs.Places.{data-short, part-front}
-use Rattle.storing.proofs.Joined.{recorder-put}
-use Rattle.storing.proofs.recording.store_recorder.Statement.{statement}
-use Rattle.storing.proofs.recording.store_recorder.Tie as tie
+use Rattle.storing.proofs.Joined.{prepared-put}
+use Rattle.storing.proofs.recording.store_prepared.Statement.{statement}
+use Rattle.storing.proofs.recording.store_prepared.Tie as tie
 
 module _ (s : tie.Start) where
   abbrev block : List ℕ
@@ -65,14 +62,11 @@ address-width-requires c κs = search needs
 add-from-2 : tie.Need-add-from-2
 add-from-2 c = search needs
 
-slice-write-block : tie.Need-slice-write-block
-slice-write-block c = search needs
-
-put-numbers-requires : tie.Need-put-numbers-requires
-put-numbers-requires c κs = search needs
+store-numbers-requires : tie.Need-store-numbers-requires
+store-numbers-requires c κs = search needs
 
 -- what is stored in front of the variables leaves the data as they were
-module _ (n : tie.After-put-numbers) where
+module _ (n : tie.After-store-numbers) where
   abbrev width : tie.After-address-width
   width = n .before .before
 
@@ -91,20 +85,20 @@ module _ (n : tie.After-put-numbers) where
   place : from ≡ bodyPlace + headWidth ex
   place = omega (arith, width .address-width .ensures .0)
 
-  numbered : n .put-numbers .last .0 ≡ sets (set (block begun) recorderPlace 1) planPlace (encodedNumbers (read .read-plan .result))
-  numbered = n .put-numbers .ensures
+  numbered : n .store-numbers .last .0 ≡ sets (set (block begun) recorderPlace 1) planPlace (encodedNumbers (read .read-plan .result))
+  numbered = n .store-numbers .ensures
 
-  lasting : length (n .put-numbers .last .0) ≡ length (block begun)
-  lasting = n .put-numbers .kept .0 ∙ length-set (block begun) recorderPlace 1
+  lasting : length (n .store-numbers .last .0) ≡ length (block begun)
+  lasting = n .store-numbers .kept .0
 
-  front : take scopePlace (n .put-numbers .last .0) ≡ take scopePlace (block begun)
+  front : take scopePlace (n .store-numbers .last .0) ≡ take scopePlace (block begun)
   front =
       ap (take scopePlace) numbered
       ∙ take-sets (encodedNumbers (read .read-plan .result)) (set (block begun) recorderPlace 1) planPlace scopePlace (omega arith)
       ∙ take-set-le scopePlace (block begun) recorderPlace 1 (omega arith)
 
-  same : take (begun .args .to - from) (drop from (n .put-numbers .last .0)) ≡ take (begun .args .to - from) (variablesPart ex (told begun))
-  same = part-front (block begun) (begun .args .to) ex (n .put-numbers .last .0) from front (begun .pre .2) place (omega (arith, long begun, begun .pre .1, place))
+  same : take (begun .args .to - from) (drop from (n .store-numbers .last .0)) ≡ take (begun .args .to - from) (variablesPart ex (told begun))
+  same = part-front (block begun) (begun .args .to) ex (n .store-numbers .last .0) from front (begun .pre .2) place (omega (arith, long begun, begun .pre .1, place))
 
   inside : lengthGiven ex (variablesPart ex (told begun)) ≤ begun .args .to - from
   inside = omega (arith, long begun, place)
@@ -113,58 +107,37 @@ store-variables-requires : tie.Need-store-variables-requires
 store-variables-requires c κs =
     let n = c .before .before .before in
     let s = begun n in
-    let l = drop (from n) (n .put-numbers .last .0) in
+    let l = drop (from n) (n .store-numbers .last .0) in
     let part = variablesPart (ex n) (told s) in (
       omega (arith, count-same (ex n) l part (s .args .to - from n) (same n) (inside n), few s),
       omega (arith, length-same (ex n) l part (s .args .to - from n) (same n) (inside n), s .pre .2, place n, long s),
       omega (arith, lasting n, s .pre .0),
     )
 
-room : (v : tie.After-store-variables) → stateLength ≤ length (v .store-variables .last .0)
-room v =
-    let n = v .before .before .before .before in
-    omega (arith, v .store-variables .kept .0, lasting n, begun n .pre .0)
-
-run-in-requires : tie.Need-run-in-requires
-run-in-requires c κs = room (c .before .before .before)
-
-restarted-requires : tie.Need-restarted-requires
-restarted-requires c κs = search needs
-
-put-run-requires : tie.Need-put-run-requires
-put-run-requires c κs = room (c .before .before .before .before .before .before)
+prepare-run-requires : tie.Need-prepare-run-requires
+prepare-run-requires c κs = search needs
 
 same-length : tie.Need-same-length
-same-length c =
-    let run = c .before .before in
-    let stored = run .before .before .before .before .before .before .before in
-    let n = stored .before .before .before .before in
-    run .put-run .kept .0 ∙ stored .store-variables .kept .0 ∙ lasting n
+same-length c = search needs
 
 returns : tie.Need-returns
 returns c =
     let run = c .before .before in
-    let begins = run .before .before in
-    let stored = begins .before .before .before .before .before in
+    let stored = run .before .before .before .before in
     let n = stored .before .before .before .before in
     let s = begun n in
-    let r = setUpState (ex n) (told s) in
-    let vs = recordedIn (ex n) (told s) in
-    let eight : length (r .plan .variables .list) ≡ 8 = length-sets noVariables 0 vs in
-    run .put-run .ensures
-    ∙ ap (λ (q : Run). sets (stored .store-variables .last .0) runPlace (encodedRun q)) (begins .restarted .ensures)
-    ∙ ap (λ (l : List ℕ). sets l runPlace (encodedRun (r .run)))
+    run .prepare-run .ensures
+    ∙ ap (λ (l : List ℕ). sets l runPlace (encodedRun (preparedState (ex n) (told s) .run)))
     (stored .store-variables .ensures
-    ∙ ap (λ (q : List Variable). sets (n .put-numbers .last .0) recordedPlace (encodedVariables (kept q)))
-    (variables-same (ex n) (drop (from n) (n .put-numbers .last .0)) (variablesPart (ex n) (told s)) (s .args .to - from n) (same n) (inside n))
-    ∙ ap (λ (l : List ℕ). sets l recordedPlace (encodedVariables (kept vs)))
+    ∙ ap (λ (q : List Variable). sets (n .store-numbers .last .0) recordedPlace (encodedVariables (kept q)))
+    (variables-same (ex n) (drop (from n) (n .store-numbers .last .0)) (variablesPart (ex n) (told s)) (s .args .to - from n) (same n) (inside n))
+    ∙ ap (λ (l : List ℕ). sets l recordedPlace (encodedVariables (kept (recordedIn (ex n) (told s)))))
     (numbered n
     ∙ ap (λ (p : Plan). sets (set (block s) recorderPlace 1) planPlace (encodedNumbers p)) (read n .read-plan .ensures .0)))
-    ∙ recorder-put (block s) r eight
-    ∙ recorder-stored (block s) (s .pre .0) (λ i. read n .before .before .before .slice-known .given i .fits) r (recorder-length r eight)
+    ∙ prepared-put (block s) (s .pre .0) (λ i. read n .before .before .before .slice-known .given i .fits) (ex n) (told s)
 
-pub store-recorder-spec : {M : Type 1} → statement M
-store-recorder-spec =
+pub store-prepared-spec : {M : Type 1} → statement M
+store-prepared-spec =
     tie.close
     (tie.spec
     sub-read-plan
@@ -174,11 +147,8 @@ store-recorder-spec =
     add-from
     address-width-requires
     add-from-2
-    slice-write-block
-    put-numbers-requires
+    store-numbers-requires
     store-variables-requires
-    run-in-requires
-    restarted-requires
-    put-run-requires
+    prepare-run-requires
     same-length
     returns)

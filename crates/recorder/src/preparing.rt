@@ -1,8 +1,8 @@
-// The recorder's setup: the first refusal that applies.
+// The recorder prepared: the first refusal that applies.
 ghost use mathlib.Core.Path.{_≡_};
 ghost use Rattle.document.specs.Recorder.{isRunning};
 ghost use Rattle.recorder.specs.State.{recorderOf};
-ghost use Rattle.recorder.specs.Setup.{setUpStatus};
+ghost use Rattle.recorder.specs.Preparing.{prepareStatus};
 use crate::state::Recorder;
 
 impl Recorder {
@@ -16,8 +16,8 @@ impl Recorder {
     }
 
     // Any data part will do, and any state.
-    pub fn set_up_status(self, ex: bool, body: &[u8]) -> u8
-        ensures { λ r. ⌜ r ≡ setUpStatus (recorderOf self) ex (now (body .entry)) ⌝ }
+    pub fn prepare_status(self, ex: bool, body: &[u8]) -> u8
+        ensures { λ r. ⌜ r ≡ prepareStatus (recorderOf self) ex (now (body .entry)) ⌝ }
     {
         if self.is_running() {
             return codes::BUSY;

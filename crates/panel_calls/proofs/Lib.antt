@@ -1,0 +1,4 @@
+-- The laws, lowest first.
+pub mod Told
+pub mod Calls
+pub mod Kept

@@ -1,0 +1,2 @@
+-- What the panel's calls promise.
+pub mod Promises
