@@ -7,7 +7,8 @@ use lib.ListN.{replicate}
 use Rattle.document.specs.Hex.{hex}
 use Rattle.document.specs.Areas.{bytesAt}
 use Rattle.document.specs.CheckSum.{withCheckSum, isCheckSumRight}
-use Rattle.document.specs.Modbus.{isOther, functionOf, modbusAnswer, modbusMemory, modbusRefusal, modbusBuffer}
+use Rattle.document.specs.Modbus.{functionOf, isOther, exceptionTo, modbusAnswer, modbusMemory, modbusRefusal, modbusBuffer}
+use Rattle.document.specs.declared.Function.the-variants.{ReadRegisters, WriteRegisters}
 use Rattle.document.specs.Staples.{zeros}
 use Rattle.document.specs.CallRows.{Line, line, lent, below}
 
@@ -50,10 +51,9 @@ silent frame = line (modbusAnswer 0x11 frame four ++ modbusMemory 0x11 frame fou
 abbrev excepts : List ℕ → String → Line
 excepts frame answer = line (modbusAnswer 0x11 frame four ++ modbusMemory 0x11 frame four) (hex answer ++ four)
 
--- over a memory of its full length: the answer, and what the last variables are then, with the first bytes behind them
-abbrev edge : String → String → String → Line
-edge frame answer last =
-    line (modbusAnswer 0x11 (hex frame) zeros ++ bytesAt (modbusMemory 0x11 (hex frame) zeros) 8188 6) (hex answer ++ hex last)
+-- what the last four variables are then, and the first byte behind them
+abbrev lasts : String → String → Line
+lasts frame last = line (bytesAt (modbusMemory 0x11 (hex frame) (replicate 8193 0)) 8188 5) (hex last)
 
 -- "A frame below 4 or above 256 bytes, a wrong check sum, another station, a broadcast or a function byte above 127"
 unfoldable pub silenceRows : List Line
@@ -61,7 +61,7 @@ silenceRows =
     silent []
     ∷ silent (hex "11 7F4C")
     ∷ excepts (hex "11 03 4DE1") "11 83 03 00F4"
-    ∷ excepts (hex "11 03" ++ replicate 252 0 ++ hex "1CCE") "11 83 03 00F4"
+    ∷ line (modbusAnswer 0x11 (hex "11 03" ++ replicate 252 0 ++ hex "1CCE") four) (hex "11 83 03 00F4")
     ∷ silent (hex "11 03" ++ replicate 253 0 ++ hex "CFC9")
     ∷ silent (hex "11 06 0001 0003 9A9A")
     ∷ silent (hex "11 06 0001 0003 9B9A")
@@ -120,13 +120,12 @@ exceptionRows =
     ∷ excepts (hex "11 03 0000 0000 475A") "11 83 03 00F4"
     ∷ excepts (hex "11 03 0000 007E C77A") "11 83 03 00F4"
     ∷ excepts (hex "11 03 0000 0101 870A") "11 83 03 00F4"
-    ∷ line (modbusAnswer 0x11 (hex "11 03 0000 007D 877B") zeros) (hex "11 03 FA" ++ replicate 250 0 ++ hex "37A4")
-    -- "or 1 to 123 (write)": 124 registers would make a frame of 257 bytes
+    -- "or 1 to 123 (write)"
     ∷ excepts (hex "11 10 0000 0000 00 1891") "11 90 03 0DC4"
     ∷ excepts (hex "11 10 0000 007C F8 0000 53CD") "11 90 03 0DC4"
-    ∷ silent (hex "11 10 0000 007C F8" ++ replicate 248 0 ++ hex "0B4E")
-    ∷ line (modbusAnswer 0x11 (hex "11 10 0000 007B F6" ++ replicate 246 5 ++ hex "307C") zeros) (hex "11 10 0000 007B 82BA")
-    ∷ line (bytesAt (modbusMemory 0x11 (hex "11 10 0000 007B F6" ++ replicate 246 5 ++ hex "307C") zeros) 0 248) (replicate 246 5 ++ hex "00 00")
+    -- 125 and 126; 123 and 124, which would make a frame of 257 bytes
+    ∷ line (exceptionTo ReadRegisters (hex "11 03 0000 007D 0000") four ∷ exceptionTo ReadRegisters (hex "11 03 0000 007E 0000") four ∷ []) (0 ∷ 3 ∷ [])
+    ∷ line (exceptionTo WriteRegisters (hex "11 10 0000 007B F6" ++ replicate 248 0) four ∷ exceptionTo WriteRegisters (hex "11 10 0000 007C F8" ++ replicate 250 0) four ∷ []) (0 ∷ 3 ∷ [])
     -- "a byte count .. that doesn't fit" the quantity, or the frame
     ∷ excepts (hex "11 10 0000 0001 03 000000 D013") "11 90 03 0DC4"
     ∷ excepts (hex "11 10 0000 0002 02 0000 6BD4") "11 90 03 0DC4"
@@ -148,21 +147,22 @@ exceptionRows =
     ∷ excepts (hex "11 10 1000 0001 03 0000 2B91") "11 90 03 0DC4"
     ∷ excepts (hex "11 16 1000 0000 4E59") "11 96 03 0E64"
     -- 2: "reads up to byte 16,383"
-    ∷ edge "11 03 1FFF 0001 B17E" "11 03 02 0000 7987" "0000 0000 0000"
-    ∷ edge "11 03 2000 0001 8D5A" "11 83 02 C134" "0000 0000 0000"
-    ∷ edge "11 03 1FFF 0002 F17F" "11 83 02 C134" "0000 0000 0000"
+    ∷ line (modbusAnswer 0x11 (hex "11 03 1FFF 0001 B17E") zeros) (hex "11 03 02 0000 7987")
+    ∷ excepts (hex "11 03 2000 0001 8D5A") "11 83 02 C134"
+    ∷ excepts (hex "11 03 1FFF 0002 F17F") "11 83 02 C134"
     -- "writes up to 8,191"
-    ∷ edge "11 06 0FFF 0102 382F" "11 06 0FFF 0102 382F" "0000 0201 0000"
-    ∷ edge "11 06 1000 0102 0FCB" "11 86 02 C264" "0000 0000 0000"
-    ∷ edge "11 10 0FFE 0002 04 0102 0304 C958" "11 10 0FFE 0002 21BC" "0201 0403 0000"
-    ∷ edge "11 10 0FFF 0002 04 0102 0304 0894" "11 90 02 CC04" "0000 0000 0000"
-    ∷ edge "11 10 1000 0001 02 0102 FA00" "11 90 02 CC04" "0000 0000 0000"
-    ∷ edge "11 16 0FFF 0000 0102 63B0" "11 16 0FFF 0000 0102 63B0" "0000 0201 0000"
-    ∷ edge "11 16 1000 0000 0102 75CB" "11 96 02 CFA4" "0000 0000 0000"
+    ∷ lasts "11 06 0FFF 0102 382F" "0000 0201 00"
+    ∷ excepts (hex "11 06 1000 0102 0FCB") "11 86 02 C264"
+    ∷ lasts "11 10 0FFE 0002 04 0102 0304 C958" "0201 0403 00"
+    ∷ lasts "11 10 0FFF 0002 04 0102 0304 0894" "0000 0000 00"
+    ∷ excepts (hex "11 10 0FFF 0002 04 0102 0304 0894") "11 90 02 CC04"
+    ∷ excepts (hex "11 10 1000 0001 02 0102 FA00") "11 90 02 CC04"
+    ∷ lasts "11 16 0FFF 0000 0102 63B0" "0000 0201 00"
+    ∷ excepts (hex "11 16 1000 0000 0102 75CB") "11 96 02 CFA4"
     -- an address that would come round
-    ∷ edge "11 03 FFFF 0002 C6BF" "11 83 02 C134" "0000 0000 0000"
-    ∷ edge "11 10 FFFF 0002 04 0102 0304 0C90" "11 90 02 CC04" "0000 0000 0000"
-    ∷ edge "11 06 8000 0102 22CB" "11 86 02 C264" "0000 0000 0000"
+    ∷ excepts (hex "11 03 FFFF 0002 C6BF") "11 83 02 C134"
+    ∷ excepts (hex "11 10 FFFF 0002 04 0102 0304 0C90") "11 90 02 CC04"
+    ∷ excepts (hex "11 06 8000 0102 22CB") "11 86 02 C264"
     ∷ []
 
 -- ---- the call: "3 for an output below 256 bytes, 9 for an own station outside 1 to 247"; "Lowest number first"
