@@ -12,7 +12,7 @@ use Rattle.document.specs.Permission.{mayBeWritten}
 -- "low byte first in memory", and in a frame high byte first: the bytes of each register turned round
 abbrev pub turned : List ℕ → List ℕ
 turned [] = []
-turned (a ∷ []) = a ∷ []
+turned (a ∷ []) = []
 turned (a ∷ b ∷ rest) = b ∷ a ∷ turned rest
 
 -- "Register r is bytes 2r and 2r+1": so many of them from one on, as a frame has them

@@ -11,8 +11,6 @@ use Rattle.document.specs.CheckSum.{shifted, shifts, stepped, registerAfter, ch
 use Rattle.check_sums.proofs.Entries.{stepped-entry}
 use Rattle.check_sums.proofs.check_sum.Statement.{statement}
 use Rattle.check_sums.proofs.check_sum.Tie as tie
-use Rattle.check_sums.proofs.check_sum.Reads as reads
-use Rattle.check_sums.proofs.check_sum.Lts as lts
 
 abbrev Inv-loop : tie.InvT-loop
 Inv-loop bytes table register₀ i₀ register i = (i ≤ length bytes) × (registerAfter register (drop i bytes) ≡ checkSum bytes)
