@@ -2,12 +2,14 @@
 use mathlib.Core.Path.{_≡_, _∙_}
 use mathlib.Core.Bool.{true, false}
 use mathlib.Core.List.{List}
-use Prim.Native.Nat.{ℕ}
+use Prim.Native.Nat.{ℕ, _≤_}
+use lib.ListN.{length}
 use native.Mathlib.Omega.{arith}
 use Rattle.document.specs.Numbers.{done}
 use Rattle.document.specs.Modbus.{isOther, isValueWrong, isAddressWrong, exceptionTo}
 use Rattle.document.specs.declared.Function.{Function}
 use Rattle.document.proofs.Cases.{split}
+use Rattle.frames.proofs.WrongValues.{long-enough}
 
 module _ (function : Function) (frame memory : List ℕ) where
   pub not-served : isOther function ≡ true → 1 ≡ exceptionTo function frame memory
@@ -41,3 +43,6 @@ module _ (function : Function) (frame memory : List ℕ) where
       (λ value.
       split (isAddressWrong function frame memory) (λ wrong. let z : ⊥ = omega (arith, address-wrong served value wrong ∙ none) in absurd z)
       (λ address. record { served = served; value = value; address = address })))
+
+  pub accepted-long : exceptionTo function frame memory ≡ done → 8 ≤ length frame
+  accepted-long none = let ok = accepted none in long-enough function frame (ok .served) (ok .value)

@@ -1,5 +1,5 @@
 -- Exception 3, reason by reason; and what a frame without it is long enough for.
-use mathlib.Core.Path.{_≡_, refl, sym, ap, _∙_}
+use mathlib.Core.Path.{_≡_, sym, ap, _∙_}
 use mathlib.Core.Bool.{Bool, true, false, false≢true, not, _||_}
 use mathlib.Core.List.{List}
 use Prim.Native.Nat.{ℕ, _+_, _*_, _<_, _≤_}
@@ -11,7 +11,7 @@ use Rattle.document.specs.Frames.{quantityIn, byteCountIn}
 use Rattle.document.specs.Modbus.{isOther, isQuantityWrong, isLengthWrong, isValueWrong}
 use Rattle.document.specs.declared.Function.{Function}
 use Rattle.document.specs.declared.Function.the-variants.{ReadRegisters, WriteRegister, WriteRegisters, MaskRegister, Other}
-use Rattle.frames.proofs.Silenced.{or-true}
+use Rattle.frames.proofs.Silenced.{or-true, or-neither}
 
 module _ (frame : List ℕ) where
   pub no-quantity : (most q : ℕ) → q ≡ quantityIn frame → q < 1 → true ≡ isQuantityWrong most frame
@@ -42,25 +42,21 @@ module _ (frame : List ℕ) where
 
 -- ---- what is known where there is none
 
-neither-wrong : (s t : Bool) → s || t ≡ false → (s ≡ false) × (t ≡ false)
-neither-wrong true t e = absurd (false≢true (sym e))
-neither-wrong false t e = (refl, e)
-
 length-right : (n : ℕ) (frame : List ℕ) → isLengthWrong n frame ≡ false → length frame ≡ n
 length-right n frame right = eqb-true (length frame) n (not-false (eqb (length frame) n) right)
 
 pub reading-right : (frame : List ℕ) → isValueWrong ReadRegisters frame ≡ false → (length frame ≡ 8) × (quantityIn frame ≤ 125)
 reading-right frame right =
-    let parts = neither-wrong (isLengthWrong 8 frame) (isQuantityWrong 125 frame) right in
-    (length-right 8 frame (parts .0), ltb-false 125 (quantityIn frame) (neither-wrong (ltb (quantityIn frame) 1) (ltb 125 (quantityIn frame)) (parts .1) .1))
+    let parts = or-neither (isLengthWrong 8 frame) (isQuantityWrong 125 frame) right in
+    (length-right 8 frame (parts .0), ltb-false 125 (quantityIn frame) (or-neither (ltb (quantityIn frame) 1) (ltb 125 (quantityIn frame)) (parts .1) .1))
 
 pub register-right : (frame : List ℕ) → isValueWrong WriteRegister frame ≡ false → length frame ≡ 8
 register-right frame right = length-right 8 frame right
 
 pub writing-right : (frame : List ℕ) → isValueWrong WriteRegisters frame ≡ false → (length frame ≡ 9 + byteCountIn frame) × (byteCountIn frame ≡ 2 * quantityIn frame)
 writing-right frame right =
-    let parts = neither-wrong (isLengthWrong (9 + byteCountIn frame) frame || isQuantityWrong 123 frame) (not (eqb (byteCountIn frame) (2 * quantityIn frame))) right in (
-      length-right (9 + byteCountIn frame) frame (neither-wrong (isLengthWrong (9 + byteCountIn frame) frame) (isQuantityWrong 123 frame) (parts .0) .0),
+    let parts = or-neither (isLengthWrong (9 + byteCountIn frame) frame || isQuantityWrong 123 frame) (not (eqb (byteCountIn frame) (2 * quantityIn frame))) right in (
+      length-right (9 + byteCountIn frame) frame (or-neither (isLengthWrong (9 + byteCountIn frame) frame) (isQuantityWrong 123 frame) (parts .0) .0),
       eqb-true (byteCountIn frame) (2 * quantityIn frame) (not-false (eqb (byteCountIn frame) (2 * quantityIn frame)) (parts .1)),
     )
 
