@@ -16,7 +16,8 @@ use Rattle.document.specs.Frames.{stationIn, isSilenced}
 use Rattle.document.specs.Modbus.{functionIn, exceptionTo, answerTo, modbusAnswer, modbusMemory, modbusRoom, modbusRefusal}
 use Rattle.document.proofs.Cases.{split}
 use Rattle.frames.proofs.Silenced.{heard}
-use Rattle.modbus.specs.Put.{Put, Responded}
+use Rattle.functions.specs.Put.{Put}
+use Rattle.modbus.specs.Responded.{Responded}
 use Rattle.modbus.specs.Promises.{ModbusDone}
 use Rattle.modbus.proofs.Sealed.{sealed, sealed-length}
 use Rattle.modbus.proofs.Responses.{answer-short}

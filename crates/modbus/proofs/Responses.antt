@@ -17,7 +17,8 @@ use Rattle.document.specs.declared.Function.the-variants.{ReadRegisters, WriteR
 use Rattle.document.proofs.Cases.{split}
 use Rattle.frames.proofs.WrongValues.{reading-right}
 use Rattle.frames.proofs.Order.{accepted}
-use Rattle.modbus.specs.Put.{Put, Responded}
+use Rattle.functions.specs.Put.{Put}
+use Rattle.modbus.specs.Responded.{Responded}
 
 -- ---- by the function that was found
 

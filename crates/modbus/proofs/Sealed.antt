@@ -10,7 +10,7 @@ use lib.Seq.{sets, sets-eq, take-at}
 use Rattle.document.specs.Values.{littleEndian}
 use Rattle.document.specs.CheckSum.{checkSum, withCheckSum}
 use Rattle.memory.proofs.Copies.{stored-append}
-use Rattle.modbus.specs.Put.{Put}
+use Rattle.functions.specs.Put.{Put}
 
 -- what was put stands at the front
 pub front-again : (bytes out : List ℕ) → length bytes ≤ length out → take (length bytes) (sets out 0 bytes) ≡ bytes

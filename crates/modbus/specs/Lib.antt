@@ -1,3 +1,3 @@
 -- What the call of the second port promises, and its steps.
-pub mod Put
+pub mod Responded
 pub mod Promises

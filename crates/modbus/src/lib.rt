@@ -1,7 +1,5 @@
 // The second port: a whole frame, and the answer to it.
-mod carrying;
 mod sealing;
-mod telling;
 
 ghost use mathlib.Core.Path.{_≡_};
 ghost use Prim.Native.Nat.{_<_, _≤_};
@@ -9,9 +7,8 @@ ghost use lib.ListN.{length};
 ghost use Rattle.document.specs.Areas.{memoryEnd};
 ghost use Rattle.document.specs.Frames.{functionByte};
 ghost use Rattle.document.specs.Modbus.{modbusRoom, modbusRefusal};
-ghost use Rattle.modbus.specs.Put.{Responded};
+ghost use Rattle.modbus.specs.Responded.{Responded};
 ghost use Rattle.modbus.specs.Promises.{ModbusDone};
-use carrying::carry_out;
 use codes::DONE;
 use codes::MEMORY_REFUSED;
 use codes::ROOM_REFUSED;
@@ -20,11 +17,12 @@ use codes::TAKEN;
 use frames::exception_to;
 use frames::function_of;
 use frames::is_silenced;
+use functions::carry_out;
+use functions::tell;
+use functions::tell_exception;
 use line::Written;
 use memory::MEMORY_END;
 use sealing::seal;
-use telling::tell;
-use telling::tell_exception;
 
 pub const ROOM: usize = 256;
 

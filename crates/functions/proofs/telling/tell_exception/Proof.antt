@@ -3,8 +3,8 @@ use mathlib.Core.Path.{refl}
 use native.Mathlib.Omega.{arith}
 use lib.ListN.{length-set}
 use borrow.Author.Needs.{needs}
-use Rattle.modbus.proofs.telling.tell_exception.Statement.{statement}
-use Rattle.modbus.proofs.telling.tell_exception.Tie as tie
+use Rattle.functions.proofs.telling.tell_exception.Statement.{statement}
+use Rattle.functions.proofs.telling.tell_exception.Tie as tie
 
 shared-slice-read-out : tie.Need-shared-slice-read-out
 shared-slice-read-out c = search needs

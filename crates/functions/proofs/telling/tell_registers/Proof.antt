@@ -11,10 +11,10 @@ use Rattle.document.specs.Stores.{stored}
 use Rattle.document.specs.Registers.{turned}
 use Rattle.document.specs.Frames.{firstIn, quantityIn}
 use Rattle.registers.proofs.Turns.{turned-length}
-use Rattle.modbus.proofs.Told.{registers-told, part-length}
-use Rattle.modbus.proofs.Told.{part, part-length, registers-told}
-use Rattle.modbus.proofs.telling.tell_registers.Statement.{statement}
-use Rattle.modbus.proofs.telling.tell_registers.Tie as tie
+use Rattle.functions.proofs.Told.{registers-told, part-length}
+use Rattle.functions.proofs.Told.{part, part-length, registers-told}
+use Rattle.functions.proofs.telling.tell_registers.Statement.{statement}
+use Rattle.functions.proofs.telling.tell_registers.Tie as tie
 
 word-in-requires : tie.Need-word-in-requires
 word-in-requires c κs = search needs

@@ -6,10 +6,10 @@ use borrow.Author.Needs.{needs}
 use Rattle.document.specs.declared.Function.the-variants.{ReadRegisters}
 use Rattle.frames.proofs.WrongValues.{reading-right}
 use Rattle.frames.proofs.Order.{accepted, accepted-long}
-use Rattle.modbus.proofs.Carried.{none-as}
-use Rattle.modbus.proofs.Told.{front-told, told-as, reads-inside}
-use Rattle.modbus.proofs.telling.tell.Statement.{statement}
-use Rattle.modbus.proofs.telling.tell.Tie as tie
+use Rattle.functions.proofs.Carried.{none-as}
+use Rattle.functions.proofs.Told.{front-told, told-as, reads-inside}
+use Rattle.functions.proofs.telling.tell.Statement.{statement}
+use Rattle.functions.proofs.telling.tell.Tie as tie
 
 long : (s : tie.Start) → 8 ≤ length (s .args .frame .now)
 long s = accepted-long (s .args .function) (s .args .frame .now) (s .args .memory .now) (s .pre .0)

@@ -17,10 +17,10 @@ use Rattle.document.specs.Modbus.{exceptionTo}
 use Rattle.document.specs.declared.Function.the-variants.{WriteRegister, WriteRegisters, MaskRegister}
 use Rattle.document.proofs.Bytes.{all-of-bytes}
 use Rattle.frames.proofs.Order.{accepted-long}
-use Rattle.modbus.proofs.Masked.{masked-so}
-use Rattle.modbus.proofs.Carried.{none-as, carried-as, OneFits, SeveralFit, one-written, one-masked, several-written, values-between, values-length}
-use Rattle.modbus.proofs.carrying.carry_out.Statement.{statement}
-use Rattle.modbus.proofs.carrying.carry_out.Tie as tie
+use Rattle.functions.proofs.Masked.{masked-so}
+use Rattle.functions.proofs.Carried.{none-as, carried-as, OneFits, SeveralFit, one-written, one-masked, several-written, values-between, values-length}
+use Rattle.functions.proofs.carrying.carry_out.Statement.{statement}
+use Rattle.functions.proofs.carrying.carry_out.Tie as tie
 
 module _ (s : tie.Start) where
   abbrev frame : List ℕ

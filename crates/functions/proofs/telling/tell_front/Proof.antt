@@ -3,8 +3,8 @@ use mathlib.Core.Path.{sym}
 use native.Mathlib.Omega.{arith}
 use lib.Seq.{length-take-le}
 use borrow.Author.Needs.{needs}
-use Rattle.modbus.proofs.telling.tell_front.Statement.{statement}
-use Rattle.modbus.proofs.telling.tell_front.Tie as tie
+use Rattle.functions.proofs.telling.tell_front.Statement.{statement}
+use Rattle.functions.proofs.telling.tell_front.Tie as tie
 
 slice-aggregate-copy-in : tie.Need-slice-aggregate-copy-in
 slice-aggregate-copy-in c =

@@ -15,7 +15,7 @@ use Rattle.document.specs.declared.Function.{Function}
 use Rattle.document.specs.declared.Function.the-variants.{ReadRegisters}
 use Rattle.registers.proofs.Turns.{turned-length}
 use Rattle.frames.proofs.Order.{accepted}
-use Rattle.modbus.specs.Put.{Put}
+use Rattle.functions.specs.Put.{Put}
 
 pub head-and : (n : ℕ) (frame : List ℕ) → 2 ≤ length frame → take (suc (suc n)) frame ≡ stationIn frame ∷ functionByte frame ∷ bytesAt frame 2 n
 head-and n [] h = let z : ⊥ = omega arith in absurd z

@@ -8,7 +8,7 @@ ghost use Rattle.document.specs.Numbers.{done};
 ghost use Rattle.document.specs.Frames.{stationIn, functionByte, firstIn, quantityIn};
 ghost use Rattle.document.specs.Modbus.{exceptionTo, told, modbusRoom};
 ghost use Rattle.document.specs.declared.Function.the-variants.{ReadRegisters};
-ghost use Rattle.modbus.specs.Put.{Put};
+ghost use Rattle.functions.specs.Put.{Put};
 use document::Function;
 use frames::word_in;
 use memory::copy_in;
