@@ -34,28 +34,24 @@ module _ (station : ℕ) (frame : List ℕ) where
   unfolding isSilenced
   too-long h = simp (lt-ltb 256 (length frame) h, or-true)
 
-  pub elsewhere : (to : ℕ) → to ≡ stationIn frame → (to ≡ station → ⊥) → true ≡ isSilenced station frame
+  pub elsewhere : (stationIn frame ≡ station → ⊥) → true ≡ isSilenced station frame
   unfolding isSilenced
-  elsewhere to e other = simp (ne-eqb (stationIn frame) station (λ own. other (e ∙ own)), or-true)
-
-  pub to-all : (to : ℕ) → to ≡ stationIn frame → to ≡ 0 → true ≡ isSilenced station frame
-  unfolding isSilenced
-  to-all to e all = simp (eq-eqb (stationIn frame) 0 (sym e ∙ all), or-true)
+  elsewhere other = simp (ne-eqb (stationIn frame) station other, or-true)
 
   pub no-function : 127 < functionByte frame → true ≡ isSilenced station frame
   unfolding isSilenced
   no-function h = simp (lt-ltb 127 (functionByte frame) h, or-true)
 
-  -- with none of these, the check sum decides
-  pub by-check-sum : AllBytes frame → 4 ≤ length frame → length frame ≤ 256 → (to : ℕ) → to ≡ stationIn frame → to ≡ station → (to ≡ 0 → ⊥) → functionByte frame ≤ 127
+  -- with none of these, the check sum decides; an own station is none for all
+  pub by-check-sum : AllBytes frame → 0 < station → 4 ≤ length frame → length frame ≤ 256 → stationIn frame ≡ station → functionByte frame ≤ 127
       → (sum : ℕ) → sum ≡ checkSum frame → not (eqb sum 0) ≡ isSilenced station frame
   unfolding isSilenced
-  by-check-sum bytes low high to e own some h sum es =
+  by-check-sum bytes some low high own h sum es =
       rw (
         le-ltb (length frame) 4 low,
         le-ltb 256 (length frame) high,
-        eq-eqb (stationIn frame) station (sym e ∙ own),
-        ne-eqb (stationIn frame) 0 (λ all. some (e ∙ all)),
+        eq-eqb (stationIn frame) station own,
+        ne-eqb (stationIn frame) broadcast (λ all. omega arith),
         le-ltb 127 (functionByte frame) h,
         right-leaves-0 frame bytes (omega arith),
         es,

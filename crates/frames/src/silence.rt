@@ -1,19 +1,19 @@
 // When a frame gets silence.
 ghost use mathlib.Core.Path.{_≡_};
+ghost use Prim.Native.Nat.{_<_};
 ghost use Rattle.document.specs.Frames.{isSilenced};
 use check_sums::check_sum;
-use widths::u16_of_u8;
 
 const SHORTEST: usize = 4;
 
 const LONGEST: usize = 256;
 
-const BROADCAST: u16 = 0;
-
 const LAST_FUNCTION: u8 = 127;
 
-// The check sum comes last: a frame for another station costs no look at its bytes.
-pub fn is_silenced(station: u16, frame: &[u8]) -> bool
+// A station of its own is not 0, so a broadcast is a frame for another. The check sum comes last: such a frame costs no look at its
+// other bytes.
+pub fn is_silenced(station: u8, frame: &[u8]) -> bool
+    requires { ⌜ 0 < station ⌝ }
     ensures { λ r. ⌜ r ≡ isSilenced station (now (frame .entry)) ⌝ }
 {
     if frame.len() < SHORTEST {
@@ -22,11 +22,7 @@ pub fn is_silenced(station: u16, frame: &[u8]) -> bool
     if frame.len() > LONGEST {
         return true;
     }
-    let to = u16_of_u8(frame[0]);
-    if to != station {
-        return true;
-    }
-    if to == BROADCAST {
+    if frame[0] != station {
         return true;
     }
     if frame[1] > LAST_FUNCTION {

@@ -2,19 +2,19 @@
 use mathlib.Core.Path.{_≡_, ap, _∙_}
 use mathlib.Core.Bool.{true, false}
 use mathlib.Core.List.{List, _∷_}
-use Prim.Native.Nat.{ℕ, _+_, _≤_}
+use Prim.Native.Nat.{ℕ, _+_, _<_, _≤_}
 use native.Mathlib.Omega.{arith}
-use borrow.Author.Tests.{eq-eqb, ne-eqb, eqb-true, ltb-false}
-use lib.Dec.{eqb, ltb}
+use borrow.Author.Tests.{eq-eqb, ne-eqb, eqb-true, ltb-false, leb-true}
+use lib.Dec.{eqb, ltb, leb}
 use lib.ListN.{length, take}
 use lib.Seq.{sets}
 use Rattle.document.specs.Numbers.{taken}
 use Rattle.document.specs.Areas.{memoryEnd}
 use Rattle.document.specs.Values.{littleEndian}
 use Rattle.document.specs.CheckSum.{checkSum, withCheckSum}
-use Rattle.document.specs.Frames.{stationIn, isSilenced}
+use Rattle.document.specs.Frames.{stationIn, isStation, isSilenced}
 use Rattle.document.specs.Modbus.{functionIn, exceptionTo, answerTo, modbusAnswer, modbusMemory, modbusRoom, modbusRefusal}
-use Rattle.document.proofs.Cases.{split}
+use Rattle.document.proofs.Cases.{split, both}
 use Rattle.frames.proofs.Silenced.{heard}
 use Rattle.functions.specs.Put.{Put}
 use Rattle.modbus.specs.Responded.{Responded}
@@ -22,13 +22,29 @@ use Rattle.modbus.specs.Promises.{ModbusDone}
 use Rattle.modbus.proofs.Sealed.{sealed, sealed-length}
 use Rattle.modbus.proofs.Responses.{answer-short}
 
--- what is lent is right where nothing is refused
-pub lent-right : (station : ℕ) (memory out : List ℕ) → modbusRefusal station memory out ≡ taken → (length memory ≡ memoryEnd) × (modbusRoom ≤ length out)
+-- what is lent is right where nothing is refused, and the station is one
+pub record Right (station : ℕ) (memory out : List ℕ) : Type 0 where
+  pub memory-length : length memory ≡ memoryEnd
+  pub room : modbusRoom ≤ length out
+  pub first : 0 < station
+  pub last : station < 256
+
+pub lent-right : (station : ℕ) (memory out : List ℕ) → modbusRefusal station memory out ≡ taken → Right station memory out
 lent-right station memory out none =
     split (eqb (length memory) memoryEnd)
     (λ whole.
     split (ltb (length out) modbusRoom) (λ short. let z : ⊥ = omega (arith, rw (whole, short) at none) in absurd z)
-    (λ room. (eqb-true (length memory) memoryEnd whole, ltb-false (length out) modbusRoom room)))
+    (λ room.
+    split (isStation station)
+    (λ own.
+    let bounds = both (leb 1 station) (leb station 247) own in
+    record {
+      memory-length = eqb-true (length memory) memoryEnd whole;
+      room = ltb-false (length out) modbusRoom room;
+      first = leb-true 1 station (bounds .0);
+      last = omega (arith, leb-true station 247 (bounds .1));
+    })
+    (λ other. let z : ⊥ = omega (arith, rw (whole, room, other) at none) in absurd z)))
     (λ other. let z : ⊥ = omega (arith, rw other at none) in absurd z)
 
 module _ (station : ℕ) (frame memory out : List ℕ) where

@@ -68,7 +68,8 @@ pub fn answer(station: u16, frame: &[u8], memory: &mut [u8], out: &mut [u8]) -> 
     if refusal != TAKEN {
         return Written { refusal, length: 0 };
     }
-    if is_silenced(station, frame) {
+    let own = station as u8;
+    if is_silenced(own, frame) {
         return Written {
             refusal: TAKEN,
             length: 0,
