@@ -10,8 +10,6 @@ use masks::mix_in_word;
 use registers::turn_in;
 use widths::usize_of_u16;
 
-const WORD_OF_ONES: u16 = 0xFFFF;
-
 // Where the values of a write begin, and how many bytes stand behind them.
 const VALUE: usize = 4;
 
@@ -37,7 +35,7 @@ pub fn carry_out(function: Function, frame: &[u8], memory: &mut [u8])
         Function::MaskRegister => {
             let kept = word_in(frame, 4);
             let set = word_in(frame, 6);
-            mix_in_word(memory, at, set, WORD_OF_ONES - kept);
+            mix_in_word(memory, at, set, !kept);
         }
         Function::Other => {}
     }

@@ -132,9 +132,6 @@ word-in-requires-2 c κs = omega (arith, long (start (c .before .before)))
 word-in-requires-3 : tie.Need-word-in-requires-3
 word-in-requires-3 c κs = omega (arith, long (start (c .before .before .before)))
 
-sub-mix-in-word : tie.Need-sub-mix-in-word
-sub-mix-in-word c = search needs
-
 mix-in-word-requires : tie.Need-mix-in-word-requires
 mix-in-word-requires c κs =
     let e = c .before .before .before in
@@ -210,7 +207,6 @@ carry-out-spec =
     enum-told-4
     word-in-requires-2
     word-in-requires-3
-    sub-mix-in-word
     mix-in-word-requires
     enum-told-5
     returns
