@@ -2,7 +2,6 @@
 use mathlib.Core.List.{List, [], _∷_, _++_}
 use Prim.Native.Nat.{ℕ, zero, suc, _<_}
 use native.Mathlib.Nat.{zero-lt-suc}
-use native.Mathlib.Omega.{arith}
 use lib.ListN.{getD, set, take, drop}
 use lib.Seq.{sets}
 use Rattle.document.specs.Areas.{bytesAt}

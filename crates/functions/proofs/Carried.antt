@@ -4,10 +4,8 @@ use mathlib.Core.Bool.{false, not}
 use mathlib.Core.List.{List}
 use Prim.Native.Nat.{ℕ, _+_, _-_, _*_, _≤_}
 use native.Mathlib.Omega.{arith}
-use lib.Dec.{leb}
 use lib.ListN.{length, take, drop, length-drop}
 use lib.Seq.{length-take-le}
-use borrow.Author.Tests.{leb-true, not-false}
 use Rattle.document.specs.Areas.{memoryEnd, bytesAt}
 use Rattle.document.specs.Gate.{fresh}
 use Rattle.document.specs.Permission.{mayBeWritten}
@@ -17,6 +15,7 @@ use Rattle.document.specs.Modbus.{exceptionTo, carriedOut}
 use Rattle.document.specs.declared.Function.{Function}
 use Rattle.document.specs.declared.Function.the-variants.{WriteRegister, WriteRegisters, MaskRegister}
 use Rattle.frames.proofs.WrongValues.{register-right, writing-right, mask-right}
+use Rattle.frames.proofs.WrongAddresses.{writes-below}
 use Rattle.frames.proofs.Order.{accepted}
 
 -- by the function that a frame asks for
@@ -29,9 +28,7 @@ carried-as same frame memory left e = e ∙ sym (ap (λ (f : Function). carriedO
 -- as many bytes as are written end inside the memory
 module _ (frame memory : List ℕ) (whole : length memory ≡ memoryEnd) where
   inside : (size : ℕ) → not (mayBeWritten (fresh memory) (2 * firstIn frame) size) ≡ false → 2 * firstIn frame + size ≤ length memory
-  unfolding mayBeWritten
-  inside size may =
-      omega (arith, leb-true (2 * firstIn frame + size) 8192 (not-false (leb (2 * firstIn frame + size) 8192) may))
+  inside size may = omega (arith, writes-below frame memory size may)
 
   pub record OneFits (n : ℕ) : Type 0 where
     pub frame-length : length frame ≡ n

@@ -16,7 +16,6 @@ use Rattle.document.specs.Frames.{stationIn, isStation, isSilenced}
 use Rattle.document.specs.Modbus.{functionIn, exceptionTo, answerTo, modbusAnswer, modbusMemory, modbusRoom, modbusRefusal}
 use Rattle.document.proofs.Cases.{split, both}
 use Rattle.frames.proofs.Silenced.{heard}
-use Rattle.functions.specs.Put.{Put}
 use Rattle.modbus.specs.Responded.{Responded}
 use Rattle.modbus.specs.Promises.{ModbusDone}
 use Rattle.modbus.proofs.Sealed.{sealed, sealed-length}

@@ -1,7 +1,7 @@
 -- What a frame that is not silenced comes to: an exception, or what its function tells and does; and that either is short.
-use mathlib.Core.Path.{_≡_, sym, ap, subst, _∙_}
+use mathlib.Core.Path.{_≡_, ap, subst, _∙_}
 use mathlib.Core.List.{List, [], _∷_}
-use Prim.Native.Nat.{ℕ, suc, _+_, _*_, _≤_, _<_}
+use Prim.Native.Nat.{ℕ, _+_, _*_, _≤_}
 use native.Mathlib.Omega.{arith}
 use borrow.Author.Tests.{eq-eqb, ne-eqb, eqb-true}
 use lib.Dec.{eqb}
@@ -10,11 +10,11 @@ use lib.Seq.{length-sets}
 use Rattle.document.specs.Numbers.{done}
 use Rattle.document.specs.Areas.{bytesAt}
 use Rattle.document.specs.Frames.{stationIn, functionByte, firstIn, quantityIn}
-use Rattle.document.specs.Registers.{turned, registersAt}
 use Rattle.document.specs.Modbus.{functionIn, exceptionTo, carriedOut, told, answerTo, modbusRoom}
 use Rattle.document.specs.declared.Function.{Function}
 use Rattle.document.specs.declared.Function.the-variants.{ReadRegisters, WriteRegister, WriteRegisters, MaskRegister, Other}
 use Rattle.document.proofs.Cases.{split}
+use Rattle.registers.proofs.Turns.{turned-short}
 use Rattle.frames.proofs.WrongValues.{reading-right}
 use Rattle.frames.proofs.Order.{accepted}
 use Rattle.functions.specs.Put.{Put}
@@ -42,11 +42,6 @@ module _ (frame memory out : List ℕ) {function : Function} (asked : function �
       }
 
 -- ---- short
-
-turned-short : (l : List ℕ) → length (turned l) ≤ length l
-turned-short [] = omega arith
-turned-short (a ∷ []) = omega arith
-turned-short (a ∷ b ∷ l) = omega (arith, turned-short l)
 
 range-short : (l : List ℕ) (at n : ℕ) → length (bytesAt l at n) ≤ n
 range-short l at n = omega (arith, length-take n (drop at l))

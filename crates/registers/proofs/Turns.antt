@@ -1,8 +1,7 @@
 -- Registers turned round: how many bytes they are, and a turn of the loop, where what is left to store gives the whole.
-use mathlib.Core.Path.{_≡_, refl, ap}
+use mathlib.Core.Path.{_≡_, refl}
 use mathlib.Core.List.{List, [], _∷_}
 use Prim.Native.Nat.{ℕ, zero, suc, _+_, _*_, _<_, _≤_}
-use native.Mathlib.Nat.{add-suc}
 use native.Mathlib.Numerals.{add-one}
 use native.Mathlib.Omega.{arith}
 use lib.ListN.{length, getD, set, drop}
@@ -31,3 +30,8 @@ turned-length zero (a ∷ from) h = let z : ⊥ = omega arith in absurd z
 turned-length (suc n) [] h = let z : ⊥ = omega arith in absurd z
 turned-length (suc n) (a ∷ []) h = let z : ⊥ = omega arith in absurd z
 turned-length (suc n) (a ∷ b ∷ from) h = omega (arith, turned-length n from (omega arith))
+
+pub turned-short : (l : List ℕ) → length (turned l) ≤ length l
+turned-short [] = omega arith
+turned-short (a ∷ []) = omega arith
+turned-short (a ∷ b ∷ l) = omega (arith, turned-short l)

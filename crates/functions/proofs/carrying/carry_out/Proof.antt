@@ -1,20 +1,15 @@
 -- Function by function: without an exception the range of a write lies inside the memory.
-use mathlib.Core.Path.{_≡_, sym, ap, ap₂, _∙_}
+use mathlib.Core.Path.{_≡_, ap, ap₂, _∙_}
 use mathlib.Core.List.{List}
-use Prim.Native.Nat.{ℕ, _*_, _-_, _≤_, _<_}
+use Prim.Native.Nat.{ℕ, _*_, _≤_}
 use native.Mathlib.Omega.{arith}
-use lib.ListN.{length, take, drop, length-drop}
+use lib.ListN.{length, drop, length-drop}
 use lib.Seq.{length-take-le}
 use borrow.Author.Needs.{needs}
-use Rattle.document.specs.Numbers.{done}
-use Rattle.document.specs.Bytes.{AllBytes}
 use Rattle.document.specs.Areas.{bytesAt}
-use Rattle.document.specs.Values.{littleEndian}
-use Rattle.document.specs.Stores.{stored, maskStored}
+use Rattle.document.specs.Stores.{stored}
 use Rattle.document.specs.Registers.{turned}
-use Rattle.document.specs.Frames.{firstIn, quantityIn, wordIn}
-use Rattle.document.specs.Modbus.{exceptionTo}
-use Rattle.document.specs.declared.Function.the-variants.{WriteRegister, WriteRegisters, MaskRegister}
+use Rattle.document.specs.Frames.{firstIn}
 use Rattle.document.proofs.Bytes.{all-of-bytes}
 use Rattle.frames.proofs.Order.{accepted-long}
 use Rattle.functions.proofs.Masked.{masked-so}

@@ -1,5 +1,4 @@
 -- Three bytes, one behind the other.
-use mathlib.Core.Path.{refl}
 use native.Mathlib.Omega.{arith}
 use lib.ListN.{length-set}
 use borrow.Author.Needs.{needs}

@@ -1,16 +1,13 @@
 -- Station, function, count; the part of the memory that is turned in behind them is the registers.
-use mathlib.Core.Path.{_≡_, sym, ap, _∙_}
-use mathlib.Core.List.{List, _∷_}
-use Prim.Native.Nat.{ℕ, _+_, _*_, _-_, _≤_}
+use mathlib.Core.Path.{_≡_, ap, _∙_}
+use mathlib.Core.List.{List}
+use Prim.Native.Nat.{ℕ, _+_, _*_, _≤_}
 use native.Mathlib.Omega.{arith}
-use lib.ListN.{length, set, length-set, take, drop, length-drop}
-use lib.Seq.{sets, length-take-le, length-sets}
+use lib.ListN.{length, length-set}
+use lib.Seq.{length-sets}
 use borrow.Author.Needs.{needs}
-use Rattle.document.specs.Areas.{bytesAt}
-use Rattle.document.specs.Stores.{stored}
 use Rattle.document.specs.Registers.{turned}
 use Rattle.document.specs.Frames.{firstIn, quantityIn}
-use Rattle.registers.proofs.Turns.{turned-length}
 use Rattle.functions.proofs.Told.{registers-told, part-length}
 use Rattle.functions.proofs.Told.{part, part-length, registers-told}
 use Rattle.functions.proofs.telling.tell_registers.Statement.{statement}
