@@ -1,14 +1,16 @@
 -- "Register r is bytes 2r and 2r+1, low byte first in memory": what an answer's registers say, and that a write is read back.
-use mathlib.Core.Path.{_≡_}
-use mathlib.Core.List.{List, _∷_}
+use mathlib.Core.Path.{_≡_, refl, ap, _∙_}
+use mathlib.Core.List.{List, [], _∷_}
 use Prim.Native.Nat.{ℕ, zero, suc, _+_, _*_, _<_, _≤_}
 use native.Mathlib.Omega.{arith}
 use lib.ListN.{length, getD}
 use lib.Seq.{drop-cons}
 use Rattle.document.specs.Areas.{bytesAt}
 use Rattle.document.specs.Values.{number}
-use Rattle.document.specs.Registers.{registersAt}
+use Rattle.document.specs.Registers.{turned, registersAt, registersStored}
 use Rattle.document.specs.Frames.{wordIn}
+use Rattle.history.proofs.Bytes.{bytes-stored}
+use Rattle.registers.proofs.Turns.{turned-length}
 
 -- the first register, and then the others
 registers-next : (memory : List ℕ) (first quantity : ℕ) → 2 * first + 2 * suc quantity ≤ length memory
@@ -34,3 +36,18 @@ register-read (suc k) memory first (suc quantity) h inside =
     let plus : suc (suc (2 * k)) + 1 ≡ suc (suc (2 * k + 1)) = omega arith in
     let on : first + suc k ≡ suc first + k = omega arith in
     rw (registers-next memory first quantity inside, two, plus, on) (register-read k memory (suc first) quantity (omega arith) (omega arith))
+
+-- ---- a write is read back
+
+turned-twice : (n : ℕ) (l : List ℕ) → length l ≡ 2 * n → turned (turned l) ≡ l
+turned-twice zero [] e = refl
+turned-twice zero (a ∷ l) e = let z : ⊥ = omega arith in absurd z
+turned-twice (suc n) [] e = let z : ⊥ = omega arith in absurd z
+turned-twice (suc n) (a ∷ []) e = let z : ⊥ = omega arith in absurd z
+turned-twice (suc n) (a ∷ b ∷ l) e = ap (λ (rest : List ℕ). a ∷ b ∷ rest) (turned-twice n l (omega arith))
+
+pub written-read : (memory values : List ℕ) (first quantity : ℕ) → length values ≡ 2 * quantity → 2 * first + 2 * quantity ≤ length memory
+    → registersAt (registersStored memory first values) first quantity ≡ values
+written-read memory values first quantity e inside =
+    ap turned (bytes-stored (turned values) memory (2 * first) (2 * quantity) (turned-length quantity values e) inside)
+    ∙ turned-twice quantity values e
