@@ -19,9 +19,10 @@ plays_as_expected() {
     cmp -s $built/expected $built/played || { $second compare $built/expected $built/played; fail "$2, played by $1"; }
 }
 
-# same SCRIPT: all play it, and say the same. The proved player cannot read K, F and S lines: it plays what is left without them.
+# same SCRIPT: all play it, and say the same. The proved player cannot read K, F, S and U lines: it plays what is left without
+# them.
 same() {
-    grep -v '^[KFS]' "$1" >$built/without
+    grep -v '^[KFSU]' "$1" >$built/without
     $second play $built/without >$built/expected
     plays_as_expected "$proved" $built/without
     $second play "$1" >$built/expected

@@ -1,17 +1,26 @@
 //! Counts what scripts reached: which statuses answered which commands, which
-//! refusals the calls gave, how blocks ended and what the panel was told; and
-//! holds it against what can be reached.
+//! refusals the calls gave, how blocks ended, what the panel was told and how
+//! frames ended; and holds it against what can be reached.
 
 use crate::message::fast_length;
+use crate::modbus::Silence;
 use crate::play::{End, Panel, Standing, Watch};
 use crate::reachable::{
-    BLOCKS, CALLS, OTHER_FAST, OTHER_STANDARD, PANEL, PANEL_IN_MESSAGE, SERVED,
+    BLOCKS, CALLS, FUNCTIONS, OTHER_FAST, OTHER_FUNCTION, OTHER_STANDARD, PANEL, PANEL_IN_MESSAGE,
+    SERVED, SILENCES,
 };
+
+/// The functions that are not served.
+const OTHER: &str = "other";
+
+/// A silence has no bytes, and can have no more.
+const SILENT: &[u8] = &[0];
 
 /// The most answers to a block that are told apart.
 const MOST_ANSWERS: usize = 3;
 
-/// A command, a call, an end of blocks or a use of the panel, and how often each of its results occurred.
+/// A command, a call, an end of blocks, a use of the panel or a kind of frame,
+/// and how often each of its results occurred.
 struct Row {
     name: String,
     reachable: &'static [u8],
@@ -68,6 +77,8 @@ pub struct Counts {
     calls: Vec<Row>,
     blocks: Vec<Row>,
     panel: Vec<Row>,
+    functions: Vec<Row>,
+    silences: Vec<Row>,
 }
 
 impl Counts {
@@ -101,16 +112,23 @@ impl Counts {
             calls: calls.collect(),
             blocks: blocks.collect(),
             panel: panel.chain(in_message).collect(),
+            functions: function_rows(),
+            silences: SILENCES
+                .iter()
+                .map(|silence| Row::new(silence_name(*silence).to_string(), SILENT))
+                .collect(),
         }
     }
 
     /// The tables, each with its title, what its results are, and its rows.
-    fn tables(&self) -> [(&'static str, &'static str, &[Row]); 4] {
+    fn tables(&self) -> [(&'static str, &'static str, &[Row]); 6] {
         [
             ("command", "status", &self.commands),
             ("call", "refusal", &self.calls),
             ("block, answers", "answers", &self.blocks),
             ("panel", "status", &self.panel),
+            ("function", "exception", &self.functions),
+            ("silence", "bytes", &self.silences),
         ]
     }
 
@@ -128,7 +146,7 @@ impl Counts {
     }
 
     /// How many pairs can be reached, of each table.
-    pub fn reachable(&self) -> [usize; 4] {
+    pub fn reachable(&self) -> [usize; 6] {
         let pairs = |rows: &[Row]| rows.iter().map(|row| row.reachable.len()).sum();
         self.tables().map(|(_, _, rows)| pairs(rows))
     }
@@ -161,6 +179,15 @@ impl Watch for Counts {
             count(&mut self.panel, &in_message_name(panel), status);
         }
     }
+
+    fn frame_answered(&mut self, function: u8, exception: u8) {
+        let name = function_name(function);
+        count(&mut self.functions, &name, usize::from(exception));
+    }
+
+    fn frame_silent(&mut self, silence: Silence) {
+        count(&mut self.silences, silence_name(silence), 0);
+    }
 }
 
 /// One more of a result in the row of this name; each has one.
@@ -191,6 +218,32 @@ fn panel_name(panel: Panel, standing: Standing) -> String {
 
 fn in_message_name(panel: Panel) -> String {
     format!("{} in message", panel.letter())
+}
+
+fn function_rows() -> Vec<Row> {
+    let served = FUNCTIONS
+        .iter()
+        .map(|(function, exceptions)| Row::new(format!("{function:02X}"), exceptions));
+    let other = Row::new(OTHER.to_string(), OTHER_FUNCTION);
+    served.chain([other]).collect()
+}
+
+fn function_name(function: u8) -> String {
+    match FUNCTIONS.iter().any(|(served, _)| *served == function) {
+        true => format!("{function:02X}"),
+        false => OTHER.to_string(),
+    }
+}
+
+fn silence_name(silence: Silence) -> &'static str {
+    match silence {
+        Silence::Short => "below 4 bytes",
+        Silence::Long => "above 256",
+        Silence::WrongSum => "wrong sum",
+        Silence::OtherStation => "other station",
+        Silence::Broadcast => "broadcast",
+        Silence::FunctionAbove127 => "above 127",
+    }
 }
 
 /// A column for each result that some row reached or can reach.
@@ -232,6 +285,9 @@ mod tests {
         counts.called('E', 5);
         counts.ended(End::Whole, 9);
         counts.ended(End::Empty, 1);
+        counts.frame_answered(3, 1);
+        counts.frame_answered(4, 1);
+        counts.frame_silent(Silence::Long);
         counts.at_panel(Panel::Starts, Standing::Runs, true, 0x01);
         counts.at_panel(Panel::Starts, Standing::Full, false, 0x88);
         let faults = counts.faults();
@@ -246,6 +302,11 @@ mod tests {
         assert!(has("never reached: stopped with answers 01"));
         assert!(has("not to be reached: no bytes with answers 01"));
         assert!(!has("never reached: all taken with answers 03"));
+        assert!(has("not to be reached: 03 with exception 01"));
+        assert!(has("never reached: 16 with exception 02"));
+        assert!(!has("never reached: other with exception 01"));
+        assert!(has("never reached: broadcast with bytes 00"));
+        assert!(!has("never reached: above 256 with bytes 00"));
         assert!(has("never reached: F, runs with status 87"));
         assert!(has("never reached: S in message with status 00"));
         assert!(!has("never reached: S in message with status 01"));
@@ -257,7 +318,10 @@ mod tests {
         let mut counts = Counts::none();
         counts.answered(0xFF, 0x81);
         let told = counts.tell();
-        assert_eq!(told.lines().count(), 1 + 36 + 1 + 8 + 1 + 4 + 1 + 12);
+        assert_eq!(
+            told.lines().count(),
+            1 + 36 + 1 + 9 + 1 + 4 + 1 + 12 + 1 + 5 + 1 + 6
+        );
         let last = told.lines().find(|l| l.starts_with("other fast")).unwrap();
         let cells: Vec<&str> = last.split_whitespace().collect();
         assert_eq!(cells[2..6], [".", ".", ".", "1"]);

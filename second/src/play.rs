@@ -4,6 +4,7 @@ use std::io::{BufRead, Write};
 
 use crate::adler::adler32;
 use crate::host::{write_answer, write_command, Reader, Refusal, ANSWER_ROOM};
+use crate::modbus::{self, Silence};
 use crate::script::{parse, Call, Operation};
 use crate::tables::Table;
 use crate::target::{Block, Target};
@@ -86,7 +87,7 @@ impl Standing {
 }
 
 /// Whoever is told of every answer, of every call at the other end, of how
-/// blocks end and of what the panel does.
+/// blocks end, of what the panel does and of every frame at the second port.
 pub trait Watch {
     /// A message of a command was answered with a status.
     fn answered(&mut self, command: u8, status: u8);
@@ -96,6 +97,10 @@ pub trait Watch {
     fn ended(&mut self, end: End, answers: usize);
     /// The panel got a status, in the midst of a message or not.
     fn at_panel(&mut self, panel: Panel, standing: Standing, in_message: bool, status: u8);
+    /// A frame with this function was answered with an exception, or 0.
+    fn frame_answered(&mut self, function: u8, exception: u8);
+    /// A frame got silence.
+    fn frame_silent(&mut self, silence: Silence);
 }
 
 /// Nobody.
@@ -104,6 +109,8 @@ impl Watch for () {
     fn called(&mut self, _letter: char, _refusal: u8) {}
     fn ended(&mut self, _end: End, _answers: usize) {}
     fn at_panel(&mut self, _panel: Panel, _standing: Standing, _in_message: bool, _status: u8) {}
+    fn frame_answered(&mut self, _function: u8, _exception: u8) {}
+    fn frame_silent(&mut self, _silence: Silence) {}
 }
 
 struct Player<'a, O: Write, W: Watch> {
@@ -194,6 +201,11 @@ impl<O: Write, W: Watch> Player<'_, O, W> {
             Operation::Block { room, bytes } => self.block(room, &bytes),
             Operation::Prepare(data) => self.panel(Panel::Prepares, |gate| gate.prepare(&data)),
             Operation::Start => self.panel(Panel::Starts, Target::start),
+            Operation::Frame {
+                station,
+                room,
+                bytes,
+            } => self.frame(station, room, &bytes),
         }
     }
 
@@ -236,6 +248,18 @@ impl<O: Write, W: Watch> Player<'_, O, W> {
         let status = does(&mut self.target);
         self.watch.at_panel(panel, standing, in_message, status);
         self.print(&format!("{} {status:02X}", panel.letter()), &[])
+    }
+
+    fn frame(&mut self, station: u16, room: usize, frame: &[u8]) -> Result<(), Failure> {
+        let mut lent = vec![FILL; room];
+        let called = modbus::call(station, frame, &mut self.target.memory, &mut lent);
+        match &called {
+            Ok(Ok(answer)) => self.watch.frame_answered(answer.function, answer.exception),
+            Ok(Err(silence)) => self.watch.frame_silent(*silence),
+            Err(_) => {}
+        }
+        let length = called.map(|answer| answer.map_or(0, |answer| answer.frame.len()));
+        self.print_lent('U', length, &lent)
     }
 
     fn write(&mut self, letter: char, writer: Writer, call: Call) -> Result<(), Failure> {
@@ -402,6 +426,17 @@ mod tests {
         let (_, out) = played(&script);
         let wanted = "S 88\nF 85\nF 00\nA 2 2B 02 FE\nS 00\nS 01\nF 87\nA 5 2B 01 FF\nD ";
         assert!(out.starts_with(wanted), "{out}");
+    }
+
+    #[test]
+    fn frames_at_the_second_port() {
+        let (_, out) = played("U 17 256 11 06 00 01 00 03 9A 9B\nM 2 2\nU 1 256\nU 0 1 11\n");
+        let (rest, all) = (" EE".repeat(248), " EE".repeat(256));
+        let wanted =
+            format!("U 0 8 11 06 00 01 00 03 9A 9B{rest}\nM 2 03 00\nU 0 0{all}\nU 3 0 EE\nD ");
+        assert!(out.starts_with(&wanted), "{out}");
+        let (_, nothing) = played("U 0 256\n");
+        assert_eq!(nothing, format!("U 9 0{all}\nD adler32 40000001\n"));
     }
 
     /// Indexes and the reader stay at a reset with tables.

@@ -8,6 +8,7 @@ mod commands;
 mod host;
 mod line;
 mod message;
+mod modbus;
 mod panel;
 mod play;
 mod recorder;
