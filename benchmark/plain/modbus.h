@@ -33,11 +33,11 @@ static const uint16_t shifted[256] = {
     0x4400, 0x84C1, 0x8581, 0x4540, 0x8701, 0x47C0, 0x4680, 0x8641, 0x8201, 0x42C0, 0x4380, 0x8341, 0x4100, 0x81C1, 0x8081, 0x4040,
 };
 
-static uint16_t check_sum(const uint8_t *bytes, size_t length)
+static uint32_t check_sum(const uint8_t *bytes, size_t length)
 {
-    uint16_t sum = 0xFFFF;
+    uint32_t sum = 0xFFFF;
     for (size_t i = 0; i < length; i++)
-        sum = (uint16_t)(sum >> 8 ^ shifted[(sum ^ bytes[i]) & 0xFF]);
+        sum = sum >> 8 ^ shifted[(sum ^ bytes[i]) & 0xFF];
     return sum;
 }
 
@@ -79,6 +79,16 @@ static bool registers_end_by(unsigned first, unsigned quantity, unsigned end)
     return 2 * (first + quantity) <= end;
 }
 
+/* A register's high byte comes first in a frame, its low byte in memory. */
+static void copy_swapped(uint8_t *to, const uint8_t *from, unsigned quantity)
+{
+    for (; quantity > 0; quantity--, to += 2, from += 2) {
+        uint8_t first = from[0];
+        to[0] = from[1];
+        to[1] = first;
+    }
+}
+
 static size_t read_registers(const uint8_t *frame, size_t length, const uint8_t *memory, uint8_t *out)
 {
     unsigned first = word_at(frame + 2), quantity = word_at(frame + 4);
@@ -88,8 +98,7 @@ static size_t read_registers(const uint8_t *frame, size_t length, const uint8_t 
         return tell_exception(frame, EXCEPTION_ADDRESS, out);
     memcpy(out, frame, 2);
     out[2] = (uint8_t)(2 * quantity);
-    for (unsigned i = 0; i < 2 * quantity; i++)
-        out[3 + i] = memory[2 * first + (i ^ 1)];
+    copy_swapped(out + 3, memory + 2 * first, quantity);
     return finish_frame(out, 3 + 2 * quantity);
 }
 
@@ -117,8 +126,7 @@ static size_t write_registers(const uint8_t *frame, size_t length, uint8_t *memo
     unsigned first = word_at(frame + 2), quantity = word_at(frame + 4);
     if (!registers_end_by(first, quantity, VARIABLES_END))
         return tell_exception(frame, EXCEPTION_ADDRESS, out);
-    for (unsigned i = 0; i < 2 * quantity; i++)
-        memory[2 * first + i] = frame[7 + (i ^ 1)];
+    copy_swapped(memory + 2 * first, frame + 7, quantity);
     return tell_beginning(frame, 6, out);
 }
 
