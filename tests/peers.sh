@@ -21,7 +21,7 @@ start_gate $built/peers_gate.out
 # poll WORDS..: what mbpoll says of registers and of refusals, without what it says of itself.
 poll() {
     echo "mbpoll $*"
-    mbpoll -m rtu -b 19200 -P none -a 1 -0 -1 -q "$@" 2>&1 | sed -n 's/\t//; /^\[\|^Written\|failed:/p'
+    mbpoll -m rtu -b 19200 -P none -a 1 -o 3 -0 -1 -q "$@" 2>&1 | sed -n 's/\t//; /^\[\|^Written\|failed:/p'
 }
 
 # Registers 200 on, an input register, and one that cannot be written; the port's path stands before what is written.

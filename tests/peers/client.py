@@ -63,7 +63,7 @@ def be_refused(line):
 
 
 def main():
-    line = ModbusSerialClient(sys.argv[1], baudrate=19200, timeout=1, retries=0)
+    line = ModbusSerialClient(sys.argv[1], baudrate=19200, timeout=2, retries=0)
     line.connect()
     use_registers(line)
     use_most(line)
