@@ -4,11 +4,11 @@
 
 use crate::message::fast_length;
 use crate::modbus::Silence;
-use crate::play::{End, Panel, Standing, Watch};
 use crate::reachable::{
     BLOCKS, CALLS, FUNCTIONS, OTHER_FAST, OTHER_FUNCTION, OTHER_STANDARD, PANEL, PANEL_IN_MESSAGE,
     SERVED, SILENCES,
 };
+use crate::watch::{End, Panel, Standing, Watch};
 
 /// The functions that are not served.
 const OTHER: &str = "other";

@@ -23,6 +23,7 @@ mod script;
 mod tables;
 mod target;
 mod trigger;
+mod watch;
 mod wrong;
 
 #[cfg(test)]

@@ -18,6 +18,7 @@ mod script;
 mod tables;
 mod target;
 mod trigger;
+mod watch;
 
 use std::io::{self, BufWriter};
 use std::process::ExitCode;

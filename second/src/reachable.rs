@@ -6,7 +6,7 @@
 //! too much or too little shows as a pair too few or too many.
 
 use crate::modbus::Silence;
-use crate::play::{End, Panel, Standing};
+use crate::watch::{End, Panel, Standing};
 
 /// Commands served, and the statuses that can answer them.
 pub const SERVED: [(&[u8], &[u8]); 14] = [
