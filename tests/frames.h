@@ -90,9 +90,10 @@ static void add_request(struct frame *f)
 static struct frame random_frame(uint8_t station)
 {
     static const uint8_t functions[] = {READ_REGISTERS, WRITE_REGISTER, WRITE_REGISTERS, MASK_REGISTER};
-    struct frame f = {.bytes = {one_in(16) ? (uint8_t)(one_in(2) ? 0 : random_byte()) : station,
-                                one_in(8) ? random_byte() : functions[below(4)]},
-                      .length = 2};
+    struct frame f = {.bytes = {station}, .length = 2};
+    if (one_in(16))
+        f.bytes[0] = one_in(2) ? 0 : random_byte();
+    f.bytes[1] = one_in(8) ? random_byte() : functions[below(sizeof functions)];
     add_request(&f);
     finish_frame(&f);
     if (one_in(16))
