@@ -63,6 +63,11 @@ static void send_blocks(void)
         log_gate_block(state, sizeof state, message.wire + at, BLOCK, memory, sizeof memory, answer, sizeof answer);
 }
 
+static void send_in_one(void)
+{
+    log_gate_block(state, sizeof state, message.wire, message.length, memory, sizeof memory, answer, sizeof answer);
+}
+
 static void send_both(void)
 {
     send(&message, message.length);
@@ -429,6 +434,7 @@ static const struct bench_case {
     {"describe", 1, "0xC8, short description (3 bytes)", prepare_describe, send_whole},
     {"read", 1, "0xD0, read of 1 (5 bytes)", prepare_read, send_whole},
     {"read-8", 1, "the same, all set up", prepare_read_set_up, send_whole},
+    {"read-block", 1, "0xD0 in one block (5 bytes)", prepare_read, send_in_one},
     {"masked", 1, "0xE5, masked write of 1 (7 bytes)", prepare_masked, send_whole},
     {"block-read", 1, "0x01, read of 64 (7 bytes)", prepare_block_read, send_whole},
     {"block-write", 1, "0x02, write of 59 (66 bytes)", prepare_block_write, send_whole},

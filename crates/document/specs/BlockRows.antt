@@ -42,5 +42,5 @@ blockRows =
     ∷ row 132 "2BC1" 2 0
     ∷ row 132 "" 0 0
     -- "writes the answers one behind another"
-    ∷ line (blockAfter ready 200 (hex "2BC13F 7F 2BC33D 2BC1") .written) (hex "2B8878 2B8878")
+    ∷ line (blockAfter ready 200 (hex "2BC13F 7F 2B7F0081 2BC1") .written) (hex "2B8878 2B817F")
     ∷ []
