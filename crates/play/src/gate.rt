@@ -1,9 +1,11 @@
-// The orders to the gate: bytes over the wire, ticks, what its own program does, and a look at its memory.
+// The orders to the gate: bytes over the wire, ticks, what its own program and its panel do, and a look at its memory.
 ghost use Prim.Native.Nat.{_≤_};
 ghost use lib.ListN.{length};
 ghost use Rattle.play.specs.Bounds.{Bounded};
 use crate::lengths::WIDEST;
 use crate::order::Order;
+use crate::panel::prepare;
+use crate::panel::start;
 use crate::program::collect;
 use crate::program::register;
 use crate::program::report;
@@ -121,7 +123,7 @@ fn put_part(start: usize, end: usize, memory: &[u8], out: &mut [u8; 65536], at: 
     put(b'\n', out, shown)
 }
 
-// An order that begins with B, K, T, P, C, Y, G or M; `first` is how many bytes the gate was given before. Where the output ends.
+// An order that begins with B, K, T, P, C, Y, G, F, S or M; `first` is how many bytes the gate was given before. Where the output ends.
 pub fn carry_out(
     order: Order,
     first: u64,
@@ -148,6 +150,8 @@ pub fn carry_out(
         b'C' => collect(order.wide, state, out, at),
         b'Y' => report(order.code, state, out, at),
         b'G' => register(bytes, state, memory, out, at),
+        b'F' => prepare(bytes, state, out, at),
+        b'S' => start(state, out, at),
         _ => put_part(order.start, order.end, memory, out, at),
     }
 }

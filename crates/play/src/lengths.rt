@@ -4,6 +4,9 @@ pub const LENT: usize = 600;
 // The most room that a script can lend to a block.
 pub const BLOCK_LENT: usize = 2000;
 
+// The most bytes that a script can have the panel give.
+pub const SETUP: usize = 255;
+
 // A room, an address or a size that has no limit of its own.
 pub const WIDEST: usize = 65535;
 

@@ -4,6 +4,7 @@ mod complaint;
 mod gate;
 mod lengths;
 mod order;
+mod panel;
 mod play;
 mod program;
 mod shown;

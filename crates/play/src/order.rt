@@ -7,11 +7,13 @@ use crate::complaint::NUMBER;
 use crate::complaint::OPERATION;
 use crate::complaint::RANGE;
 use crate::complaint::ROOM;
+use crate::complaint::SETUP_LENGTH;
 use crate::complaint::SURPLUS;
 use crate::complaint::WIDE;
 use crate::lengths::BLOCK_LENT;
 use crate::lengths::BYTES;
 use crate::lengths::LENT;
+use crate::lengths::SETUP;
 use crate::lengths::WIDEST;
 use crate::tables::read_tables;
 use log_gate::LOG_GATE_MEMORY;
@@ -174,6 +176,29 @@ fn with_result(order: Order, line: &[u8], from: usize) -> Order
     coded
 }
 
+// `F hh ..`
+fn with_setup(order: Order, line: &[u8], from: usize, bytes: &mut [u8; BYTES]) -> Order
+    requires { ⌜ Bounded order ⌝ }
+    ensures { λ r. ⌜ Bounded r ⌝ }
+{
+    let given = with_bytes(order, line, from, bytes);
+    if given.count > SETUP {
+        return refused(SETUP_LENGTH);
+    }
+    given
+}
+
+// `S`
+fn with_nothing(order: Order, line: &[u8], from: usize) -> Order
+    requires { ⌜ Bounded order ⌝ }
+    ensures { λ r. ⌜ Bounded r ⌝ }
+{
+    if !is_over(line, from) {
+        return refused(SURPLUS);
+    }
+    order
+}
+
 // `G addr size ..`
 fn with_tables(order: Order, line: &[u8], from: usize, bytes: &mut [u8; BYTES]) -> Order
     requires { ⌜ Bounded order ⌝ }
@@ -249,6 +274,8 @@ fn with_operands(letter: u8, line: &[u8], from: usize, bytes: &mut [u8; BYTES]) 
         b'C' => with_wide(order, line, from),
         b'Y' => with_result(order, line, from),
         b'G' => with_tables(order, line, from, bytes),
+        b'F' => with_setup(order, line, from, bytes),
+        b'S' => with_nothing(order, line, from),
         b'M' => with_look(order, line, from),
         _ => refused(OPERATION),
     }

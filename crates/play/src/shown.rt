@@ -1,9 +1,11 @@
 // What a call did, as a line of the output shows it.
 use block_call::BlockTaken;
 use line::Written;
+use panel_calls::Said;
 use script::output::put;
 use script::output::put_bytes;
 use script::output::put_decimal;
+use script::output::put_hex;
 
 // Every lent buffer is filled so before a call, so that what a call leaves can be seen.
 pub const FILLING: u8 = 0xEE;
@@ -18,6 +20,14 @@ fn put_number(letter: u8, refusal: u8, out: &mut [u8; 65536], at: usize) -> usiz
 pub fn put_refusal(letter: u8, refusal: u8, out: &mut [u8; 65536], at: usize) -> usize {
     let numbered = put_number(letter, refusal, out, at);
     put(b'\n', out, numbered)
+}
+
+// The status in hex: the panel is refused as little as a byte.
+pub fn put_said(letter: u8, said: Said, out: &mut [u8; 65536], at: usize) -> usize {
+    let named = put(letter, out, at);
+    let parted = put(b' ', out, named);
+    let told = put_hex(said.status, out, parted);
+    put(b'\n', out, told)
 }
 
 // The number, how many bytes of a block were taken and how many written, and the whole lent buffer.
