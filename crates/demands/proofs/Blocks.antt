@@ -55,7 +55,7 @@ module _ (h : House) (s : Since) (r : Reached h s) (bytes : List ℕ) (all : All
 
   -- a walk begins at the house
   begun-here : houseAt h (begun (decoded (h .block)) (h .memory) (c .buffer)) ≡ h
-  begun-here = λ j. record { block = r .stored j; memory = h .memory; answers = append-nil (h .answers) j; commands = h .commands }
+  begun-here = λ j. record { block = r .stored j; memory = h .memory; answers = append-nil (h .answers) j; commands = h .commands; modbus-answers = h .modbus-answers }
 
   goes : Goes h (begun (decoded (h .block)) (h .memory) (c .buffer)) (walked (begun (decoded (h .block)) (h .memory) (c .buffer)) bytes) bytes (blockAfter s (length (c .buffer)) bytes)
   goes =
@@ -91,7 +91,7 @@ module _ (h : House) (s : Since) (r : Reached h s) (bytes : List ℕ) (all : All
       all-back (h .block) (c .state) (c .after) (sets (h .block) 0 (encoded (end .next))) lent after (length-sets (h .block) 0 (encoded (end .next))) in
       let memory : handedBack (h .memory) (c .memory) (c .left) ≡ end .memory =
       all-back (h .memory) (c .memory) (c .left) (end .memory) lent-memory left (keeps .memory-part .size ∙ sym (r .within .memory-part .size)) in
-      c .house ∙ (λ j. record { block = block j; memory = memory j; answers = h .answers ++ take (result-is j .written) (told-is j); commands = h .commands })
+      c .house ∙ (λ j. record { block = block j; memory = memory j; answers = h .answers ++ take (result-is j .written) (told-is j); commands = h .commands; modbus-answers = h .modbus-answers })
 
   taken-is : c .result .taken ≡ blockAfter s (length (c .buffer)) bytes .taken
   taken-is = ap (λ (k : BlockTaken). k .taken) result-is ∙ goes .taken ∙ zero-add _

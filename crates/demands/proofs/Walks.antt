@@ -81,6 +81,7 @@ module _ (h : House) (s : Since) (r : Reached h s) (b : ℕ) (small : b < 256) (
             memory = sym (whole-back (h .memory) (whole (h .memory)) (u .memory) (ap length (lends-all (h .memory))) memory-size) j;
             answers = h .answers ++ take (u .length) (u .buffer);
             commands = h .commands;
+            modbus-answers = h .modbus-answers;
           };
     },
     refl,
@@ -97,6 +98,7 @@ houseAt first w =
       memory = w .memory;
       answers = first .answers ++ take (w .written) (w .buffer);
       commands = first .commands;
+      modbus-answers = first .modbus-answers;
     }
 
 longer : (xs : List ℕ) (n : ℕ) → suc (length xs) + n ≡ suc (length xs + n)
@@ -148,7 +150,7 @@ module _ (first : House) (w : Walk) (long : stateLength ≤ length (first .block
         ap (λ (t : Target). (first .answers ++ take (w .written) (w .buffer)) ++ take (turn t b (w .memory) rest .length) (turn t b (w .memory) rest .buffer)) there
         ∙ append-assoc (first .answers) (take (w .written) (w .buffer)) (take (v .length) (v .buffer))
         ∙ ap (λ (l : List ℕ). first .answers ++ l) (sym sent) in
-        λ j. record { block = block j; memory = turn (there j) b (w .memory) rest .memory; answers = answers j; commands = first .commands }
+        λ j. record { block = block j; memory = turn (there j) b (w .memory) rest .memory; answers = answers j; commands = first .commands; modbus-answers = first .modbus-answers }
 
     module _ (s : Since) (r : Reached (houseAt first w) s) (enough : answerRoom ≤ room w) where
       rest-size : answerRoom ≤ length (drop (w .written) (w .buffer))

@@ -15,6 +15,7 @@ pub record OnlyCommand (h next : House) : Type 0 where
   pub tables : decoded (next .block) .instruments .tables ≡ decoded (h .block) .instruments .tables
   pub memory : next .memory ≡ h .memory
   pub answers : next .answers ≡ h .answers
+  pub modbus-answers : next .modbus-answers ≡ h .modbus-answers
 
 -- this was answered, and the gate is as it was
 pub record OnlySaid (a : Answer) (h next : House) : Type 0 where

@@ -4,7 +4,8 @@ use mathlib.Core.Bool.{false}
 use mathlib.Core.List.{List, [], _∷_, _++_}
 use Prim.Native.Nat.{ℕ}
 use lib.ListN.{length, drop}
-use Rattle.document.specs.Areas.{bufferBegin, memoryEnd}
+use lib.Seq.{drop-drop}
+use Rattle.document.specs.Areas.{variablesEnd, bufferBegin, memoryEnd}
 use Rattle.document.specs.Message.{Message, finishedBy}
 use Rattle.document.specs.Stores.{stored}
 use Rattle.document.specs.Plan.{Plan}
@@ -14,9 +15,10 @@ use Rattle.document.specs.Recorder.Recorder.{planned}
 use Rattle.document.specs.Gate.{Gate}
 use Rattle.document.specs.Commands.{answered}
 use Rattle.document.specs.Panel.{panelPrepares, panelStarts}
+use Rattle.document.specs.Modbus.{modbusMemory}
 use Rattle.document.specs.Happenings.{Happening, Since, told, after, afterAll}
 use Rattle.document.specs.Asides.{Aside, beside}
-use Rattle.document.specs.Asides.Aside.{tick, writes, collects, reports, prepares, starts as starting}
+use Rattle.document.specs.Asides.Aside.{tick, writes, collects, reports, prepares, starts as starting, frames}
 use Rattle.document.specs.Happenings.Happening.{byte, aside}
 use Rattle.document.proofs.Cases.{split}
 use Rattle.memory.proofs.Copies.{stored-length}
@@ -24,6 +26,7 @@ use Rattle.history.specs.History.{Event, Recording, AllLeaveBuffer}
 use Rattle.history.specs.History as history
 use Rattle.outcomes.specs.Starts.{starts, stops}
 use Rattle.outcomes.proofs.Recording.{stop-stops, others-pass}
+use Rattle.second_port.proofs.Kept.{frame-keeps-rest, frame-keeps-length}
 use Rattle.happenings.specs.Recording.{eventsOf, eventsBeside, eventsAt, events, NoStart, Unstarted, AllUnstarted, NothingNew, Undisturbed, AllUndisturbed}
 use Rattle.happenings.proofs.Recording.{message-leaves, ticked-length}
 use Rattle.happenings.proofs.Panel.{prepare-refused, start-passes}
@@ -33,6 +36,12 @@ pub record Follows (p : Plan) (gate : Gate) (g : Recording) : Type 0 where
   pub recorder : gate .recorder ≡ planned p (g .run)
   pub memory : gate .memory ≡ g .memory
   pub size : length (gate .memory) ≡ memoryEnd
+
+-- a frame leaves what lies behind the variables, and so the buffer
+frame-leaves : (station : ℕ) (frame memory : List ℕ) → drop bufferBegin (modbusMemory station frame memory) ≡ drop bufferBegin memory
+frame-leaves station frame memory =
+    let behind : (l : List ℕ) → drop bufferBegin l ≡ drop 4096 (drop variablesEnd l) = λ l. sym (drop-drop 4096 variablesEnd l) in
+    behind (modbusMemory station frame memory) ∙ ap (drop 4096) (frame-keeps-rest station frame memory) ∙ sym (behind memory)
 
 module _ (p : Plan) where
   -- what is left; and that the buffer is, where nobody disturbs it
@@ -109,6 +118,12 @@ module _ (p : Plan) where
         record { follows = record { recorder = f .recorder; memory = f .memory; size = f .size }; leaves = λ quiet. tt }
     followed-beside (prepares setup) old = followed-same (panelPrepares (s .gate) setup .gate) (prepare-refused (s .gate) setup old)
     followed-beside starting old = followed-same (panelStarts (s .gate) .gate) (start-passes (s .gate) old)
+    followed-beside (frames station frame) old =
+        let size : length (modbusMemory station frame (s .gate .memory)) ≡ memoryEnd = frame-keeps-length station frame (s .gate .memory) ∙ f .size in
+        record {
+          follows = record { recorder = f .recorder; memory = refl; size = size };
+          leaves = λ quiet. ((size, frame-leaves station frame (s .gate .memory) ∙ ap (drop bufferBegin) (f .memory)), tt);
+        }
 
   -- ---- one after the other
   after-append : (es fs : List Event) (g : Recording) → history.after p g (es ++ fs) ≡ history.after p (history.after p g es) fs
