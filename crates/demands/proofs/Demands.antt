@@ -16,6 +16,7 @@ use lib.Dec.{ltb}
 use lib.ListN.{length, drop}
 use Rattle.document.specs.Numbers.{mostData, answerRoom, taken, done, busy, sumWrong}
 use Rattle.document.specs.Bytes.{AllBytes}
+use Rattle.document.specs.Areas.{variablesEnd}
 use Rattle.document.specs.Message.{Message, sumRight, wellFormed, onWire, finishedBy}
 use Rattle.document.specs.Answer.{Answer}
 use Rattle.document.specs.AnswerWriter.{answerRefusal}
@@ -51,7 +52,7 @@ use Rattle.blocks.specs.Places.{stateLength}
 use Rattle.blocks.specs.Layout.{decoded}
 use Rattle.checks.specs.Promises.{ResetDone, Checked}
 use Rattle.happenings.specs.Applying.{sends, sentOf, waitingIn, unrefusedSoFar, AllUnreported}
-use Rattle.happenings.specs.Ports.{modbusOf}
+use Rattle.happenings.specs.Ports.{modbusOf, withoutFrames, found, withoutService, shared, calibrationIn}
 use Rattle.happenings.proofs.Blocks.{block-stops}
 use Rattle.happenings.proofs.Tables.{tables-kept}
 use Rattle.happenings.proofs.Applying.{while-pending, between, handed-out-from-reset}
@@ -89,8 +90,9 @@ use Rattle.demands.proofs.Recorded.{recorded}
 use Rattle.demands.specs.Applying.{OnlyCommand, OnlySaid}
 use Rattle.demands.proofs.Applying.{run-hands, only-said, sent-waits}
 use Rattle.demands.proofs.Recorder.{start-begun, panel-begun, panel-prepared, tick-touches, run-fires, run-stops}
-use Rattle.demands.specs.Ports.{OnlyVariables}
+use Rattle.demands.specs.Ports.{OnlyVariables, SinceReset, SameService}
 use Rattle.demands.proofs.Ports.{run-answers}
+use Rattle.demands.proofs.Independent.{service-runs, modbus-runs}
 use Rattle.demands.proofs.Readings as readings
 
 -- ---- Demand 1: "The line may bring anything at any moment without a fault. No entry relies on its caller. Each refusal has one
@@ -394,6 +396,23 @@ module _ (block memory : List ℕ) (tables : List Table) (after : List ℕ) (lon
   command-pending hs last more on quiet pending =
       ap (λ (g : Gate). isPending (g .application)) (reached-run h last hs on reached more there .stands .gate)
       ∙ between hs reached (ap (λ (g : Gate). isPending (g .application)) (sym (there .stands .gate)) ∙ pending) quiet
+
+-- ---- Two ports, one memory (2026-07): two runs since reset, with the same tables, of which one or both may have traffic on the other port
+
+module _ (tables : List Table) (memory memory′ : List ℕ) (hs ks : List Happening) (h k : House)
+    (one : SinceReset tables memory hs h) (other : SinceReset tables memory′ ks k) where
+  -- "an answer on the service port depends on Modbus traffic only through bytes 0 to 8,191 as commands, ticks and registering found them":
+  -- leave the frames out of both and let the same happen; if finished commands and ticks find the same bytes there, one after the
+  -- other, then the service port says the same, and all is the same but those bytes. At every moment, since a beginning of a run is one
+  pub service-independent : drop variablesEnd memory ≡ drop variablesEnd memory′ → withoutFrames hs ≡ withoutFrames ks
+      → found (since (gate tables memory)) hs ≡ found (since (gate tables memory′)) ks → SameService h k
+  service-independent = service-runs tables memory memory′ hs ks h k one other
+
+  -- "a Modbus answer depends on service traffic only through those bytes and the recorder buffer": leave out of both all but the frames
+  -- and what the gate's own program writes; if the frames find the same variables and the same buffer, they get the same answers
+  pub modbus-independent : calibrationIn memory ≡ calibrationIn memory′ → withoutService hs ≡ withoutService ks
+      → shared (since (gate tables memory)) hs ≡ shared (since (gate tables memory′)) ks → h .modbus-answers ≡ k .modbus-answers
+  modbus-independent = modbus-runs tables memory memory′ hs ks h k one other
 
 -- ".. with a right sum ..": of a message whose sum is wrong the definition carries nothing out, it says 0x82 and leaves the gate
 pub demand-3-sum : (g : Gate) (m : Message) → sumRight m ≡ false → answered g m ≡ says g sumWrong []

@@ -14,5 +14,6 @@ pub mod Recorder
 pub mod Applying
 pub mod Blocks
 pub mod Ports
+pub mod Independent
 pub mod Readings
 pub mod Demands

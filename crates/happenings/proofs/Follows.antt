@@ -4,8 +4,7 @@ use mathlib.Core.Bool.{false}
 use mathlib.Core.List.{List, [], _∷_, _++_}
 use Prim.Native.Nat.{ℕ}
 use lib.ListN.{length, drop}
-use lib.Seq.{drop-drop}
-use Rattle.document.specs.Areas.{variablesEnd, bufferBegin, memoryEnd}
+use Rattle.document.specs.Areas.{bufferBegin, memoryEnd}
 use Rattle.document.specs.Message.{Message, finishedBy}
 use Rattle.document.specs.Stores.{stored}
 use Rattle.document.specs.Plan.{Plan}
@@ -28,7 +27,7 @@ use Rattle.outcomes.specs.Starts.{starts, stops}
 use Rattle.outcomes.proofs.Recording.{stop-stops, others-pass}
 use Rattle.second_port.proofs.Kept.{frame-keeps-rest, frame-keeps-length}
 use Rattle.happenings.specs.Recording.{eventsOf, eventsBeside, eventsAt, events, NoStart, Unstarted, AllUnstarted, NothingNew, Undisturbed, AllUndisturbed}
-use Rattle.happenings.proofs.Recording.{message-leaves, ticked-length}
+use Rattle.happenings.proofs.Recording.{buffer-left, message-leaves, ticked-length}
 use Rattle.happenings.proofs.Panel.{prepare-refused, start-passes}
 
 -- the gate's recorder has this plan, and goes through this history
@@ -36,12 +35,6 @@ pub record Follows (p : Plan) (gate : Gate) (g : Recording) : Type 0 where
   pub recorder : gate .recorder ≡ planned p (g .run)
   pub memory : gate .memory ≡ g .memory
   pub size : length (gate .memory) ≡ memoryEnd
-
--- a frame leaves what lies behind the variables, and so the buffer
-frame-leaves : (station : ℕ) (frame memory : List ℕ) → drop bufferBegin (modbusMemory station frame memory) ≡ drop bufferBegin memory
-frame-leaves station frame memory =
-    let behind : (l : List ℕ) → drop bufferBegin l ≡ drop 4096 (drop variablesEnd l) = λ l. sym (drop-drop 4096 variablesEnd l) in
-    behind (modbusMemory station frame memory) ∙ ap (drop 4096) (frame-keeps-rest station frame memory) ∙ sym (behind memory)
 
 module _ (p : Plan) where
   -- what is left; and that the buffer is, where nobody disturbs it
@@ -61,11 +54,13 @@ module _ (p : Plan) where
         leaves = λ quiet. (tt, tt);
       }))
       (λ n.
-      let left = message-leaves gate m (f .size) in
+      let left = message-leaves gate m in
+      let size : length (answered gate m .gate .memory) ≡ memoryEnd = left .0 ∙ f .size in
+      let buffer = buffer-left (answered gate m .gate .memory) (gate .memory) (left .1) in
       rw n
       (record {
-        follows = record { recorder = others-pass gate m p (g .run) (f .recorder) no-start n; memory = refl; size = left .0 };
-        leaves = λ quiet. ((left .0, left .1 ∙ ap (drop bufferBegin) (f .memory)), tt);
+        follows = record { recorder = others-pass gate m p (g .run) (f .recorder) no-start n; memory = refl; size = size };
+        leaves = λ quiet. ((size, buffer ∙ ap (drop bufferBegin) (f .memory)), tt);
       }))
 
   module _ (s : Since) (g : Recording) (f : Follows p (s .gate) g) where
@@ -120,9 +115,10 @@ module _ (p : Plan) where
     followed-beside starting old = followed-same (panelStarts (s .gate) .gate) (start-passes (s .gate) old)
     followed-beside (frames station frame) old =
         let size : length (modbusMemory station frame (s .gate .memory)) ≡ memoryEnd = frame-keeps-length station frame (s .gate .memory) ∙ f .size in
+        let buffer = buffer-left (modbusMemory station frame (s .gate .memory)) (s .gate .memory) (frame-keeps-rest station frame (s .gate .memory)) in
         record {
           follows = record { recorder = f .recorder; memory = refl; size = size };
-          leaves = λ quiet. ((size, frame-leaves station frame (s .gate .memory) ∙ ap (drop bufferBegin) (f .memory)), tt);
+          leaves = λ quiet. ((size, buffer ∙ ap (drop bufferBegin) (f .memory)), tt);
         }
 
   -- ---- one after the other

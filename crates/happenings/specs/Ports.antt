@@ -2,9 +2,9 @@
 use mathlib.Core.Path.{_≡_}
 use mathlib.Core.Bool.{Bool, true, false, cond}
 use mathlib.Core.List.{List, [], _∷_, _++_}
-use Prim.Native.Nat.{ℕ}
+use Prim.Native.Nat.{ℕ, _-_}
 use lib.ListN.{take, drop}
-use Rattle.document.specs.Areas.{variablesEnd, bufferBegin}
+use Rattle.document.specs.Areas.{variablesEnd, calibrationEnd, bufferBegin, bytesAt}
 use Rattle.document.specs.Message.{Message, finishedBy}
 use Rattle.document.specs.Answer.{Answer}
 use Rattle.document.specs.Gate.{Gate}
@@ -123,4 +123,4 @@ shared s (h ∷ hs) = sharedAt s h ++ shared (after s h) hs
 
 -- "8,192 to 12,287 calibration": neither port writes it
 abbrev pub calibrationIn : List ℕ → List ℕ
-calibrationIn memory = drop variablesEnd (take bufferBegin memory)
+calibrationIn memory = bytesAt memory variablesEnd (calibrationEnd - variablesEnd)
