@@ -2,22 +2,21 @@
 use mathlib.Core.Path.{_≡_, refl, sym, ap, subst, _∙_}
 use mathlib.Core.Bool.{true}
 use mathlib.Core.List.{List, [], _∷_, _++_, append-nil, append-assoc}
-use Prim.Native.Nat.{ℕ, _<_}
+use Prim.Native.Nat.{ℕ}
 use Rattle.document.specs.Message.{Message, finishedBy}
-use Rattle.document.specs.Answer.{Answer, answerOnWire}
-use Rattle.document.specs.Application.{isPending}
+use Rattle.document.specs.Answer.{answerOnWire}
 use Rattle.document.specs.Application.Application.{waiting}
 use Rattle.document.specs.Gate.{Gate, Outcome, says}
 use Rattle.document.specs.Commands.{answered}
 use Rattle.document.specs.Asides.{Aside}
 use Rattle.document.specs.Asides.Aside.{tick, writes, collects, reports, prepares, starts, frames}
-use Rattle.document.specs.Happenings.{Happening, Since, told, after, afterAll}
+use Rattle.document.specs.Happenings.{Happening, Since, told, after}
 use Rattle.document.specs.Happenings.Happening.{byte, aside}
 use Rattle.document.specs.Blocks.{answersOnWire}
 use Rattle.happenings.proofs.Blocks.{wire-one}
 use Rattle.happenings.specs.Bytes.{IsBytes, AreBytes}
-use Rattle.happenings.specs.Applying.{sends, waitingIn, handedBeside, handedAt, handedOut, AllUnreported}
-use Rattle.happenings.proofs.Applying.{application-after, between}
+use Rattle.happenings.specs.Applying.{sends, waitingIn, handedBeside, handedAt, handedOut}
+use Rattle.happenings.proofs.Applying.{application-after}
 use Rattle.demands.specs.House.{House, gateIn}
 use Rattle.demands.specs.Run.{Step, Singly}
 use Rattle.demands.specs.Run.Singly.{ends, happens, refuses}

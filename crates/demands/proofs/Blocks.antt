@@ -1,7 +1,7 @@
 -- A block is its bytes, given singly: a run in which bytes come in blocks is one in which each comes by a call of its own.
-use mathlib.Core.Path.{_≡_, refl, sym, ap, subst, _∙_}
-use mathlib.Core.List.{List, [], _∷_, _++_, map, append-nil}
-use Prim.Native.Nat.{ℕ, zero, suc, _+_}
+use mathlib.Core.Path.{_≡_, sym, ap, subst, _∙_}
+use mathlib.Core.List.{List, [], _∷_, _++_, append-nil}
+use Prim.Native.Nat.{ℕ, zero, suc}
 use native.Mathlib.Nat.{zero-add, sub-zero}
 use native.Mathlib.Omega.{arith}
 use lib.ListN.{length, take, drop}
@@ -9,7 +9,6 @@ use lib.Seq.{sets, length-sets}
 use Rattle.document.specs.Numbers.{taken}
 use Rattle.document.specs.Bytes.{AllBytes}
 use Rattle.document.specs.Happenings.{Happening, Since, after, afterAll}
-use Rattle.document.specs.Happenings.Happening.{byte}
 use Rattle.document.specs.Blocks.{blockAfter}
 use Rattle.happenings.specs.Bytes.{AreBytes}
 use Rattle.happenings.proofs.Blocks.{block-came}

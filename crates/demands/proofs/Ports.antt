@@ -1,6 +1,6 @@
 -- The second port along a run: what it answered.
 use mathlib.Core.Path.{_≡_, sym, ap, subst, _∙_}
-use mathlib.Core.List.{List, [], _∷_, _++_, append-nil, append-assoc}
+use mathlib.Core.List.{List, [], _++_, append-nil, append-assoc}
 use Prim.Native.Nat.{ℕ}
 use Rattle.document.specs.Gate.{Gate}
 use Rattle.document.specs.Modbus.{modbusAnswer}

@@ -1,20 +1,19 @@
 -- A refused call leaves all as it was, and only the document's table refuses on the wire.
 use mathlib.Core.Path.{_≡_, refl, sym, ap, _∙_}
-use mathlib.Core.Bool.{Bool, true, false, cond, false≢true}
+use mathlib.Core.Bool.{Bool, false, cond, false≢true}
 use mathlib.Core.List.{List, []}
-use Prim.Native.Nat.{ℕ, _<_}
-use native.Mathlib.Omega.{arith}
+use Prim.Native.Nat.{ℕ}
 use borrow.Author.Tests.{eqb-true, ne-eqb}
 use lib.Dec.{eqb, leb}
 use lib.ListN.{length}
 use lib.Seq.{sets}
-use Rattle.document.specs.Numbers.{taken, stateRefused, done, sumWrong, isError}
+use Rattle.document.specs.Numbers.{taken, stateRefused, done, sumWrong}
 use Rattle.document.specs.Message.{Message, sumRight}
 use Rattle.document.specs.Recorder.{tickedMemory}
 use Rattle.document.specs.Application.{Application, newCommand, collectBuffer}
 use Rattle.line.specs.declared.Written.{Written}
 use Rattle.application.specs.State.{applicationOf}
-use Rattle.document.specs.Gate.{Gate, Outcome, says}
+use Rattle.document.specs.Gate.{Gate, says}
 use Rattle.document.specs.Refusals.{refusal}
 use Rattle.document.specs.Commands.{answered}
 use Rattle.document.specs.Panel.{panelPrepares, panelStarts}

@@ -70,7 +70,7 @@ use Rattle.demands.specs.Applying.{OnlyCommand}
 use Rattle.demands.specs.Recorder.{OnlyRecorder}
 use Rattle.demands.specs.Ports.{OnlyVariables}
 use Rattle.demands.proofs.Served.{servedByte, servedTick, servedCollect, servedReport, servedPanel, servedFrame, servedBeside, refused-kept, room-lent, step-byte, step-collect, step-report, report-fits, step-prepare, step-start, step-frame, step-beside}
-use Rattle.demands.proofs.Turns.{gateAfter, TurnStands, turn-stands}
+use Rattle.demands.proofs.Turns.{gateAfter, turn-stands}
 
 -- ---- what comes over the line is bytes
 line-bytes : (hs : List Happening) → AreBytes hs → AllBytes (bytesOf hs)

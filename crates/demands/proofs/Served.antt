@@ -1,11 +1,11 @@
 -- One step of a run: a call that is taken leaves what its definition gives, with the buffer that it was lent; a call that is refused
 -- leaves all as it was.
 use mathlib.Core.Path.{_≡_, refl, sym, ap, subst, _∙_}
-use mathlib.Core.Bool.{Bool, true}
+use mathlib.Core.Bool.{true}
 use mathlib.Core.List.{List, [], _∷_, _++_, append-nil}
 use Prim.Native.Nat.{ℕ, suc, _<_, _≤_}
 use native.Mathlib.Omega.{arith}
-use borrow.Author.Tests.{eq-eqb, ne-eqb, le-leb, le-ltb}
+use borrow.Author.Tests.{eq-eqb, ne-eqb, le-ltb}
 use lib.ListN.{length, take}
 use lib.Seq.{sets, length-sets}
 use Rattle.document.specs.Areas.{memoryEnd}
@@ -16,7 +16,7 @@ use Rattle.document.specs.Recorder.{tickedMemory}
 use Rattle.document.specs.Asides.{Aside}
 use Rattle.document.specs.Asides.Aside.{tick, writes, collects, reports, prepares, starts, frames}
 use Rattle.document.specs.Panel.{panelPrepares, panelStarts}
-use Rattle.document.specs.Frames.{stationIn, isSilenced}
+use Rattle.document.specs.Frames.{isSilenced}
 use Rattle.document.specs.Modbus.{functionIn, exceptionTo, answerTo, modbusAnswer, modbusMemory, modbusRoom, modbusRefusal, modbusBuffer}
 use Rattle.document.proofs.Cases.{split}
 use Rattle.line.proofs.Left.{sets-front}
@@ -34,20 +34,18 @@ use Rattle.blocks.specs.Layout.{decodedApplication, decoded, encoded}
 use Rattle.checks.specs.Promises.{blockSound, byteNumber, tickNumber, collectNumber, reportNumber, panelNumber}
 use Rattle.checks.proofs.Numbers.{tick-known, byte-known}
 use Rattle.checks.proofs.ApplicationNumbers.{collect-known, report-known}
-use Rattle.checks.proofs.Settled.{block-known, long-decides}
+use Rattle.checks.proofs.Settled.{long-decides}
 use Rattle.target.specs.Turn.{Turn, turn}
 use Rattle.target.proofs.Keeps.{byte-keeps}
-use Rattle.tick_call.specs.Promises.{tickedTarget, TickTaken}
+use Rattle.tick_call.specs.Promises.{tickedTarget}
 use Rattle.application_calls.specs.Promises.{collectedTarget, reportedTarget}
 use Rattle.modbus.proofs.Sealed.{sealed-length}
 use Rattle.modbus.proofs.Responses.{answer-short}
 use Rattle.modbus.proofs.Answers.{lent-right}
 use Rattle.second_port.proofs.Kept.{frame-keeps-length}
-use Rattle.line.specs.declared.Written.{Written}
 use Rattle.panel_calls.specs.declared.Said.{Said}
 use Rattle.panel_calls.specs.Promises.{givenNext, recorderChanged, preparedTarget, startedTarget}
 use Rattle.byte_call.specs.declared.Taken.{Taken}
-use Rattle.byte_call.specs.Promises.{ByteTaken}
 use Rattle.demands.specs.House.{House, gateIn}
 use Rattle.demands.specs.Lent.{Piece, lends, handedBack}
 use Rattle.demands.specs.Run.{handedOut, ByByte, ByBlock, ByTick, ByCollect, ByReport, ByPrepare, ByStart, ByModbus, ByRegister, Beside, Refused, Ready}

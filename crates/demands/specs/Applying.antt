@@ -1,7 +1,6 @@
 -- Application commands (2026-01) along a run of the calls that are linked into a gate.
 use mathlib.Core.Path.{_≡_}
-use mathlib.Core.List.{List, _++_}
-use Prim.Native.Nat.{ℕ}
+use mathlib.Core.List.{_++_}
 use Rattle.document.specs.Answer.{Answer, answerOnWire}
 use Rattle.blocks.specs.Layout.{decoded}
 use Rattle.demands.specs.House.{House, gateIn}

@@ -3,7 +3,7 @@
 use mathlib.Core.Path.{_≡_, refl, sym, ap, _∙_}
 use mathlib.Core.Bool.{cond}
 use mathlib.Core.List.{List, [], _∷_, _++_}
-use Prim.Native.Nat.{ℕ, _+_, _*_, _-_}
+use Prim.Native.Nat.{ℕ, _-_}
 use native.Mathlib.Omega.{arith}
 use lib.Dec.{eqb}
 use lib.ListN.{take, drop, take-append-drop}
@@ -16,7 +16,7 @@ use Rattle.document.specs.Recorder.Recorder.{absent, planned}
 use Rattle.document.specs.Gate.{Gate, withMemory}
 use Rattle.document.specs.Commands.{answered}
 use Rattle.document.specs.Modbus.{modbusAnswer, modbusMemory}
-use Rattle.document.specs.Asides.{Aside, beside}
+use Rattle.document.specs.Asides.{beside}
 use Rattle.document.specs.Asides.Aside.{tick, writes, collects, reports, prepares, starts, frames}
 use Rattle.document.specs.Happenings.{Happening, Since, told, after}
 use Rattle.document.specs.Happenings.Happening.{byte, aside}

@@ -1,7 +1,7 @@
 -- "an answer on the service port depends on Modbus traffic only through bytes 0 to 8,191 as commands, ticks and registering found them":
 -- what happens to the service port can be replayed without the frames, from what was found alone.
 use mathlib.Core.Path.{_≡_, refl, sym, ap, subst, _∙_}
-use mathlib.Core.Bool.{Bool, true, false, cond}
+use mathlib.Core.Bool.{false, cond}
 use mathlib.Core.List.{List, [], _∷_, _++_}
 use Prim.Native.Nat.{ℕ}
 use lib.Dec.{eqb}
@@ -9,14 +9,14 @@ use lib.ListN.{take, drop, take-append-drop}
 use Rattle.document.specs.Areas.{variablesEnd}
 use Rattle.document.specs.Numbers.{done}
 use Rattle.document.specs.Message.{Message, finishedBy}
-use Rattle.document.specs.Application.{Application, afterCollect, afterReport}
+use Rattle.document.specs.Application.{afterCollect, afterReport}
 use Rattle.document.specs.Recorder.{Recorder, recorderStarted}
 use Rattle.document.specs.Gate.{Gate, withMemory, withRecorder}
 use Rattle.document.specs.Refusals.{firstOf, recorderLines}
 use Rattle.document.specs.Panel.{prepareLines, panelPrepares, panelStarts}
 use Rattle.document.specs.Asides.{Aside, beside}
 use Rattle.document.specs.Asides.Aside.{tick, writes, collects, reports, prepares, starts, frames}
-use Rattle.document.specs.Happenings.{Happening, Since, told, after, afterAll}
+use Rattle.document.specs.Happenings.{Happening, Since, after, afterAll}
 use Rattle.document.specs.Happenings.Happening.{byte, aside}
 use Rattle.document.proofs.Cases.{split, neither}
 use Rattle.second_port.proofs.Kept.{frame-keeps-rest}

@@ -6,7 +6,6 @@ use Prim.Native.Nat.{ℕ, _-_}
 use lib.ListN.{take, drop}
 use Rattle.document.specs.Areas.{variablesEnd, calibrationEnd, bufferBegin, bytesAt}
 use Rattle.document.specs.Message.{Message, finishedBy}
-use Rattle.document.specs.Answer.{Answer}
 use Rattle.document.specs.Gate.{Gate}
 use Rattle.document.specs.Modbus.{modbusAnswer}
 use Rattle.document.specs.Asides.{Aside}
