@@ -12,7 +12,7 @@ use Rattle.document.specs.Gate.{Gate, says}
 use Rattle.document.specs.Refusals.{refusal}
 use Rattle.document.specs.Commands.{answered}
 use Rattle.document.specs.Asides.{Aside}
-use Rattle.document.specs.Asides.Aside.{tick, writes, collects, reports, prepares, starts as starting}
+use Rattle.document.specs.Asides.Aside.{tick, writes, collects, reports, prepares, starts as starting, frames}
 use Rattle.document.specs.Happenings.{Happening, Since, after}
 use Rattle.document.specs.Happenings.Happening.{byte, aside}
 
@@ -56,6 +56,7 @@ handedBeside g collects = waitingIn (g .application)
 handedBeside g (reports result) = []
 handedBeside g (prepares setup) = []
 handedBeside g starting = []
+handedBeside g (frames station frame) = []
 
 abbrev pub handedAt : Since → Happening → List (List ℕ)
 handedAt s (byte b) = []
@@ -90,6 +91,7 @@ NoResult g collects = Unit {0}
 NoResult g (reports result) = isCollected (g .application) ≡ false
 NoResult g (prepares setup) = Unit {0}
 NoResult g starting = Unit {0}
+NoResult g (frames station frame) = Unit {0}
 
 abbrev pub Unreported : Since → Happening → Type 0
 Unreported s (byte b) = Unit {0}
