@@ -1,21 +1,19 @@
 -- The second port along a run: what it answered.
-use mathlib.Core.Path.{_≡_, sym, ap, subst, _∙_}
-use mathlib.Core.List.{List, [], _++_, append-nil, append-assoc}
-use Prim.Native.Nat.{ℕ}
+use mathlib.Core.Path.{_≡_, sym, ap, _∙_}
+use mathlib.Core.List.{List, [], _++_, append-nil}
 use Rattle.document.specs.Gate.{Gate}
 use Rattle.document.specs.Modbus.{modbusAnswer}
 use Rattle.document.specs.Asides.{Aside}
 use Rattle.document.specs.Asides.Aside.{tick, writes, collects, reports, prepares, starts, frames}
-use Rattle.document.specs.Happenings.{Happening, Since, after}
+use Rattle.document.specs.Happenings.{Happening, Since}
 use Rattle.document.specs.Happenings.Happening.{byte, aside}
 use Rattle.happenings.specs.Bytes.{IsBytes, AreBytes}
 use Rattle.happenings.specs.Applying.{ifAny}
 use Rattle.happenings.specs.Ports.{answeredBeside, modbusAt, modbusOf}
 use Rattle.demands.specs.House.{House}
 use Rattle.demands.specs.Run.{Step, Singly}
-use Rattle.demands.specs.Run.Singly.{ends, happens, refuses}
-use Rattle.demands.proofs.Served.{servedBeside, refused-kept, step-byte, step-beside}
-use Rattle.demands.proofs.Runs.{Reached, reached-step}
+use Rattle.demands.proofs.Served.{servedBeside, step-byte, step-beside}
+use Rattle.demands.proofs.Runs.{Reached, run-grows}
 
 module _ (h : House) (s : Since) (r : Reached h s) where
   served-answers : (a : Aside) → servedBeside h a .modbus-answers ≡ h .modbus-answers ++ answeredBeside (s .gate) a
@@ -34,11 +32,4 @@ module _ (h : House) (s : Since) (r : Reached h s) where
 
 pub run-answers : (h last : House) (hs : List Happening) → Singly h hs last → (s : Since) → AreBytes hs → Reached h s
     → last .modbus-answers ≡ h .modbus-answers ++ modbusOf s hs
-run-answers h last hs (ends _) s are r = sym (append-nil (h .modbus-answers))
-run-answers h last hs (happens _ next _ e es step run) s are r =
-    run-answers next last es run (after s e) (are .1) (reached-step h s r e next (are .0) step)
-    ∙ ap (λ (l : List (List ℕ)). l ++ modbusOf (after s e) es) (step-answers h s r e next (are .0) step)
-    ∙ append-assoc (h .modbus-answers) (modbusAt s e) (modbusOf (after s e) es)
-run-answers h last hs (refuses _ next _ _ refused run) s are r =
-    run-answers next last hs run s are (subst (λ (q : House). Reached q s) (sym (refused-kept h next refused)) r)
-    ∙ ap (λ (q : House). q .modbus-answers ++ modbusOf s hs) (refused-kept h next refused)
+run-answers = run-grows (λ (q : House). q .modbus-answers) modbusAt step-answers
