@@ -409,7 +409,8 @@ module _ (tables : List Table) (memory memory′ : List ℕ) (hs ks : List Happe
     (one : SinceReset tables memory hs h) (other : SinceReset tables memory′ ks k) where
   -- "an answer on the service port depends on Modbus traffic only through bytes 0 to 8,191 as commands, ticks and registering found them":
   -- leave the frames out of both and let the same happen; if finished commands and ticks find the same bytes there, one after the
-  -- other, then the service port says the same, and all is the same but those bytes. At every moment, since a beginning of a run is one
+  -- other, then the service port says the same, the gate's own program is handed the same commands, and all is the same but those bytes.
+  -- So it is at every moment, since a beginning of a run is one
   pub service-independent : drop variablesEnd memory ≡ drop variablesEnd memory′ → withoutFrames hs ≡ withoutFrames ks
       → found (since (gate tables memory)) hs ≡ found (since (gate tables memory′)) ks → SameService h k
   service-independent = service-runs tables memory memory′ hs ks h k one other
