@@ -1,7 +1,7 @@
 -- Application commands along a run: what is handed out, and what is said while one is pending.
-use mathlib.Core.Path.{_≡_, refl, sym, ap, subst, _∙_}
+use mathlib.Core.Path.{_≡_, refl, sym, ap, _∙_}
 use mathlib.Core.Bool.{true}
-use mathlib.Core.List.{List, [], _∷_, _++_, append-nil, append-assoc}
+use mathlib.Core.List.{List, [], _∷_, _++_, append-nil}
 use Prim.Native.Nat.{ℕ}
 use Rattle.document.specs.Message.{Message, finishedBy}
 use Rattle.document.specs.Answer.{answerOnWire}
@@ -19,11 +19,10 @@ use Rattle.happenings.specs.Applying.{sends, waitingIn, handedBeside, handedAt,
 use Rattle.happenings.proofs.Applying.{application-after}
 use Rattle.demands.specs.House.{House, gateIn}
 use Rattle.demands.specs.Run.{Step, Singly}
-use Rattle.demands.specs.Run.Singly.{ends, happens, refuses}
 use Rattle.demands.specs.Stands.{Stands}
 use Rattle.demands.specs.Applying.{OnlySaid}
-use Rattle.demands.proofs.Served.{servedBeside, refused-kept, step-byte, step-beside}
-use Rattle.demands.proofs.Runs.{Reached, reached-step}
+use Rattle.demands.proofs.Served.{servedBeside, step-byte, step-beside}
+use Rattle.demands.proofs.Runs.{Reached, run-grows}
 
 -- ---- what is handed out
 
@@ -44,14 +43,7 @@ module _ (h : House) (s : Since) (r : Reached h s) where
 
 pub run-hands : (h last : House) (hs : List Happening) → Singly h hs last → (s : Since) → AreBytes hs → Reached h s
     → last .commands ≡ h .commands ++ handedOut s hs
-run-hands h last hs (ends _) s are r = sym (append-nil (h .commands))
-run-hands h last hs (happens _ next _ e es step run) s are r =
-    run-hands next last es run (after s e) (are .1) (reached-step h s r e next (are .0) step)
-    ∙ ap (λ (l : List (List ℕ)). l ++ handedOut (after s e) es) (step-hands h s r e next (are .0) step)
-    ∙ append-assoc (h .commands) (handedAt s e) (handedOut (after s e) es)
-run-hands h last hs (refuses _ next _ _ refused run) s are r =
-    run-hands next last hs run s are (subst (λ (q : House). Reached q s) (sym (refused-kept h next refused)) r)
-    ∙ ap (λ (q : House). q .commands ++ handedOut s hs) (refused-kept h next refused)
+run-hands = run-grows (λ (q : House). q .commands) handedAt step-hands
 
 -- ---- what is said
 

@@ -32,6 +32,7 @@ use Rattle.document.specs.Tables.{Table}
 use Rattle.document.specs.Gate.{Gate, says, registered as gate}
 use Rattle.document.specs.Commands.{answered}
 use Rattle.document.specs.Panel.{panelPrepares, panelStarts}
+use Rattle.document.specs.Modbus.{modbusRoom}
 use Rattle.document.specs.Asides.Aside.{tick, collects, reports, prepares, starts as starting, frames}
 use Rattle.document.specs.Happenings.{Happening, Since, after as happened, afterAll, fromReset as since}
 use Rattle.document.specs.Happenings.Happening.{byte, aside}
@@ -91,7 +92,7 @@ use Rattle.demands.specs.Applying.{OnlyCommand, OnlySaid}
 use Rattle.demands.proofs.Applying.{run-hands, only-said, sent-waits}
 use Rattle.demands.proofs.Recorder.{start-begun, panel-begun, panel-prepared, tick-touches, run-fires, run-stops}
 use Rattle.demands.specs.Ports.{OnlyVariables, SinceReset, SameService}
-use Rattle.demands.proofs.Ports.{run-answers}
+use Rattle.demands.proofs.Ports.{modbus-sent, run-answers}
 use Rattle.demands.proofs.Independent.{service-runs, modbus-runs}
 use Rattle.demands.proofs.Readings as readings
 
@@ -134,6 +135,11 @@ demand-1-start = calls.start-refused
 pub demand-1-modbus : (station : ℕ) (frame memory buffer : List ℕ) (r : Written) (left told : List ℕ)
     → ModbusDone station frame memory buffer r left told → ModbusRefused station memory buffer r left told
 demand-1-modbus = calls.modbus-refused
+
+-- "Bytes of it behind the answer keep their values; without an answer, all do.": and 256 bytes are room for every answer
+pub demand-1-modbus-behind : (station : ℕ) (frame memory buffer : List ℕ) (r : Written) (left told : List ℕ)
+    → ModbusDone station frame memory buffer r left told → Sent modbusRoom buffer (r .length) told
+demand-1-modbus-behind = modbus-sent
 
 pub demand-1-register : (block memory list : List ℕ) (r : ℕ) (after : List ℕ) → RegisterDone block memory list r after
     → RegisterRefused block memory list r after
@@ -186,7 +192,7 @@ module _ (block memory : List ℕ) (tables : List Table) (after : List ℕ) (lon
 
   -- "Bytes of it behind the answer keep their values; without an answer, all do.": of the buffer that this call was lent
   pub demand-1-behind : (b : ℕ) (next : House) (call : ByByte h b next) → b < 256 → call .result .refusal ≡ taken → lends (h .block) (call .state) ≡ h .block
-      → Sent (call .buffer) (call .result) (call .told)
+      → Sent answerRoom (call .buffer) (call .result .length) (call .told)
   demand-1-behind b next call small fine whole =
       let room : answerRoom ≤ length (call .buffer) = room-lent h (there .long) (there .within) b small next call fine whole in
       let stood = turn-stands (decoded (h .block)) b (h .memory) (call .buffer) room reached (there .stands .gate) (there .stands .link-part) in
@@ -403,7 +409,8 @@ module _ (tables : List Table) (memory memory′ : List ℕ) (hs ks : List Happe
     (one : SinceReset tables memory hs h) (other : SinceReset tables memory′ ks k) where
   -- "an answer on the service port depends on Modbus traffic only through bytes 0 to 8,191 as commands, ticks and registering found them":
   -- leave the frames out of both and let the same happen; if finished commands and ticks find the same bytes there, one after the
-  -- other, then the service port says the same, and all is the same but those bytes. At every moment, since a beginning of a run is one
+  -- other, then the service port says the same, the gate's own program is handed the same commands, and all is the same but those bytes.
+  -- So it is at every moment, since a beginning of a run is one
   pub service-independent : drop variablesEnd memory ≡ drop variablesEnd memory′ → withoutFrames hs ≡ withoutFrames ks
       → found (since (gate tables memory)) hs ≡ found (since (gate tables memory′)) ks → SameService h k
   service-independent = service-runs tables memory memory′ hs ks h k one other

@@ -9,15 +9,17 @@ use Rattle.document.specs.Gate.{Gate, registered as gate}
 use Rattle.document.specs.Happenings.{Happening, afterAll, fromReset as since}
 use Rattle.document.specs.Blocks.{answersOnWire}
 use Rattle.link.specs.Report.{sinceReset}
+use Rattle.happenings.specs.Applying.{handedOut}
 use Rattle.happenings.specs.Ports.{modbusOf, withoutFrames, found, SameBeyond, withoutService, shared, calibrationIn}
 use Rattle.happenings.specs.Ports as definition
-use Rattle.happenings.proofs.ServicePort.{service-same}
+use Rattle.happenings.proofs.ServicePort.{service-same, commands-same}
 use Rattle.happenings.proofs.ModbusPort.{modbus-same}
 use Rattle.demands.specs.House.{House, gateIn}
 use Rattle.demands.specs.Stands.{blank, Stands}
 use Rattle.demands.specs.Ports.{SinceReset, SameService}
 use Rattle.demands.proofs.Runs.{Reached, reached-begun}
 use Rattle.demands.proofs.Blocks.{singly, reached-run}
+use Rattle.demands.proofs.Applying.{run-hands}
 use Rattle.demands.proofs.Ports.{run-answers}
 
 module _ (tables : List Table) (memory : List ℕ) (hs : List Happening) (h : House) (r : SinceReset tables memory hs h) where
@@ -26,6 +28,10 @@ module _ (tables : List Table) (memory : List ℕ) (hs : List Happening) (h : Ho
 
   run-stands : Stands h (afterAll (since (gate tables memory)) hs)
   run-stands = reached-run _ h hs (r .run) (since (gate tables memory)) (r .are) begun .stands
+
+  run-commands : h .commands ≡ handedOut (since (gate tables memory)) hs
+  run-commands =
+      run-hands _ h hs (singly _ h hs (r .run) (since (gate tables memory)) (r .are) begun) (since (gate tables memory)) (r .are) begun
 
   run-modbus : h .modbus-answers ≡ modbusOf (since (gate tables memory)) hs
   run-modbus =
@@ -43,6 +49,10 @@ module _ (tables : List Table) (memory memory′ : List ℕ) (hs ks : List Happe
       let same = service-same hs ks (since (gate tables memory)) (since (gate tables memory′)) start happened seen in
       record {
         answers = here .answers ∙ ap answersOnWire (same .answers) ∙ sym (there .answers);
+        commands =
+            run-commands tables memory hs h one
+            ∙ commands-same hs ks (since (gate tables memory)) (since (gate tables memory′)) start happened seen
+            ∙ sym (run-commands tables memory′ ks k other);
         link-part = here .link-part ∙ ap (λ (bs : List ℕ). sinceReset blank bs) (same .bytes) ∙ sym (there .link-part);
         gate =
             subst (λ (g : Gate). SameBeyond g (gateIn k)) (sym (here .gate))

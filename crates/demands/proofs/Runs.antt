@@ -1,7 +1,7 @@
 -- What a run since reset comes to: a house within its bounds, standing for document 01.
 use mathlib.Core.Path.{_≡_, refl, sym, ap, subst, _∙_}
 use mathlib.Core.Bool.{true}
-use mathlib.Core.List.{List, [], _∷_, _++_}
+use mathlib.Core.List.{List, [], _∷_, _++_, append-nil, append-assoc}
 use Prim.Native.Nat.{ℕ, _<_, _≤_}
 use native.Mathlib.Omega.{arith}
 use borrow.Author.Tests.{le-leb, eq-eqb}
@@ -59,6 +59,7 @@ use Rattle.panel_calls.specs.Promises.{givenNext, recorderChanged}
 use Rattle.panel_calls.proofs.Kept.{prepare-means, start-means, given-within}
 use Rattle.second_port.proofs.Kept.{frame-keeps-rest, frame-keeps-length, frame-keeps-bytes}
 use Rattle.happenings.specs.Bytes.{Bytes, bytesOf, BesideIsBytes, IsBytes, AreBytes}
+use Rattle.happenings.specs.Along.{along}
 use Rattle.happenings.proofs.Resync.{told-bytes}
 use Rattle.happenings.proofs.Blocks.{wire-append, answersTo, told-answers}
 use Rattle.demands.specs.House.{House, gateIn}
@@ -445,6 +446,20 @@ reached-singly h last hs (happens _ next _ e es step run) s are r =
     reached-singly next last es run (after s e) (are .1) (reached-step h s r e next (are .0) step)
 reached-singly h last hs (refuses _ next _ _ refused run) s are r =
     reached-singly next last hs run s are (subst (λ (q : House). Reached q s) (sym (refused-kept h next refused)) r)
+
+-- a list that grows with each thing that happens, and stays where a call is refused
+module _ (listed : House → List (List ℕ)) (gives : Since → Happening → List (List ℕ))
+    (grows : (h : House) (s : Since) → Reached h s → (e : Happening) (next : House) → IsBytes e → Step h e next → listed next ≡ listed h ++ gives s e) where
+  pub run-grows : (h last : House) (hs : List Happening) → Singly h hs last → (s : Since) → AreBytes hs → Reached h s
+      → listed last ≡ listed h ++ along gives s hs
+  run-grows h last hs (ends _) s are r = sym (append-nil (listed h))
+  run-grows h last hs (happens _ next _ e es step run) s are r =
+      run-grows next last es run (after s e) (are .1) (reached-step h s r e next (are .0) step)
+      ∙ ap (λ (l : List (List ℕ)). l ++ along gives (after s e) es) (grows h s r e next (are .0) step)
+      ∙ append-assoc (listed h) (gives s e) (along gives (after s e) es)
+  run-grows h last hs (refuses _ next _ _ refused run) s are r =
+      run-grows next last hs run s are (subst (λ (q : House). Reached q s) (sym (refused-kept h next refused)) r)
+      ∙ ap (λ (q : House). listed q ++ along gives s hs) (refused-kept h next refused)
 
 -- ---- since reset, or since a registering
 

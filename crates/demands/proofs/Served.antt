@@ -226,7 +226,7 @@ servedBeside h starts = servedPanel h (startedState (decoded (h .block) .instrum
 servedBeside h (frames station frame) = servedFrame h station frame
 
 -- its answer has room in the 256 bytes that the call asks for
-modbus-fits : (station : ℕ) (frame memory : List ℕ) → length (modbusAnswer station frame memory) ≤ modbusRoom
+pub modbus-fits : (station : ℕ) (frame memory : List ℕ) → length (modbusAnswer station frame memory) ≤ modbusRoom
 unfolding modbusAnswer
 modbus-fits station frame memory =
     let bytes : List ℕ = station ∷ answerTo (exceptionTo (functionIn frame) frame memory) frame memory in

@@ -37,8 +37,9 @@ pub record SinceReset (tables : List Table) (memory : List ℕ) (hs : List Happe
   pub are : AreBytes hs
   pub run : Run (record { block = after; memory = memory; answers = []; commands = []; modbus-answers = [] }) hs h
 
--- the service port said the same, and all is the same but bytes 0 to 8,191
+-- the service port said the same, the same commands were handed out, and all is the same but bytes 0 to 8,191
 pub record SameService (h k : House) : Type 0 where
   pub answers : h .answers ≡ k .answers
+  pub commands : h .commands ≡ k .commands
   pub link-part : linkIn (decoded (h .block)) ≡ linkIn (decoded (k .block))
   pub gate : SameBeyond (gateIn h) (gateIn k)

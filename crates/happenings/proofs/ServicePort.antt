@@ -20,7 +20,8 @@ use Rattle.document.specs.Happenings.{Happening, Since, after, afterAll}
 use Rattle.document.specs.Happenings.Happening.{byte, aside}
 use Rattle.document.proofs.Cases.{split, neither}
 use Rattle.second_port.proofs.Kept.{frame-keeps-rest}
-use Rattle.happenings.specs.Ports.{withoutFrames, finishes, looks, foundAt, found, SameBeyond, SameService}
+use Rattle.happenings.specs.Applying.{waitingIn, handedAt, handedOut}
+use Rattle.happenings.specs.Ports.{withoutFrames, finishes, looks, found, SameBeyond, SameService}
 use Rattle.happenings.proofs.Panel.{prepare-touches, start-touches}
 use Rattle.happenings.proofs.Agree.{drop-sets-agrees}
 
@@ -136,6 +137,17 @@ module _ (s t : Since) (same : SameService s t) where
   same-quiet (aside a) quiet =
       record { bytes = same .bytes; answers = same .answers; gate = same-beside (s .gate) (t .gate) (same .gate) (s .bytes) a quiet }
 
+  -- what is handed out is up to the application
+  same-handed : (h : Happening) → handedAt s h ≡ handedAt t h
+  same-handed (byte b) = refl
+  same-handed (aside tick) = refl
+  same-handed (aside (writes address bytes)) = refl
+  same-handed (aside collects) = ap waitingIn (same .gate .application)
+  same-handed (aside (reports result)) = refl
+  same-handed (aside (prepares setup)) = refl
+  same-handed (aside starts) = refl
+  same-handed (aside (frames station frame)) = refl
+
   -- a frame in the one alone
   same-frame : (station : ℕ) (frame : List ℕ) → SameService (after s (aside (frames station frame))) t
   unfolding beside
@@ -169,21 +181,44 @@ replayed t [] seen = t
 replayed t (h ∷ hs) seen =
     cond (looks (t .bytes) h) (replayed (after (sinceOver t (first seen)) h) hs (rest seen)) (replayed (after t h) hs seen)
 
+abbrev handedAgain : Since → List Happening → List (List ℕ) → List (List ℕ)
+handedAgain t [] seen = []
+handedAgain t (h ∷ hs) seen =
+    handedAt t h
+    ++ cond (looks (t .bytes) h) (handedAgain (after (sinceOver t (first seen)) h) hs (rest seen)) (handedAgain (after t h) hs seen)
+
+-- what happened to s comes to what is replayed from t
+record Replays (s : Since) (hs : List Happening) (t : Since) (ks : List Happening) (seen : List (List ℕ)) : Type 0 where
+  ends : SameService (afterAll s hs) (replayed t ks seen)
+  hands : handedOut s hs ≡ handedAgain t ks seen
+
 module _ (s t : Since) (same : SameService s t) (hs ks : List Happening) where
-  replay-on : (h : Happening)
-      → ((p q : Since) → SameService p q → SameService (afterAll p hs) (replayed q ks (found p hs)))
-      → SameService (afterAll (after s h) hs) (replayed t (h ∷ ks) (foundAt s h ++ found (after s h) hs))
+  replay-on : (h : Happening) → ((p q : Since) → SameService p q → Replays p hs q ks (found p hs)) → Replays s (h ∷ hs) t (h ∷ ks) (found s (h ∷ hs))
   replay-on h on =
       let there : looks (t .bytes) h ≡ looks (s .bytes) h = ap (λ (bs : List ℕ). looks bs h) (sym (same .bytes)) in
       split (looks (s .bytes) h)
       (λ seen.
-      rw (there ∙ seen, seen)
-      (on (after s h) (after (sinceOver t (take variablesEnd (s .gate .memory))) h)
-      (subst (λ (q : Since). SameService (after s h) (after q h)) (whole-again s t same) (same-service (after s h)))))
-      (λ quiet. rw (there ∙ quiet, quiet) (on (after s h) (after t h) (same-quiet s t same h quiet)))
+      let next = on (after s h) (after (sinceOver t (take variablesEnd (s .gate .memory))) h)
+      (subst (λ (q : Since). SameService (after s h) (after q h)) (whole-again s t same) (same-service (after s h))) in
+      record {
+        ends = rw (there ∙ seen, seen) (next .ends);
+        hands = rw (there ∙ seen, seen) (λ j. same-handed s t same h j ++ next .hands j);
+      })
+      (λ quiet.
+      let next = on (after s h) (after t h) (same-quiet s t same h quiet) in
+      record {
+        ends = rw (there ∙ quiet, quiet) (next .ends);
+        hands = rw (there ∙ quiet, quiet) (λ j. same-handed s t same h j ++ next .hands j);
+      })
 
-replay-agrees : (hs : List Happening) (s t : Since) → SameService s t → SameService (afterAll s hs) (replayed t (withoutFrames hs) (found s hs))
-replay-agrees [] s t same = same
+  replay-frame : (station : ℕ) (frame : List ℕ) → ((p q : Since) → SameService p q → Replays p hs q ks (found p hs))
+      → Replays s (aside (frames station frame) ∷ hs) t ks (found s (aside (frames station frame) ∷ hs))
+  replay-frame station frame on =
+      let next = on (after s (aside (frames station frame))) t (same-frame s t same station frame) in
+      record { ends = next .ends; hands = next .hands }
+
+replay-agrees : (hs : List Happening) (s t : Since) → SameService s t → Replays s hs t (withoutFrames hs) (found s hs)
+replay-agrees [] s t same = record { ends = same; hands = refl }
 replay-agrees (byte b ∷ hs) s t same = replay-on s t same hs (withoutFrames hs) (byte b) (replay-agrees hs)
 replay-agrees (aside tick ∷ hs) s t same = replay-on s t same hs (withoutFrames hs) (aside tick) (replay-agrees hs)
 replay-agrees (aside (writes address bytes) ∷ hs) s t same = replay-on s t same hs (withoutFrames hs) (aside (writes address bytes)) (replay-agrees hs)
@@ -191,12 +226,18 @@ replay-agrees (aside collects ∷ hs) s t same = replay-on s t same hs (withoutF
 replay-agrees (aside (reports result) ∷ hs) s t same = replay-on s t same hs (withoutFrames hs) (aside (reports result)) (replay-agrees hs)
 replay-agrees (aside (prepares setup) ∷ hs) s t same = replay-on s t same hs (withoutFrames hs) (aside (prepares setup)) (replay-agrees hs)
 replay-agrees (aside starts ∷ hs) s t same = replay-on s t same hs (withoutFrames hs) (aside starts) (replay-agrees hs)
-replay-agrees (aside (frames station frame) ∷ hs) s t same = replay-agrees hs (after s (aside (frames station frame))) t (same-frame s t same station frame)
+replay-agrees (aside (frames station frame) ∷ hs) s t same = replay-frame s t same hs (withoutFrames hs) station frame (replay-agrees hs)
 
--- two that are the same but for frames, and found the same, come to the same
-pub service-same : (hs ks : List Happening) (s t : Since) → SameService s t → withoutFrames hs ≡ withoutFrames ks → found s hs ≡ found t ks
-    → SameService (afterAll s hs) (afterAll t ks)
-service-same hs ks s t same happened seen =
-    through (afterAll s hs) (afterAll t ks) (replayed t (withoutFrames ks) (found t ks))
-    (subst (λ (q : Since). SameService (afterAll s hs) q) (λ j. replayed t (happened j) (seen j)) (replay-agrees hs s t same))
-    (replay-agrees ks t t (same-service t))
+-- two that are the same but for frames, and found the same, come to the same, and the gate's own program is handed the same commands
+module _ (hs ks : List Happening) (s t : Since) (same : SameService s t) (happened : withoutFrames hs ≡ withoutFrames ks) (seen : found s hs ≡ found t ks) where
+  one : Replays s hs t (withoutFrames ks) (found t ks)
+  one = subst (λ (l : List Happening). Replays s hs t l (found t ks)) happened (subst (λ (l : List (List ℕ)). Replays s hs t (withoutFrames hs) l) seen (replay-agrees hs s t same))
+
+  other : Replays t ks t (withoutFrames ks) (found t ks)
+  other = replay-agrees ks t t (same-service t)
+
+  pub service-same : SameService (afterAll s hs) (afterAll t ks)
+  service-same = through (afterAll s hs) (afterAll t ks) (replayed t (withoutFrames ks) (found t ks)) (one .ends) (other .ends)
+
+  pub commands-same : handedOut s hs ≡ handedOut t ks
+  commands-same = one .hands ∙ sym (other .hands)

@@ -1,7 +1,7 @@
 -- Two ports, one memory (2026-07): what the second port answers to what happens, and what each port found in the bytes that both share.
 use mathlib.Core.Path.{_≡_}
 use mathlib.Core.Bool.{Bool, true, false, cond}
-use mathlib.Core.List.{List, [], _∷_, _++_}
+use mathlib.Core.List.{List, [], _∷_}
 use Prim.Native.Nat.{ℕ, _-_}
 use lib.ListN.{take, drop}
 use Rattle.document.specs.Areas.{variablesEnd, calibrationEnd, bufferBegin, bytesAt}
@@ -10,8 +10,9 @@ use Rattle.document.specs.Gate.{Gate}
 use Rattle.document.specs.Modbus.{modbusAnswer}
 use Rattle.document.specs.Asides.{Aside}
 use Rattle.document.specs.Asides.Aside.{tick, writes, collects, reports, prepares, starts, frames}
-use Rattle.document.specs.Happenings.{Happening, Since, after}
+use Rattle.document.specs.Happenings.{Happening, Since}
 use Rattle.document.specs.Happenings.Happening.{byte, aside}
+use Rattle.happenings.specs.Along.{along}
 use Rattle.happenings.specs.Applying.{ifAny}
 
 -- ---- what the second port answers, over the memory as it stands at each frame; silence is no answer
@@ -30,8 +31,7 @@ modbusAt s (byte b) = []
 modbusAt s (aside a) = answeredBeside (s .gate) a
 
 abbrev pub modbusOf : Since → List Happening → List (List ℕ)
-modbusOf s [] = []
-modbusOf s (h ∷ hs) = modbusAt s h ++ modbusOf (after s h) hs
+modbusOf = along modbusAt
 
 -- ---- "an answer on the service port depends on Modbus traffic only through bytes 0 to 8,191 as commands, ticks and registering found
 -- them": Modbus traffic is frames
@@ -70,8 +70,7 @@ abbrev pub foundAt : Since → Happening → List (List ℕ)
 foundAt s h = cond (looks (s .bytes) h) (take variablesEnd (s .gate .memory) ∷ []) []
 
 abbrev pub found : Since → List Happening → List (List ℕ)
-found s [] = []
-found s (h ∷ hs) = foundAt s h ++ found (after s h) hs
+found = along foundAt
 
 -- the same but for bytes 0 to 8,191
 pub record SameBeyond (g k : Gate) : Type 0 where
@@ -117,8 +116,7 @@ sharedAt s (byte b) = []
 sharedAt s (aside a) = cond (isFrame a) (sharedIn (s .gate .memory) ∷ []) []
 
 abbrev pub shared : Since → List Happening → List Shared
-shared s [] = []
-shared s (h ∷ hs) = sharedAt s h ++ shared (after s h) hs
+shared = along sharedAt
 
 -- "8,192 to 12,287 calibration": neither port writes it
 abbrev pub calibrationIn : List ℕ → List ℕ

@@ -1,7 +1,7 @@
 -- The recorder among what happens to a gate: what a message, a tick and a write are to it, from one accepted start to the next.
 use mathlib.Core.Path.{_≡_}
 use mathlib.Core.Bool.{Bool, false, cond, not, _&&_}
-use mathlib.Core.List.{List, [], _∷_, _++_}
+use mathlib.Core.List.{List, [], _∷_}
 use Prim.Native.Nat.{ℕ, _+_}
 use lib.Dec.{eqb}
 use lib.ListN.{drop}
@@ -20,6 +20,7 @@ use Rattle.document.specs.Happenings.Happening.{byte, aside}
 use Rattle.history.specs.History.{Event}
 use Rattle.history.specs.History.Event.{tick as ticks, others, stop}
 use Rattle.outcomes.specs.Starts.{starts, stops}
+use Rattle.happenings.specs.Along.{along}
 
 -- every message but a stop leaves the recorder, and may write memory
 abbrev pub eventsOf : Gate → List Message → List Event
@@ -40,8 +41,7 @@ eventsAt s (byte b) = eventsOf (s .gate) (finishedBy (s .bytes) b)
 eventsAt s (aside a) = eventsBeside (s .gate) a
 
 abbrev pub events : Since → List Happening → List Event
-events s [] = []
-events s (h ∷ hs) = eventsAt s h ++ events (after s h) hs
+events = along eventsAt
 
 -- how many ticks there are among what happens
 abbrev pub ticksBeside : Aside → ℕ
