@@ -28,6 +28,11 @@ static struct message message, second;
 static uint8_t setup[LOG_GATE_DATA_ROOM];
 static size_t setup_length;
 
+/* What comes over the second port. */
+enum { STATION = 17 };
+static uint8_t frame[LOG_GATE_MODBUS_ROOM], frame_answer[LOG_GATE_MODBUS_ROOM];
+static size_t frame_length;
+
 /* ---- what a case repeats */
 
 static size_t send(const struct message *m, size_t length)
@@ -96,6 +101,11 @@ static void prepare_by_panel(void)
 static void register_tables(void)
 {
     log_gate_register(state, sizeof state, memory, sizeof memory, list, sizeof list);
+}
+
+static void give_frame(void)
+{
+    log_gate_modbus(STATION, frame, frame_length, memory, sizeof memory, frame_answer, sizeof frame_answer);
 }
 
 static void write_command(void)
@@ -336,6 +346,42 @@ static void prepare_panel(void)
         exit(1);
 }
 
+/* The frame with its check sum behind it. Its answer has so many bytes: a case must not measure an exception. */
+static void form_frame(size_t length, size_t answer_due)
+{
+    unsigned sum = 0xFFFF;
+    for (size_t i = 0; i < 8 * length; i++)
+        sum = sum >> 1 ^ ((sum ^ frame[i / 8] >> i % 8) & 1 ? 0xA001 : 0);
+    memcpy(frame + length, (uint8_t[]){(uint8_t)sum, (uint8_t)(sum >> 8)}, 2);
+    frame_length = length + 2;
+    if (log_gate_modbus(STATION, frame, frame_length, memory, sizeof memory, frame_answer, sizeof frame_answer).length != answer_due)
+        exit(1);
+}
+
+static void prepare_read_registers(void)
+{
+    memcpy(frame, (uint8_t[]){STATION, 3, 0, 8, 0, 125}, 6);
+    form_frame(6, 255);
+}
+
+static void prepare_write_registers(void)
+{
+    memcpy(frame, (uint8_t[]){STATION, 16, 0, 8, 0, 123, 246}, 7);
+    form_frame(7 + 246, 8);
+}
+
+static void prepare_mask_register(void)
+{
+    memcpy(frame, (uint8_t[]){STATION, 22, 0, 8, 0, 0xF2, 0, 0x25}, 8);
+    form_frame(8, 10);
+}
+
+static void prepare_other_station(void)
+{
+    memcpy(frame, (uint8_t[]){STATION + 1, 3, 0, 8, 0, 1}, 6);
+    form_frame(6, 0);
+}
+
 static void prepare_waiting(void)
 {
     start_recorder(8, 0xFFFF);
@@ -408,6 +454,10 @@ static const struct bench_case {
     {"tick-set-1", 1, "a tick with a set of 1 and trigger", prepare_one, tick},
     {"tick-set-8", 1, "a tick with a set of 8 and trigger", prepare_eight, tick},
     {"tick-set-2040", 1, "a tick with the longest set, 8 of 255", prepare_longest, tick},
+    {"modbus-read", 1, "Modbus, read of 125 registers (8 bytes)", prepare_read_registers, give_frame},
+    {"modbus-write", 1, "Modbus, write of 123 registers (255)", prepare_write_registers, give_frame},
+    {"modbus-mask", 1, "Modbus, mask write (10 bytes)", prepare_mask_register, give_frame},
+    {"modbus-other", 1, "Modbus, for another station (8 bytes)", prepare_other_station, give_frame},
     {"write-command", 1, "command writer, 64 data", nothing, write_command},
     {"write-answer", 1, "answer writer, 64 data", nothing, write_answer},
     {"read-answer", 67, "answer reader, a byte of 64 data", prepare_answer, read_answer},

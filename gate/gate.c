@@ -14,9 +14,10 @@ static void expect_taken(log_gate_result refusal)
     exit(1);
 }
 
-void gate_begin(struct gate *g, uint64_t seed)
+void gate_begin(struct gate *g, uint64_t seed, uint16_t station)
 {
     uint8_t list[LOG_GATE_TABLE];
+    g->station = station;
     names_begin(g->memory, list);
     expect_taken(log_gate_register(g->state, sizeof g->state, g->memory, sizeof g->memory, list, sizeof list));
     scene_begin(&g->scene, seed, g->memory);
@@ -77,4 +78,12 @@ log_gate_block_taken gate_block(struct gate *g, const uint8_t *block, size_t len
         log_gate_block(g->state, sizeof g->state, block, length, g->memory, sizeof g->memory, g->answers, sizeof g->answers);
     expect_taken(done.refusal);
     return done;
+}
+
+size_t gate_frame(struct gate *g, const uint8_t *frame, size_t length)
+{
+    log_gate_taken taken =
+        log_gate_modbus(g->station, frame, length, g->memory, sizeof g->memory, g->frame_answer, sizeof g->frame_answer);
+    expect_taken(taken.refusal);
+    return taken.length;
 }

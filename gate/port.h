@@ -1,4 +1,4 @@
-/* The service port: a pseudo-terminal that carries raw bytes, opened by whoever takes the technician's part. */
+/* A port: a pseudo-terminal that carries raw bytes, opened by whoever takes the technician's part, or the mill controller's. */
 #ifndef GATE_PORT_H
 #define GATE_PORT_H
 
@@ -7,7 +7,7 @@
 
 struct port {
     int ours;   /* the gate's end */
-    int theirs; /* the technician's end, kept open so that one may leave and another come */
+    int theirs; /* the other end, kept open so that one may leave and another come */
     uint8_t in[256];
     size_t in_at, in_end;
     uint8_t out[1024];

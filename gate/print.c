@@ -87,9 +87,25 @@ static void print_panel(const char *path)
            PANEL_WAITS, LOG_GATE_BUSY);
 }
 
-void print_welcome(struct gate *g, const char *path)
+/* mbpoll is a Debian package; with -0 it counts registers from 0, as the frames do. */
+static void print_mbpoll(const struct gate *g, int address, const char *count, const char *path, const char *value)
 {
-    printf("The service port is %s\n\n", path);
+    printf("  mbpoll -m rtu -b 19200 -P none -a %u -0 -r %d%s -1 %s%s\n", g->station, address / 2, count, path, value);
+}
+
+static void print_second(const struct gate *g, const char *path)
+{
+    printf("The second port speaks Modbus (RTU, station %u, functions 3, 6, 16 and 22). Register r is bytes r * 2 and r * 2 + 1.\n",
+           g->station);
+    printf("The %d coils are read, and the threshold is written, with\n", COILS);
+    print_mbpoll(g, COIL_1, " -c 4", path, "");
+    print_mbpoll(g, THRESHOLD, "", path, " 1200");
+}
+
+void print_welcome(struct gate *g, const char *path, const char *second)
+{
+    printf("The service port is %s\n", path);
+    printf("The second port is %s\n\n", second);
     print_map(path);
     printf("\n");
     print_example(g, path);
@@ -97,6 +113,8 @@ void print_welcome(struct gate *g, const char *path)
     print_self_test(path);
     printf("\n");
     print_panel(path);
+    printf("\n");
+    print_second(g, second);
     printf("\nStop with Ctrl-C.\n");
     fflush(stdout);
 }
@@ -106,6 +124,8 @@ void print_farewell(const struct gate *g)
     printf("\nThe gate is closed: %llu ticks, %u logs, %u alarms; %llu bytes came, %llu bytes of answers went.\n",
            (unsigned long long)g->ticks, (unsigned)number_at(g->memory + LOGS, 4),
            (unsigned)number_at(g->memory + ALARMS, 4), (unsigned long long)g->came, (unsigned long long)g->went);
+    printf("At the second port %llu frames came, %llu answers went.\n", (unsigned long long)g->frames_came,
+           (unsigned long long)g->frames_went);
     if (g->lost > 0)
         printf("The machine was late, and %llu ticks were lost.\n", (unsigned long long)g->lost);
 }

@@ -1,10 +1,11 @@
 /*
- * A log gate without the iron: the proved target behind a pseudo-terminal, a tick every millisecond, and a live scene in its
- * variables.
+ * A log gate without the iron: the proved target behind two pseudo-terminals, a tick every millisecond, and a live scene in its
+ * variables. At the second port it is a Modbus station; a frame there ends when nothing came for so many milliseconds.
  *
- *     virtual_gate [--seed N] [--ticks N]
+ *     virtual_gate [--seed N] [--ticks N] [--station N] [--silence MS]
  */
 #define _XOPEN_SOURCE 700
+#include "frames.h"
 #include "gate.h"
 #include "port.h"
 #include "print.h"
@@ -60,14 +61,48 @@ static void serve(struct gate *g, struct port *port)
     }
 }
 
-/* Returns 0 where the port was lost. */
-static int run(struct gate *g, struct port *port, uint64_t most_ticks)
+/* ---- the second port */
+
+struct second {
+    struct port port;
+    struct frames frames;
+    uint64_t silence;
+};
+
+static void answer_frame(struct gate *g, struct second *s)
+{
+    size_t length = gate_frame(g, s->frames.bytes, s->frames.length);
+    frames_begin(&s->frames);
+    port_send(&s->port, g->frame_answer, length);
+    g->frames_came++;
+    g->frames_went += length > 0;
+}
+
+/* The clock is read before the port is: what came until then has been taken when the frame is said to be over. */
+static int serve_second(struct gate *g, struct second *s)
+{
+    uint64_t now = milliseconds();
+    size_t length;
+    if (!port_wait(&s->port, 0))
+        return 0;
+    const uint8_t *block = port_block(&s->port, &length);
+    if (length > 0) {
+        frames_take(&s->frames, block, length, now);
+        port_take(&s->port, length);
+    } else if (frames_is_over(&s->frames, now, s->silence)) {
+        answer_frame(g, s);
+    }
+    return 1;
+}
+
+/* Returns 0 where a port was lost. */
+static int run(struct gate *g, struct port *service, struct second *second, uint64_t most_ticks)
 {
     uint64_t start = milliseconds();
     while (!stopped && g->ticks < most_ticks) {
-        if (!port_wait(port, 1))
+        if (!port_wait(service, 1) || !serve_second(g, second))
             return 0;
-        serve(g, port);
+        serve(g, service);
         tick_until(g, milliseconds() - start, most_ticks);
     }
     return 1;
@@ -76,8 +111,20 @@ static int run(struct gate *g, struct port *port, uint64_t most_ticks)
 /* ---- the beginning */
 
 struct options {
-    uint64_t seed, ticks;
+    uint64_t seed, ticks, station, silence;
 };
+
+static uint64_t *option_named(struct options *o, const char *word)
+{
+    struct {
+        const char *word;
+        uint64_t *number;
+    } known[] = {{"--seed", &o->seed}, {"--ticks", &o->ticks}, {"--station", &o->station}, {"--silence", &o->silence}};
+    for (size_t i = 0; i < sizeof known / sizeof known[0]; i++)
+        if (strcmp(word, known[i].word) == 0)
+            return known[i].number;
+    return NULL;
+}
 
 static int read_number(const char *text, uint64_t *number)
 {
@@ -90,11 +137,24 @@ static int read_number(const char *text, uint64_t *number)
 static int read_options(int argc, char **argv, struct options *o)
 {
     for (int i = 1; i < argc; i += 2) {
-        uint64_t *number = strcmp(argv[i], "--seed") == 0 ? &o->seed : strcmp(argv[i], "--ticks") == 0 ? &o->ticks : NULL;
+        uint64_t *number = option_named(o, argv[i]);
         if (number == NULL || i + 1 == argc || !read_number(argv[i + 1], number))
             return 0;
     }
-    return 1;
+    return 1 <= o->station && o->station <= 247;
+}
+
+enum { PORT_PATH = 64 };
+
+/* The path is kept: that of the next port is told in the same place. */
+static int open_port(struct port *port, char path[PORT_PATH])
+{
+    const char *opened = port_open(port);
+    if (opened == NULL)
+        fprintf(stderr, "virtual gate: no pseudo-terminal: %s\n", strerror(errno));
+    else
+        snprintf(path, PORT_PATH, "%s", opened);
+    return opened != NULL;
 }
 
 static void listen_for_stops(void)
@@ -107,24 +167,25 @@ static void listen_for_stops(void)
 int main(int argc, char **argv)
 {
     static struct gate gate;
-    struct options options = {.seed = 1, .ticks = UINT64_MAX};
-    struct port port;
+    struct options options = {.seed = 1, .ticks = UINT64_MAX, .station = 1, .silence = FRAMES_SILENCE_MS};
+    struct port service;
+    struct second second = {.frames = {.length = 0}};
+    char paths[2][PORT_PATH];
     if (!read_options(argc, argv, &options)) {
-        fprintf(stderr, "virtual gate: the words it knows are --seed N and --ticks N\n");
+        fprintf(stderr, "virtual gate: the words it knows are --seed N, --ticks N, --station N (1 to 247) and --silence MS\n");
         return 2;
     }
-    const char *path = port_open(&port);
-    if (path == NULL) {
-        fprintf(stderr, "virtual gate: no pseudo-terminal: %s\n", strerror(errno));
+    second.silence = options.silence;
+    if (!open_port(&service, paths[0]) || !open_port(&second.port, paths[1]))
         return 1;
-    }
     listen_for_stops();
-    gate_begin(&gate, options.seed);
-    print_welcome(&gate, path);
-    int ended = run(&gate, &port, options.ticks);
+    gate_begin(&gate, options.seed, (uint16_t)options.station);
+    print_welcome(&gate, paths[0], paths[1]);
+    int ended = run(&gate, &service, &second, options.ticks);
     if (!ended)
-        fprintf(stderr, "virtual gate: the port was lost: %s\n", strerror(errno));
-    port_close(&port);
+        fprintf(stderr, "virtual gate: a port was lost: %s\n", strerror(errno));
+    port_close(&service);
+    port_close(&second.port);
     print_farewell(&gate);
     return ended ? 0 : 1;
 }

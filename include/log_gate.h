@@ -29,7 +29,7 @@ extern "C" {
  * number, a state's layout), the minor one additions. It counts apart from the protocol's version, 3, and from what 0xC0 answers.
  */
 #define LOG_GATE_VERSION_MAJOR 3
-#define LOG_GATE_VERSION_MINOR 2
+#define LOG_GATE_VERSION_MINOR 3
 #define LOG_GATE_VERSION (LOG_GATE_VERSION_MAJOR * 256 + LOG_GATE_VERSION_MINOR)
 
 /* Bytes of a target's state and of an answer reader's state; docs/STATE.md has their layout. More may be lent. */
@@ -42,6 +42,9 @@ extern "C" {
 /* Room for an answer, at least; room for the data of an answer that is read or for a command that is collected, at least. */
 #define LOG_GATE_ANSWER_ROOM 132u
 #define LOG_GATE_DATA_ROOM 64u
+
+/* Room for an answer at the second port, at least. */
+#define LOG_GATE_MODBUS_ROOM 256u
 
 /* Bytes of a list for each table that is registered, and how many tables a list may name. */
 #define LOG_GATE_TABLE 4u
@@ -65,7 +68,8 @@ enum {
     LOG_GATE_EXPECTED_REFUSED = 5, /* an expected length above 64 */
     LOG_GATE_SUM_REFUSED = 6,      /* a finished answer whose sum is wrong */
     LOG_GATE_RESULT_REFUSED = 7,   /* a result above 0xFD, or no collected command that waits for one */
-    LOG_GATE_LIST_REFUSED = 8      /* a list of tables that cannot be registered */
+    LOG_GATE_LIST_REFUSED = 8,     /* a list of tables that cannot be registered */
+    LOG_GATE_STATION_REFUSED = 9   /* an own station outside 1 to 247 */
 };
 
 /* Statuses of answers on the wire. */
@@ -207,6 +211,18 @@ log_gate_said log_gate_prepare(uint8_t *state, size_t state_length, const uint8_
 
 /* The front panel starts the recorder: LOG_GATE_DONE, LOG_GATE_RECORDER_RUNS or LOG_GATE_NOT_SET_UP, as 0xC1 answers. */
 log_gate_said log_gate_start(uint8_t *state, size_t state_length);
+
+/* ---- the second port */
+
+/*
+ * A whole Modbus frame came over the second port, marked off by the gate: Modbus on a serial line, RTU framing, for the station that
+ * the gate is there. Functions 3, 6, 16 and 22 are served. Register r is bytes 2r and 2r + 1 of the memory, low byte first; all of
+ * the memory can be read, bytes 0 to 8,191 can be written. The answer's length is told, check sum and all; a length of 0 is
+ * silence. The two ports share the memory and nothing else, so no state is lent. Refuses LOG_GATE_MEMORY_REFUSED, then
+ * LOG_GATE_ROOM_REFUSED below LOG_GATE_MODBUS_ROOM, where silence follows too, then LOG_GATE_STATION_REFUSED.
+ */
+log_gate_taken log_gate_modbus(uint16_t station, const uint8_t *frame, size_t frame_length, uint8_t *memory, size_t memory_length,
+                               uint8_t *out, size_t out_length);
 
 /* ---- both ends of the line */
 

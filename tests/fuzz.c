@@ -4,6 +4,7 @@
  *
  *     fuzz [SEED [ROUNDS]]
  */
+#include "frames.h"
 #include "lent.h"
 #include "traffic.h"
 
@@ -29,24 +30,31 @@ static void expect(int holds, const char *what)
 /* ---- counts, and a digest of all that the calls gave, by which two archives can be compared */
 
 enum call {
-    RESET, REGISTER, CHECK, BYTE, BLOCK, TICK, COLLECT, REPORT, PREPARE, START, WRITE_ANSWER, WRITE_COMMAND, READER_BEGIN,
+    RESET, REGISTER, CHECK, BYTE, BLOCK, TICK, COLLECT, REPORT, PREPARE, START, MODBUS, WRITE_ANSWER, WRITE_COMMAND, READER_BEGIN,
     READER_BYTE, CALLS
 };
 
-enum { MOST_REFUSAL = LOG_GATE_LIST_REFUSED };
+enum { MOST_REFUSAL = LOG_GATE_STATION_REFUSED };
 
-static const char *const names[CALLS] = {"reset",  "register", "check", "byte",         "block",         "tick",         "collect",
-                                         "report", "prepare",  "start", "write_answer", "write_command", "reader_begin", "reader_byte"};
+static const char *const names[CALLS] = {"reset",  "register",     "check",         "byte",         "block",
+                                         "tick",   "collect",      "report",        "prepare",      "start",
+                                         "modbus", "write_answer", "write_command", "reader_begin", "reader_byte"};
 
 /* The refusals each call can give, 0 for none. Each of them has to come, and no other. */
-static const char *const reachable[CALLS] = {"01",  "0128", "01", "0123", "0123", "012", "013",
-                                             "017", "01",   "01", "034",  "034",  "015", "0136"};
+static const char *const reachable[CALLS] = {"01", "0128", "01",   "0123", "0123", "012", "013", "017",
+                                             "01", "01",   "0239", "034",  "034",  "015", "0136"};
 static uint64_t counts[CALLS][MOST_REFUSAL + 1], answers[256], handed_out, registered, told;
 
 /* How often the panel was told each status. Each of those it can be told has to come, and no other. */
 enum { PREPARING, STARTING, PANEL };
 static uint64_t said[PANEL][256];
 static const char *const statuses[PANEL] = {"00 83 85 86 87 89", "00 01 88"};
+
+/* How often each function served, and any other, was answered with each exception, 0 for none; and frames that got silence. */
+enum { FUNCTIONS = 5, EXCEPTIONS = 4 };
+static uint64_t frames[FUNCTIONS][EXCEPTIONS], silences;
+static const char *const function_names[FUNCTIONS] = {"read", "write one", "write", "mask", "other"};
+static const char *const exceptions[FUNCTIONS] = {"023", "023", "023", "023", "1"};
 
 /* How blocks that were taken ended. */
 enum { NO_BYTES, ALL_TAKEN, STOPPED, ENDS };
@@ -598,6 +606,70 @@ static void throw_panel(int what)
     keep_live(is_live);
 }
 
+/* ---- the second port */
+
+static uint8_t modbus_refusal(unsigned station)
+{
+    if (mem.length != LOG_GATE_MEMORY)
+        return LOG_GATE_MEMORY_REFUSED;
+    if (out.length < LOG_GATE_MODBUS_ROOM)
+        return LOG_GATE_ROOM_REFUSED;
+    return 1 <= station && station <= 247 ? LOG_GATE_TAKEN : LOG_GATE_STATION_REFUSED;
+}
+
+static int gets_silence(unsigned station, const struct frame *f)
+{
+    return f->length < 4 || f->length > 256 || f->bytes[0] != station || f->bytes[1] > 127 || frame_sum(f->bytes, f->length) != 0;
+}
+
+static size_t function_row(uint8_t function)
+{
+    switch (function) {
+    case READ_REGISTERS: return 0;
+    case WRITE_REGISTER: return 1;
+    case WRITE_REGISTERS: return 2;
+    case MASK_REGISTER: return 3;
+    default: return 4;
+    }
+}
+
+/* An answer begins as its frame and has a right check sum. One with an exception has five bytes, and leaves the memory. */
+static void look_at_frame(const struct frame *f, size_t length)
+{
+    const uint8_t *answer = lent_bytes(&out);
+    int refused = answer[1] >= 0x80;
+    uint8_t exception = refused ? answer[2] : 0;
+    expect(answer[0] == f->bytes[0] && (answer[1] & 0x7F) == f->bytes[1], "modbus: an answer to another frame");
+    expect(length <= LOG_GATE_MODBUS_ROOM && frame_sum(answer, length) == 0, "modbus: an answer with a wrong check sum");
+    expect(exception < EXCEPTIONS && (!refused || length == 5), "modbus: another exception");
+    expect(kept_but(&mem, 0, refused || f->bytes[1] == READ_REGISTERS ? 0 : VARIABLES_END), "modbus: a byte that is not its own");
+    frames[function_row(f->bytes[1])][exception]++;
+    digest_bytes(answer, length);
+    keep_memory(0, VARIABLES_END);
+}
+
+static void throw_modbus(void)
+{
+    unsigned station = one_in(16) ? random_number() & 0xFFFF : one_in(16) ? 246 + below(3) : below(4);
+    struct frame f = random_frame((uint8_t)station);
+    lend_memory();
+    lend_room(some_length(LOG_GATE_MODBUS_ROOM, 60));
+    lend(&block, f.bytes, f.length, f.length);
+    uint8_t due = modbus_refusal(station);
+    log_gate_taken taken = log_gate_modbus((uint16_t)station, lent_bytes(&block), f.length, lent_bytes(&mem), mem.length,
+                                           lent_bytes(&out), out.length);
+    count(MODBUS, taken.refusal);
+    expect(taken.refusal == due, "modbus: another refusal");
+    expect(kept(&block) && kept_but(&out, 0, taken.length), "modbus: changes the frame, or bytes behind the answer");
+    if (due != LOG_GATE_TAKEN || gets_silence(station, &f)) {
+        silences += due == LOG_GATE_TAKEN;
+        expect(taken.length == 0 && kept(&mem), "modbus: refused or silent, and not untouched");
+        return;
+    }
+    expect(taken.length >= 5, "modbus: silence to a frame that gets none");
+    look_at_frame(&f, taken.length);
+}
+
 /* ---- registering: lists that are good, and lists with something changed, over entries that the gate's own program wrote */
 
 enum { CALIBRATION = VARIABLES_END, ENTRY = 8, TYPES = VARIABLES_END - 48, THROWN_TABLES = 20 };
@@ -855,7 +927,7 @@ static void throw_reader_byte(void)
 
 static void throw_one(void)
 {
-    uint32_t which = below(37);
+    uint32_t which = below(38);
     if (which < 18)
         throw_byte();
     else if (which < 24)
@@ -878,15 +950,38 @@ static void throw_one(void)
         throw_block();
     else if (which == 34)
         throw_panel(one_in(4) ? STARTING : PREPARING);
+    else if (which == 35)
+        throw_modbus();
     else if (one_in(2))
         throw_reset();
     else
         throw_reader_begin();
 }
 
+static void report_panel(void)
+{
+    for (int what = 0; what < PANEL; what++) {
+        printf("panel, %s", names[PREPARE + what]);
+        for (int status = 0; status < 256; status++)
+            if (said[what][status] > 0)
+                printf(", %02X %llu", (unsigned)status, (unsigned long long)said[what][status]);
+        printf("\n");
+    }
+}
+
+static void report_frames(void)
+{
+    printf("frames");
+    for (size_t row = 0; row < FUNCTIONS; row++)
+        for (int exception = 0; exception < EXCEPTIONS; exception++)
+            if (frames[row][exception] > 0)
+                printf(", %s %d %llu", function_names[row], exception, (unsigned long long)frames[row][exception]);
+    printf("; silences %llu\n", (unsigned long long)silences);
+}
+
 static void report_counts(void)
 {
-    printf("call           taken     1     2     3     4     5     6     7     8\n");
+    printf("call           taken     1     2     3     4     5     6     7     8     9\n");
     for (int call = 0; call < CALLS; call++) {
         printf("%-13s", names[call]);
         for (int refusal = 0; refusal <= MOST_REFUSAL; refusal++)
@@ -899,13 +994,8 @@ static void report_counts(void)
             printf(", %02X %llu", (unsigned)status, (unsigned long long)answers[status]);
     printf("; commands handed out %llu, lists with tables registered %llu, tables told %llu\n", (unsigned long long)handed_out,
            (unsigned long long)registered, (unsigned long long)told);
-    for (int what = 0; what < PANEL; what++) {
-        printf("panel, %s", names[PREPARE + what]);
-        for (int status = 0; status < 256; status++)
-            if (said[what][status] > 0)
-                printf(", %02X %llu", (unsigned)status, (unsigned long long)said[what][status]);
-        printf("\n");
-    }
+    report_panel();
+    report_frames();
     printf("blocks without bytes %llu, taken whole %llu, stopped %llu\n", (unsigned long long)ends[NO_BYTES],
            (unsigned long long)ends[ALL_TAKEN], (unsigned long long)ends[STOPPED]);
 }
@@ -920,6 +1010,15 @@ static void look_at_panel(void)
         }
 }
 
+static void look_at_frames(void)
+{
+    expect(silences > 0, "no frame ever got silence");
+    for (size_t row = 0; row < FUNCTIONS; row++)
+        for (int exception = 0; exception < EXCEPTIONS; exception++)
+            expect((strchr(exceptions[row], '0' + exception) != NULL) == (frames[row][exception] > 0),
+                   "a function gets an exception too few or too many");
+}
+
 /* After few rounds something may not have come yet; the rounds of a run without words are enough for any seed. */
 static void look_at_counts(void)
 {
@@ -928,6 +1027,7 @@ static void look_at_counts(void)
     expect(registered > 0 && told > 0, "no table was ever registered and told");
     expect(ends[NO_BYTES] > 0 && ends[ALL_TAKEN] > 0 && ends[STOPPED] > 0, "blocks never ended in one of the three ways");
     look_at_panel();
+    look_at_frames();
     for (int call = 0; call < CALLS; call++)
         for (int refusal = 0; refusal <= MOST_REFUSAL; refusal++) {
             int can_come = strchr(reachable[call], '0' + refusal) != NULL, came = counts[call][refusal] > 0;

@@ -1,7 +1,9 @@
 /*
  * The virtual gate without its port. A log stands in it with its nail under a coil: a recorder that starts then stops with its first
- * set. Its front panel prepares the recorder, which starts when the next log arrives.
+ * set. Its front panel prepares the recorder, which starts when the next log arrives. Frames are marked off by silence, and the
+ * mill's controller finds the coils in registers.
  */
+#include "../gate/frames.h"
 #include "../gate/gate.h"
 #include "../gate/map.h"
 #include "../gate/memory.h"
@@ -12,7 +14,7 @@
 /* Milliseconds until a nail has come for sure, and from the alarm until it is well under a coil. */
 enum { A_MINUTE = 60000, WELL_UNDER = 10 };
 
-enum { RISING = 1, FALLING = 2 };
+enum { RISING = 1, FALLING = 2, STATION = 1 };
 
 static struct gate gate;
 
@@ -110,10 +112,43 @@ static void test_panel(void)
     printf("gate_test: prepared %u ms before the log, the recorder starts with it\n", waited);
 }
 
+/* ---- the second port */
+
+enum { SILENCE = 5 };
+
+static void test_frames(void)
+{
+    struct frames frames = {.length = 0};
+    const uint8_t bytes[200] = {1, 3};
+    expect(!frames_is_over(&frames, 1000, SILENCE), "silence before the first byte is no frame");
+    frames_take(&frames, bytes, 2, 1000);
+    expect(!frames_is_over(&frames, 1000 + SILENCE - 1, SILENCE), "a frame is not over before its silence");
+    frames_take(&frames, bytes, 1, 1000 + SILENCE - 1);
+    expect(!frames_is_over(&frames, 1000 + SILENCE, SILENCE), "every byte begins the silence anew");
+    expect(frames_is_over(&frames, 1000 + 2 * SILENCE, SILENCE) && frames.length == 3, "then the frame is over");
+    frames_begin(&frames);
+    expect(!frames_is_over(&frames, 9000, SILENCE), "a frame is over once");
+    frames_take(&frames, bytes, sizeof bytes, 9000);
+    frames_take(&frames, bytes, sizeof bytes, 9000);
+    expect(frames.length == FRAMES_ROOM && gate_frame(&gate, frames.bytes, frames.length) == 0, "what is longer than a frame is none");
+}
+
+/* Registers 8 to 11 are the coils, high byte first. */
+static void test_registers(void)
+{
+    const uint8_t asked[] = {STATION, 3, 0, COIL_1 / 2, 0, COILS, 0xC5, 0xCB};
+    expect(gate_frame(&gate, asked, sizeof asked) == 5 + 2 * COILS && gate.frame_answer[2] == 2 * COILS, "the coils can be read");
+    for (int i = 0; i < 2 * COILS; i++)
+        expect(gate.frame_answer[3 + i] == gate.memory[COIL_1 + (i ^ 1)], "each register is a coil");
+    expect(gate_frame(&gate, asked, sizeof asked - 1) == 0, "a frame cut short gets silence");
+}
+
 int main(void)
 {
-    gate_begin(&gate, 1);
+    gate_begin(&gate, 1, STATION);
     test_nail();
     test_panel();
+    test_frames();
+    test_registers();
     return 0;
 }

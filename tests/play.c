@@ -8,7 +8,8 @@
 #include <stdlib.h>
 #include <string.h>
 
-enum { LINE = 16384, MOST_ROOM = 600, MOST_BLOCK_ROOM = 2000, MOST_UNLIMITED = 65535, MOST_TABLES = 40, MOST_SETUP = 255, FILLING = 0xEE };
+enum { LINE = 16384, MOST_ROOM = 600, MOST_BLOCK_ROOM = 2000, MOST_UNLIMITED = 65535 };
+enum { MOST_TABLES = 40, MOST_SETUP = 255, MOST_FRAME = 600, FILLING = 0xEE };
 
 static uint8_t state[LOG_GATE_STATE], memory[LOG_GATE_MEMORY], answer[LOG_GATE_ANSWER_ROOM];
 static uint8_t reader[LOG_GATE_READER], lent[MOST_UNLIMITED], bytes[LINE];
@@ -154,6 +155,20 @@ static void prepare(char *text)
     print_said('F', log_gate_prepare(state, sizeof state, bytes, count));
 }
 
+/* ---- the second port */
+
+static void give_frame(char *text)
+{
+    unsigned long station = next_number(&text, 10);
+    size_t room = next_room(&text, MOST_ROOM), count = next_bytes(text);
+    if (station > UINT16_MAX || count > MOST_FRAME)
+        fail("a station or a frame above what a U line may give");
+    fill_lent(room);
+    log_gate_taken taken = log_gate_modbus((uint16_t)station, bytes, count, memory, sizeof memory, lent, room);
+    printf("U %u %zu", taken.refusal, taken.length);
+    print_bytes(lent, room);
+}
+
 /* ---- tables */
 
 /* The list as the call takes it: 2 bytes for each number, address and size in turn. */
@@ -216,7 +231,7 @@ static void read_bytes(char *text)
 static void play(char *text)
 {
     char letter = *text;
-    memory_used |= strchr("BTPMCYGKFS", letter) != NULL;
+    memory_used |= strchr("BTPMCYGKFSU", letter) != NULL;
     switch (letter) {
     case 'B': give(text + 1); break;
     case 'T': tick(text + 1); break;
@@ -230,6 +245,7 @@ static void play(char *text)
     case 'G': register_tables(text + 1); break;
     case 'K': give_block(text + 1); break;
     case 'F': prepare(text + 1); break;
+    case 'U': give_frame(text + 1); break;
     case 'S': print_said('S', log_gate_start(state, sizeof state)); break;
     default: fail("no operation");
     }

@@ -3,25 +3,10 @@
  * refusal of every call, blocks of every wrong length, and both ends of the line against each other.
  */
 #include "../include/log_gate.h"
+#include "expect.h"
 #include "served.h"
 
-#include <stdbool.h>
-#include <stdio.h>
-#include <stdlib.h>
 #include <string.h>
-
-static unsigned checks, failures;
-
-static void expect(bool holds, const char *what, int line)
-{
-    checks++;
-    if (holds)
-        return;
-    failures++;
-    printf("smoke.c:%d: not so: %s\n", line, what);
-}
-
-#define EXPECT(what) expect((what), #what, __LINE__)
 
 /* ---- a gate */
 
@@ -51,15 +36,7 @@ static void tick(void)
     EXPECT(log_gate_tick(gate.state, sizeof gate.state, gate.memory, sizeof gate.memory) == LOG_GATE_TAKEN);
 }
 
-/* ---- bytes as text: "2B C8 38" */
-
-static size_t bytes_of(const char *text, uint8_t *bytes)
-{
-    size_t n = 0;
-    for (char *end; *text != '\0'; text = end)
-        bytes[n++] = (uint8_t)strtoul(text, &end, 16);
-    return n;
-}
+/* ---- what the gate answers */
 
 static void append_text(char *text, const uint8_t *bytes, size_t length)
 {

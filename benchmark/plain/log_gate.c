@@ -3,6 +3,7 @@
  * It is one unit, so that the compiler may inline as freely as it does in the proved archive.
  */
 #include "commands.h"
+#include "modbus.h"
 #include "reader.h"
 
 /* Firmware that trusts its own RAM leaves these two checks out; the benchmark shows what they cost. */
@@ -141,6 +142,20 @@ log_gate_said log_gate_start(uint8_t *state, size_t state_length)
     if (!state_taken(state, state_length))
         return (log_gate_said){LOG_GATE_STATE_REFUSED, LOG_GATE_DONE};
     return (log_gate_said){LOG_GATE_TAKEN, start_recorder(&((struct target *)state)->recorder)};
+}
+
+log_gate_taken log_gate_modbus(uint16_t station, const uint8_t *frame, size_t frame_length, uint8_t *memory, size_t memory_length,
+                               uint8_t *out, size_t out_length)
+{
+    if (memory_length != LOG_GATE_MEMORY)
+        return (log_gate_taken){LOG_GATE_MEMORY_REFUSED, 0};
+    if (out_length < LOG_GATE_MODBUS_ROOM)
+        return (log_gate_taken){LOG_GATE_ROOM_REFUSED, 0};
+    if (station < FIRST_STATION || station > LAST_STATION)
+        return (log_gate_taken){LOG_GATE_STATION_REFUSED, 0};
+    if (!frame_taken(station, frame, frame_length))
+        return (log_gate_taken){LOG_GATE_TAKEN, 0};
+    return (log_gate_taken){LOG_GATE_TAKEN, answer_frame(frame, frame_length, memory, out)};
 }
 
 static bool is_status(uint8_t status)

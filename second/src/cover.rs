@@ -1,116 +1,47 @@
 //! Counts what scripts reached: which statuses answered which commands, which
-//! refusals the calls gave, how blocks ended and what the panel was told; and
-//! holds it against what can be reached.
+//! refusals the calls gave, how blocks ended, what the panel was told and how
+//! frames ended; and holds it against what can be reached.
 
-use crate::message::fast_length;
-use crate::play::{End, Panel, Standing, Watch};
-use crate::reachable::{
-    BLOCKS, CALLS, OTHER_FAST, OTHER_STANDARD, PANEL, PANEL_IN_MESSAGE, SERVED,
-};
+mod rows;
+
+use crate::modbus::Silence;
+use crate::watch::{End, Panel, Standing, Watch};
+use rows::Row;
 
 /// The most answers to a block that are told apart.
 const MOST_ANSWERS: usize = 3;
 
-/// A command, a call, an end of blocks or a use of the panel, and how often each of its results occurred.
-struct Row {
-    name: String,
-    reachable: &'static [u8],
-    /// At each result: a status, a refusal or a number of answers.
-    counts: Vec<u64>,
-}
-
-impl Row {
-    fn new(name: String, reachable: &'static [u8]) -> Row {
-        Row {
-            name,
-            reachable,
-            counts: vec![0; 256],
-        }
-    }
-
-    fn is_reachable(&self, result: usize) -> bool {
-        self.reachable.iter().any(|r| usize::from(*r) == result)
-    }
-
-    /// A number where something was or should have been, else a dot.
-    fn cell(&self, result: u8) -> String {
-        match self.counts[usize::from(result)] {
-            0 if !self.reachable.contains(&result) => ".".to_string(),
-            count => count.to_string(),
-        }
-    }
-
-    fn line(&self, results: &[u8]) -> String {
-        let cells = results.iter().map(|r| format!(" {:>7}", self.cell(*r)));
-        format!("{:<15}{}\n", self.name, cells.collect::<String>())
-    }
-
-    /// The results that were never reached, and those that cannot be and were.
-    fn faults(&self, what: &str) -> Vec<String> {
-        let told = |result: usize| {
-            let name = &self.name;
-            match (self.is_reachable(result), self.counts[result]) {
-                (true, 0) => Some(format!("never reached: {name} with {what} {result:02X}\n")),
-                (false, 1..) => Some(format!(
-                    "not to be reached: {name} with {what} {result:02X}\n"
-                )),
-                _ => None,
-            }
-        };
-        (0..256).filter_map(told).collect()
-    }
-}
-
 /// How often each pair occurred.
 pub struct Counts {
-    /// The commands served in their order, then the others.
     commands: Vec<Row>,
     calls: Vec<Row>,
     blocks: Vec<Row>,
     panel: Vec<Row>,
+    functions: Vec<Row>,
+    silences: Vec<Row>,
 }
 
 impl Counts {
     pub fn none() -> Counts {
-        let mut served: Vec<_> = SERVED
-            .iter()
-            .flat_map(|(commands, statuses)| commands.iter().map(|c| (*c, *statuses)))
-            .collect();
-        served.sort();
-        let named = served
-            .into_iter()
-            .map(|(command, statuses)| Row::new(format!("{command:02X}"), statuses));
-        let others = [
-            Row::new("other standard".to_string(), OTHER_STANDARD),
-            Row::new("other fast".to_string(), OTHER_FAST),
-        ];
-        let calls = CALLS
-            .iter()
-            .map(|(letter, r)| Row::new(letter.to_string(), r));
-        let blocks = BLOCKS
-            .iter()
-            .map(|(end, answers)| Row::new(name_of(*end).to_string(), answers));
-        let panel = PANEL
-            .iter()
-            .map(|(panel, standing, statuses)| Row::new(panel_name(*panel, *standing), statuses));
-        let in_message = PANEL_IN_MESSAGE
-            .iter()
-            .map(|(panel, statuses)| Row::new(in_message_name(*panel), statuses));
         Counts {
-            commands: named.chain(others).collect(),
-            calls: calls.collect(),
-            blocks: blocks.collect(),
-            panel: panel.chain(in_message).collect(),
+            commands: rows::commands(),
+            calls: rows::calls(),
+            blocks: rows::blocks(),
+            panel: rows::panel(),
+            functions: rows::functions(),
+            silences: rows::silences(),
         }
     }
 
     /// The tables, each with its title, what its results are, and its rows.
-    fn tables(&self) -> [(&'static str, &'static str, &[Row]); 4] {
+    fn tables(&self) -> [(&'static str, &'static str, &[Row]); 6] {
         [
             ("command", "status", &self.commands),
             ("call", "refusal", &self.calls),
             ("block, answers", "answers", &self.blocks),
             ("panel", "status", &self.panel),
+            ("function", "exception", &self.functions),
+            ("silence", "bytes", &self.silences),
         ]
     }
 
@@ -128,7 +59,7 @@ impl Counts {
     }
 
     /// How many pairs can be reached, of each table.
-    pub fn reachable(&self) -> [usize; 4] {
+    pub fn reachable(&self) -> [usize; 6] {
         let pairs = |rows: &[Row]| rows.iter().map(|row| row.reachable.len()).sum();
         self.tables().map(|(_, _, rows)| pairs(rows))
     }
@@ -136,14 +67,8 @@ impl Counts {
 
 impl Watch for Counts {
     fn answered(&mut self, command: u8, status: u8) {
-        let name = format!("{command:02X}");
-        let other = match fast_length(command) {
-            None => "other standard",
-            Some(_) => "other fast",
-        };
-        let listed = self.commands.iter().any(|row| row.name == name);
-        let name = if listed { &name } else { other };
-        count(&mut self.commands, name, usize::from(status));
+        let name = rows::command_name(command);
+        count(&mut self.commands, &name, usize::from(status));
     }
 
     fn called(&mut self, letter: char, refusal: u8) {
@@ -151,15 +76,28 @@ impl Watch for Counts {
     }
 
     fn ended(&mut self, end: End, answers: usize) {
-        count(&mut self.blocks, name_of(end), answers.min(MOST_ANSWERS));
+        count(
+            &mut self.blocks,
+            rows::end_name(end),
+            answers.min(MOST_ANSWERS),
+        );
     }
 
     fn at_panel(&mut self, panel: Panel, standing: Standing, in_message: bool, status: u8) {
         let status = usize::from(status);
-        count(&mut self.panel, &panel_name(panel, standing), status);
+        count(&mut self.panel, &rows::panel_name(panel, standing), status);
         if in_message {
-            count(&mut self.panel, &in_message_name(panel), status);
+            count(&mut self.panel, &rows::in_message_name(panel), status);
         }
+    }
+
+    fn frame_answered(&mut self, function: u8, exception: u8) {
+        let name = rows::function_name(function);
+        count(&mut self.functions, &name, usize::from(exception));
+    }
+
+    fn frame_silent(&mut self, silence: Silence) {
+        count(&mut self.silences, rows::silence_name(silence), 0);
     }
 }
 
@@ -167,30 +105,6 @@ impl Watch for Counts {
 fn count(rows: &mut [Row], name: &str, result: usize) {
     let row = rows.iter_mut().find(|row| row.name == name);
     row.expect("every name has a row").counts[result] += 1;
-}
-
-fn name_of(end: End) -> &'static str {
-    match end {
-        End::Empty => "no bytes",
-        End::Whole => "all taken",
-        End::WholeAndFull => "all, no room",
-        End::Stopped => "stopped",
-    }
-}
-
-fn panel_name(panel: Panel, standing: Standing) -> String {
-    let standing = match standing {
-        Standing::NotSetUp => "not set up",
-        Standing::Fresh => "no set",
-        Standing::Runs => "runs",
-        Standing::Stopped => "stopped",
-        Standing::Full => "full",
-    };
-    format!("{}, {standing}", panel.letter())
-}
-
-fn in_message_name(panel: Panel) -> String {
-    format!("{} in message", panel.letter())
 }
 
 /// A column for each result that some row reached or can reach.
@@ -232,6 +146,9 @@ mod tests {
         counts.called('E', 5);
         counts.ended(End::Whole, 9);
         counts.ended(End::Empty, 1);
+        counts.frame_answered(3, 1);
+        counts.frame_answered(4, 1);
+        counts.frame_silent(Silence::Long);
         counts.at_panel(Panel::Starts, Standing::Runs, true, 0x01);
         counts.at_panel(Panel::Starts, Standing::Full, false, 0x88);
         let faults = counts.faults();
@@ -246,6 +163,11 @@ mod tests {
         assert!(has("never reached: stopped with answers 01"));
         assert!(has("not to be reached: no bytes with answers 01"));
         assert!(!has("never reached: all taken with answers 03"));
+        assert!(has("not to be reached: 03 with exception 01"));
+        assert!(has("never reached: 16 with exception 02"));
+        assert!(!has("never reached: other with exception 01"));
+        assert!(has("never reached: broadcast with bytes 00"));
+        assert!(!has("never reached: above 256 with bytes 00"));
         assert!(has("never reached: F, runs with status 87"));
         assert!(has("never reached: S in message with status 00"));
         assert!(!has("never reached: S in message with status 01"));
@@ -257,7 +179,10 @@ mod tests {
         let mut counts = Counts::none();
         counts.answered(0xFF, 0x81);
         let told = counts.tell();
-        assert_eq!(told.lines().count(), 1 + 36 + 1 + 8 + 1 + 4 + 1 + 12);
+        assert_eq!(
+            told.lines().count(),
+            1 + 36 + 1 + 9 + 1 + 4 + 1 + 12 + 1 + 5 + 1 + 6
+        );
         let last = told.lines().find(|l| l.starts_with("other fast")).unwrap();
         let cells: Vec<&str> = last.split_whitespace().collect();
         assert_eq!(cells[2..6], [".", ".", ".", "1"]);

@@ -11,6 +11,7 @@ mod host;
 mod line;
 mod make;
 mod message;
+mod modbus;
 mod panel;
 mod play;
 mod reachable;
@@ -22,12 +23,15 @@ mod script;
 mod tables;
 mod target;
 mod trigger;
+mod watch;
 mod wrong;
 
 #[cfg(test)]
 mod application_test;
 #[cfg(test)]
 mod block_test;
+#[cfg(test)]
+mod modbus_test;
 #[cfg(test)]
 mod order_test;
 #[cfg(test)]
@@ -117,11 +121,12 @@ fn cover_scripts(files: &[&str]) -> Result<ExitCode, String> {
         let played = play::play_watched(&mut open(file)?, &mut io::sink(), &mut counts);
         played.map_err(|wrong| format!("{file}: {wrong}"))?;
     }
-    let [commands, calls, blocks, panel] = counts.reachable();
+    let [commands, calls, blocks, panel, functions, silences] = counts.reachable();
     print!("{}", counts.tell());
     println!(
         "reachable: {commands} pairs of command and status, {calls} of call and refusal, \
-         {blocks} of a block's end and answers, {panel} of the panel's finding and status"
+         {blocks} of a block's end and answers, {panel} of the panel's finding and status, \
+         {functions} of function and exception; {silences} silences"
     );
     let faults = counts.faults();
     print!("{faults}");

@@ -3,14 +3,15 @@
 //! A script is a row of steps: single messages right and wrong, noise, whole
 //! recordings that are set up, triggered and read back, commands for the gate's
 //! own program with its calls, tables of names that are registered and asked
-//! for, blocks of wire bytes, a panel that prepares and starts the recorder, and
-//! calls of the other end of the cable.
+//! for, blocks of wire bytes, a panel that prepares and starts the recorder,
+//! frames at the second port, and calls of the other end of the cable.
 
 mod application;
 mod blocks;
 mod entries;
 mod host;
 mod memory;
+mod modbus;
 mod noise;
 mod panel;
 mod plan;
@@ -42,7 +43,7 @@ pub struct Maker {
 type Step = fn(&mut Maker);
 
 /// Each step with its weight.
-const STEPS: [(u64, Step); 35] = [
+const STEPS: [(u64, Step); 37] = [
     (8, Maker::fast_read),
     (8, Maker::fast_write),
     (10, Maker::block),
@@ -78,6 +79,8 @@ const STEPS: [(u64, Step); 35] = [
     (5, Maker::panel_wrong),
     (3, Maker::panel_call),
     (5, Maker::panel_amid),
+    (12, Maker::frames),
+    (2, Maker::frames_beside_recorder),
 ];
 
 /// The script of a seed: so many operations, then the memory shown.

@@ -3,10 +3,12 @@
 use std::io::{BufRead, Write};
 
 use crate::adler::adler32;
-use crate::host::{write_answer, write_command, Reader, Refusal, ANSWER_ROOM};
+use crate::host::{write_answer, write_command, Reader, Refusal};
+use crate::modbus;
 use crate::script::{parse, Call, Operation};
 use crate::tables::Table;
 use crate::target::{Block, Target};
+use crate::watch::{End, Panel, Standing, Watch};
 
 /// What every lent buffer is filled with before each call.
 const FILL: u8 = 0xEE;
@@ -16,95 +18,6 @@ pub type Failure = String;
 
 /// A writer of the other end of the cable.
 type Writer = fn(u8, &[u8], &mut [u8]) -> Result<usize, Refusal>;
-
-/// How a block ended that was not refused.
-#[derive(Clone, Copy, Debug, PartialEq, Eq)]
-pub enum End {
-    /// It had no bytes.
-    Empty,
-    /// All were taken, and there was room for more.
-    Whole,
-    /// All were taken, and no further one would have been.
-    WholeAndFull,
-    /// Bytes were left.
-    Stopped,
-}
-
-impl End {
-    /// Of a block of so many bytes, with so much room lent.
-    fn of(block: &Block, length: usize, room: usize) -> End {
-        let full = room - block.wire().len() < ANSWER_ROOM;
-        match (length, length - block.taken) {
-            (0, _) => End::Empty,
-            (_, 1..) => End::Stopped,
-            _ if full => End::WholeAndFull,
-            _ => End::Whole,
-        }
-    }
-}
-
-/// What the panel can do.
-#[derive(Clone, Copy, Debug, PartialEq, Eq)]
-pub enum Panel {
-    Prepares,
-    Starts,
-}
-
-impl Panel {
-    /// Of the line that does it.
-    pub fn letter(self) -> char {
-        match self {
-            Panel::Prepares => 'F',
-            Panel::Starts => 'S',
-        }
-    }
-}
-
-/// How the recorder stands when the panel does something.
-#[derive(Clone, Copy, Debug, PartialEq, Eq)]
-pub enum Standing {
-    NotSetUp,
-    /// It stands and has taken no set since it was prepared or started.
-    Fresh,
-    Runs,
-    /// It stopped before 'samples' sets were taken.
-    Stopped,
-    /// The buffer is full.
-    Full,
-}
-
-impl Standing {
-    fn at(target: &Target) -> Standing {
-        match &target.recorder {
-            None => Standing::NotSetUp,
-            Some(recorder) if recorder.runs() => Standing::Runs,
-            Some(recorder) if recorder.has_no_set() => Standing::Fresh,
-            Some(recorder) if recorder.is_full() => Standing::Full,
-            Some(_) => Standing::Stopped,
-        }
-    }
-}
-
-/// Whoever is told of every answer, of every call at the other end, of how
-/// blocks end and of what the panel does.
-pub trait Watch {
-    /// A message of a command was answered with a status.
-    fn answered(&mut self, command: u8, status: u8);
-    /// A call of a line with this letter gave a refusal, or 0.
-    fn called(&mut self, letter: char, refusal: u8);
-    /// A block ended so, with so many answers.
-    fn ended(&mut self, end: End, answers: usize);
-    /// The panel got a status, in the midst of a message or not.
-    fn at_panel(&mut self, panel: Panel, standing: Standing, in_message: bool, status: u8);
-}
-
-/// Nobody.
-impl Watch for () {
-    fn answered(&mut self, _command: u8, _status: u8) {}
-    fn called(&mut self, _letter: char, _refusal: u8) {}
-    fn ended(&mut self, _end: End, _answers: usize) {}
-    fn at_panel(&mut self, _panel: Panel, _standing: Standing, _in_message: bool, _status: u8) {}
-}
 
 struct Player<'a, O: Write, W: Watch> {
     target: Target,
@@ -194,6 +107,11 @@ impl<O: Write, W: Watch> Player<'_, O, W> {
             Operation::Block { room, bytes } => self.block(room, &bytes),
             Operation::Prepare(data) => self.panel(Panel::Prepares, |gate| gate.prepare(&data)),
             Operation::Start => self.panel(Panel::Starts, Target::start),
+            Operation::Frame {
+                station,
+                room,
+                bytes,
+            } => self.frame(station, room, &bytes),
         }
     }
 
@@ -236,6 +154,18 @@ impl<O: Write, W: Watch> Player<'_, O, W> {
         let status = does(&mut self.target);
         self.watch.at_panel(panel, standing, in_message, status);
         self.print(&format!("{} {status:02X}", panel.letter()), &[])
+    }
+
+    fn frame(&mut self, station: u16, room: usize, frame: &[u8]) -> Result<(), Failure> {
+        let mut lent = vec![FILL; room];
+        let called = modbus::call(station, frame, &mut self.target.memory, &mut lent);
+        match &called {
+            Ok(Ok(answer)) => self.watch.frame_answered(answer.function, answer.exception),
+            Ok(Err(silence)) => self.watch.frame_silent(*silence),
+            Err(_) => {}
+        }
+        let length = called.map(|answer| answer.map_or(0, |answer| answer.frame.len()));
+        self.print_lent('U', length, &lent)
     }
 
     fn write(&mut self, letter: char, writer: Writer, call: Call) -> Result<(), Failure> {
@@ -402,6 +332,17 @@ mod tests {
         let (_, out) = played(&script);
         let wanted = "S 88\nF 85\nF 00\nA 2 2B 02 FE\nS 00\nS 01\nF 87\nA 5 2B 01 FF\nD ";
         assert!(out.starts_with(wanted), "{out}");
+    }
+
+    #[test]
+    fn frames_at_the_second_port() {
+        let (_, out) = played("U 17 256 11 06 00 01 00 03 9A 9B\nM 2 2\nU 1 256\nU 0 1 11\n");
+        let (rest, all) = (" EE".repeat(248), " EE".repeat(256));
+        let wanted =
+            format!("U 0 8 11 06 00 01 00 03 9A 9B{rest}\nM 2 03 00\nU 0 0{all}\nU 3 0 EE\nD ");
+        assert!(out.starts_with(&wanted), "{out}");
+        let (_, nothing) = played("U 0 256\n");
+        assert_eq!(nothing, format!("U 9 0{all}\nD adler32 40000001\n"));
     }
 
     /// Indexes and the reader stay at a reset with tables.

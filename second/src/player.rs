@@ -8,6 +8,7 @@ mod commands;
 mod host;
 mod line;
 mod message;
+mod modbus;
 mod panel;
 mod play;
 mod recorder;
@@ -17,6 +18,7 @@ mod script;
 mod tables;
 mod target;
 mod trigger;
+mod watch;
 
 use std::io::{self, BufWriter};
 use std::process::ExitCode;

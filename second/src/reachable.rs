@@ -1,11 +1,12 @@
 //! What can be reached, written down from the paper: the statuses that answer
-//! each command, the refusals of each call that a script makes, how blocks end
-//! and what the panel is told.
+//! each command, the refusals of each call that a script makes, how blocks end,
+//! what the panel is told and how frames at the second port end.
 //!
 //! Nothing here is computed from the refusals' table: a row there that refuses
 //! too much or too little shows as a pair too few or too many.
 
-use crate::play::{End, Panel, Standing};
+use crate::modbus::Silence;
+use crate::watch::{End, Panel, Standing};
 
 /// Commands served, and the statuses that can answer them.
 pub const SERVED: [(&[u8], &[u8]); 14] = [
@@ -39,7 +40,7 @@ pub const OTHER_FAST: &[u8] = &[0x81, 0x82];
 
 /// The refusals that each line of a script can print, 0 for none. Those of a
 /// state or a memory no script can provoke: tests/fuzz.c counts them.
-pub const CALLS: [(char, &[u8]); 8] = [
+pub const CALLS: [(char, &[u8]); 9] = [
     ('W', &[0, 3, 4]),
     ('V', &[0, 3, 4]),
     ('E', &[0, 5]),
@@ -48,6 +49,7 @@ pub const CALLS: [(char, &[u8]); 8] = [
     ('Y', &[0, 7]),
     ('G', &[0, 8]),
     ('K', &[0, 3]),
+    ('U', &[0, 3, 9]),
 ];
 
 /// How a block can end, and how many answers it can have had then, 3 for three
@@ -81,4 +83,24 @@ const READ: &[u8] = &[0x00, 0x83, 0x85, 0x86, 0x89];
 pub const PANEL_IN_MESSAGE: [(Panel, &[u8]); 2] = [
     (Panel::Prepares, &[0x00, 0x83, 0x85, 0x86, 0x87, 0x89]),
     (Panel::Starts, &[0x00, 0x01, 0x88]),
+];
+
+/// Functions served, and the exceptions that can answer them, 0 for none; then
+/// those of all others.
+pub const FUNCTIONS: [(u8, &[u8]); 4] = [
+    (3, &[0, 2, 3]),
+    (6, &[0, 2, 3]),
+    (16, &[0, 2, 3]),
+    (22, &[0, 2, 3]),
+];
+pub const OTHER_FUNCTION: &[u8] = &[1];
+
+/// Why a frame can get silence.
+pub const SILENCES: [Silence; 6] = [
+    Silence::Short,
+    Silence::Long,
+    Silence::WrongSum,
+    Silence::OtherStation,
+    Silence::Broadcast,
+    Silence::FunctionAbove127,
 ];

@@ -12,6 +12,9 @@ const MOST_UNLIMITED: usize = 65_535;
 /// The most bytes an F line may give, far more than a setup can have.
 const MOST_SETUP: usize = 255;
 
+/// The most bytes a frame on a U line may have, and the most room there.
+const MOST_FRAME: usize = 600;
+
 /// The most tables a G line may name, more than can be registered.
 const MOST_TABLES: usize = 40;
 
@@ -41,6 +44,12 @@ pub enum Operation {
     /// The data part that the panel gives.
     Prepare(Vec<u8>),
     Start,
+    /// A frame at the second port, for an own station.
+    Frame {
+        station: u16,
+        room: usize,
+        bytes: Vec<u8>,
+    },
 }
 
 impl Operation {
@@ -115,6 +124,11 @@ impl Words<'_> {
             }),
             "F" => Ok(Operation::Prepare(self.bytes_up_to(MOST_SETUP)?)),
             "S" => Ok(Operation::Start),
+            "U" => Ok(Operation::Frame {
+                station: self.number_of_16_bits("station")?,
+                room: self.room_up_to(MOST_FRAME)?,
+                bytes: self.bytes_up_to(MOST_FRAME)?,
+            }),
             other => Err(format!("`{other}` is no operation")),
         }
     }
@@ -231,6 +245,15 @@ mod tests {
         assert_eq!(read("F"), Some(Operation::Prepare(Vec::new())));
         assert_eq!(read("F 2b 7"), Some(Operation::Prepare(vec![0x2B, 0x07])));
         assert_eq!(read("S"), Some(Operation::Start));
+        let frame = |station, room, bytes| {
+            Some(Operation::Frame {
+                station,
+                room,
+                bytes,
+            })
+        };
+        assert_eq!(read("U 65535 600"), frame(65_535, 600, Vec::new()));
+        assert_eq!(read("U 0 0 2b 7"), frame(0, 0, vec![0x2B, 0x07]));
         let call = Call {
             first: 0xD0,
             room: 600,
@@ -285,15 +308,23 @@ mod tests {
             "F -1",
             "S 1",
             "S 00",
+            "U",
+            "U 1",
+            "U 65536 256",
+            "U -1 256",
+            "U 1 601",
+            "U 1 256 100",
         ] {
             assert!(parse(line).is_err(), "{line}");
         }
     }
 
     #[test]
-    fn up_to_255_bytes_of_a_setup() {
+    fn up_to_so_many_bytes() {
         assert!(parse(&format!("F{}", " 00".repeat(255))).is_ok());
         assert!(parse(&format!("F{}", " 00".repeat(256))).is_err());
+        assert!(parse(&format!("U 1 256{}", " 00".repeat(600))).is_ok());
+        assert!(parse(&format!("U 1 256{}", " 00".repeat(601))).is_err());
     }
 
     #[test]

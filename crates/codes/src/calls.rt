@@ -17,3 +17,5 @@ pub const SUM_REFUSED: u8 = 6;
 pub const RESULT_REFUSED: u8 = 7;
 
 pub const LIST_REFUSED: u8 = 8;
+
+pub const STATION_REFUSED: u8 = 9;

@@ -15,6 +15,7 @@ pub use calls::MEMORY_REFUSED;
 pub use calls::RESULT_REFUSED;
 pub use calls::ROOM_REFUSED;
 pub use calls::STATE_REFUSED;
+pub use calls::STATION_REFUSED;
 pub use calls::SUM_REFUSED;
 pub use calls::TAKEN;
 pub use limits::ANSWER_ROOM;

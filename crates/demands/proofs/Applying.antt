@@ -1,70 +1,49 @@
 -- Application commands along a run: what is handed out, and what is said while one is pending.
-use mathlib.Core.Path.{_≡_, refl, sym, ap, subst, _∙_}
+use mathlib.Core.Path.{_≡_, refl, sym, ap, _∙_}
 use mathlib.Core.Bool.{true}
-use mathlib.Core.List.{List, [], _∷_, _++_, append-nil, append-assoc}
-use Prim.Native.Nat.{ℕ, _<_}
+use mathlib.Core.List.{List, [], _∷_, _++_, append-nil}
+use Prim.Native.Nat.{ℕ}
 use Rattle.document.specs.Message.{Message, finishedBy}
-use Rattle.document.specs.Answer.{Answer, answerOnWire}
-use Rattle.document.specs.Recorder.{tickedMemory}
-use Rattle.document.specs.Application.{isPending}
+use Rattle.document.specs.Answer.{answerOnWire}
 use Rattle.document.specs.Application.Application.{waiting}
 use Rattle.document.specs.Gate.{Gate, Outcome, says}
 use Rattle.document.specs.Commands.{answered}
 use Rattle.document.specs.Asides.{Aside}
-use Rattle.document.specs.Asides.Aside.{tick, writes, collects, reports, prepares, starts}
-use Rattle.document.specs.Happenings.{Happening, Since, told, after, afterAll}
+use Rattle.document.specs.Asides.Aside.{tick, writes, collects, reports, prepares, starts, frames}
+use Rattle.document.specs.Happenings.{Happening, Since, told, after}
 use Rattle.document.specs.Happenings.Happening.{byte, aside}
 use Rattle.document.specs.Blocks.{answersOnWire}
 use Rattle.happenings.proofs.Blocks.{wire-one}
-use Rattle.recorder.specs.State.{recorderOf}
-use Rattle.application.specs.State.{Command}
-use Rattle.state.specs.State.{Target}
-use Rattle.state.proofs.Keeps.{memory-ticked}
-use Rattle.blocks.specs.Layout.{decoded, encoded}
-use Rattle.happenings.specs.Bytes.{BesideIsBytes, IsBytes, AreBytes}
-use Rattle.happenings.specs.Applying.{sends, waitingIn, handedBeside, handedAt, handedOut, AllUnreported}
-use Rattle.happenings.proofs.Applying.{application-after, between}
+use Rattle.happenings.specs.Bytes.{IsBytes, AreBytes}
+use Rattle.happenings.specs.Applying.{sends, waitingIn, handedBeside, handedAt, handedOut}
+use Rattle.happenings.proofs.Applying.{application-after}
 use Rattle.demands.specs.House.{House, gateIn}
-use Rattle.demands.specs.Run.{Beside, Step, Singly}
-use Rattle.demands.specs.Run.Singly.{ends, happens, refuses}
+use Rattle.demands.specs.Run.{Step, Singly}
 use Rattle.demands.specs.Stands.{Stands}
 use Rattle.demands.specs.Applying.{OnlySaid}
-use Rattle.demands.proofs.Served.{refused-kept, step-byte, step-tick, step-collect, step-report, step-prepare, step-start}
-use Rattle.demands.proofs.Runs.{Reached, reached-step}
+use Rattle.demands.proofs.Served.{servedBeside, step-byte, step-beside}
+use Rattle.demands.proofs.Runs.{Reached, run-grows}
 
 -- ---- what is handed out
 
 module _ (h : House) (s : Since) (r : Reached h s) where
-  beside-hands : (a : Aside) (next : House) → Beside h a next → next .commands ≡ h .commands ++ handedBeside (s .gate) a
-  beside-hands tick next step =
-      let same = memory-ticked (recorderOf (decoded (h .block) .instruments .recorder)) (h .memory) (r .within .memory-part) .size ∙ sym (r .within .memory-part .size) in
-      ap (λ (q : House). q .commands) (step-tick h (r .long) (r .within) next (step .0) (step .1) (step .2) same) ∙ sym (append-nil (h .commands))
-  beside-hands (writes address bytes) next step = ap (λ (q : House). q .commands) step ∙ sym (append-nil (h .commands))
-  beside-hands collects next step =
-      ap (λ (q : House). q .commands) (step-collect h (r .long) (r .within) next (step .0) (step .1) (step .2))
-      ∙ ap (λ (g : Gate). h .commands ++ waitingIn (g .application)) (r .stands .gate)
-  beside-hands (reports reported) next step =
-      ap (λ (q : House). q .commands) (step-report h (r .long) (r .within) reported next (step .0) (step .1) (step .2)) ∙ sym (append-nil (h .commands))
-  beside-hands (prepares setup) next step =
-      ap (λ (q : House). q .commands) (step-prepare h (r .long) (r .within) setup next (step .0) (step .1) (step .2)) ∙ sym (append-nil (h .commands))
-  beside-hands starts next step =
-      ap (λ (q : House). q .commands) (step-start h (r .long) (r .within) next (step .0) (step .1) (step .2)) ∙ sym (append-nil (h .commands))
+  served-hands : (a : Aside) → servedBeside h a .commands ≡ h .commands ++ handedBeside (s .gate) a
+  served-hands tick = sym (append-nil (h .commands))
+  served-hands (writes address bytes) = sym (append-nil (h .commands))
+  served-hands collects = ap (λ (g : Gate). h .commands ++ waitingIn (g .application)) (r .stands .gate)
+  served-hands (reports reported) = sym (append-nil (h .commands))
+  served-hands (prepares setup) = sym (append-nil (h .commands))
+  served-hands starts = sym (append-nil (h .commands))
+  served-hands (frames station frame) = sym (append-nil (h .commands))
 
   step-hands : (e : Happening) (next : House) → IsBytes e → Step h e next → next .commands ≡ h .commands ++ handedAt s e
   step-hands (byte b) next small step =
       ap (λ (q : House). q .commands) (step-byte h (r .long) (r .within) b small next (step .0) (step .1) (step .2)) ∙ sym (append-nil (h .commands))
-  step-hands (aside a) next are step = beside-hands a next step
+  step-hands (aside a) next are step = ap (λ (q : House). q .commands) (step-beside h (r .long) (r .within) a next step) ∙ served-hands a
 
 pub run-hands : (h last : House) (hs : List Happening) → Singly h hs last → (s : Since) → AreBytes hs → Reached h s
     → last .commands ≡ h .commands ++ handedOut s hs
-run-hands h last hs (ends _) s are r = sym (append-nil (h .commands))
-run-hands h last hs (happens _ next _ e es step run) s are r =
-    run-hands next last es run (after s e) (are .1) (reached-step h s r e next (are .0) step)
-    ∙ ap (λ (l : List (List ℕ)). l ++ handedOut (after s e) es) (step-hands h s r e next (are .0) step)
-    ∙ append-assoc (h .commands) (handedAt s e) (handedOut (after s e) es)
-run-hands h last hs (refuses _ next _ _ refused run) s are r =
-    run-hands next last hs run s are (subst (λ (q : House). Reached q s) (sym (refused-kept h next refused)) r)
-    ∙ ap (λ (q : House). q .commands ++ handedOut s hs) (refused-kept h next refused)
+run-hands = run-grows (λ (q : House). q .commands) handedAt step-hands
 
 -- ---- what is said
 

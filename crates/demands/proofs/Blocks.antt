@@ -1,7 +1,7 @@
 -- A block is its bytes, given singly: a run in which bytes come in blocks is one in which each comes by a call of its own.
-use mathlib.Core.Path.{_≡_, refl, sym, ap, subst, _∙_}
-use mathlib.Core.List.{List, [], _∷_, _++_, map, append-nil}
-use Prim.Native.Nat.{ℕ, zero, suc, _+_}
+use mathlib.Core.Path.{_≡_, sym, ap, subst, _∙_}
+use mathlib.Core.List.{List, [], _∷_, _++_, append-nil}
+use Prim.Native.Nat.{ℕ, zero, suc}
 use native.Mathlib.Nat.{zero-add, sub-zero}
 use native.Mathlib.Omega.{arith}
 use lib.ListN.{length, take, drop}
@@ -9,7 +9,6 @@ use lib.Seq.{sets, length-sets}
 use Rattle.document.specs.Numbers.{taken}
 use Rattle.document.specs.Bytes.{AllBytes}
 use Rattle.document.specs.Happenings.{Happening, Since, after, afterAll}
-use Rattle.document.specs.Happenings.Happening.{byte}
 use Rattle.document.specs.Blocks.{blockAfter}
 use Rattle.happenings.specs.Bytes.{AreBytes}
 use Rattle.happenings.proofs.Blocks.{block-came}
@@ -55,7 +54,7 @@ module _ (h : House) (s : Since) (r : Reached h s) (bytes : List ℕ) (all : All
 
   -- a walk begins at the house
   begun-here : houseAt h (begun (decoded (h .block)) (h .memory) (c .buffer)) ≡ h
-  begun-here = λ j. record { block = r .stored j; memory = h .memory; answers = append-nil (h .answers) j; commands = h .commands }
+  begun-here = λ j. record { block = r .stored j; memory = h .memory; answers = append-nil (h .answers) j; commands = h .commands; modbus-answers = h .modbus-answers }
 
   goes : Goes h (begun (decoded (h .block)) (h .memory) (c .buffer)) (walked (begun (decoded (h .block)) (h .memory) (c .buffer)) bytes) bytes (blockAfter s (length (c .buffer)) bytes)
   goes =
@@ -91,7 +90,7 @@ module _ (h : House) (s : Since) (r : Reached h s) (bytes : List ℕ) (all : All
       all-back (h .block) (c .state) (c .after) (sets (h .block) 0 (encoded (end .next))) lent after (length-sets (h .block) 0 (encoded (end .next))) in
       let memory : handedBack (h .memory) (c .memory) (c .left) ≡ end .memory =
       all-back (h .memory) (c .memory) (c .left) (end .memory) lent-memory left (keeps .memory-part .size ∙ sym (r .within .memory-part .size)) in
-      c .house ∙ (λ j. record { block = block j; memory = memory j; answers = h .answers ++ take (result-is j .written) (told-is j); commands = h .commands })
+      c .house ∙ (λ j. record { block = block j; memory = memory j; answers = h .answers ++ take (result-is j .written) (told-is j); commands = h .commands; modbus-answers = h .modbus-answers })
 
   taken-is : c .result .taken ≡ blockAfter s (length (c .buffer)) bytes .taken
   taken-is = ap (λ (k : BlockTaken). k .taken) result-is ∙ goes .taken ∙ zero-add _

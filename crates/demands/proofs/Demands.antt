@@ -2,10 +2,12 @@
 --
 -- A run is any list of things that happen since reset: a byte comes over the port and `log_gate_byte` is called, or a block of them and
 -- `log_gate_block` is, the gate ticks and `log_gate_tick` is called, the gate's own program writes its memory, or it calls
--- `log_gate_collect` and `log_gate_report`, and the front panel `log_gate_prepare` and `log_gate_start`; and refused calls anywhere among
--- them. Of a call only its promise is known (`byte_call.Promises.ByteTaken`, `block_call.Promises.BlockDone`,
--- `tick_call.Promises.TickTaken`, `application_calls.Promises.CollectDone` and `ReportDone`, `panel_calls.Promises.PrepareDone` and
--- `StartDone`), and that promise is the contract that the prover holds the compiled function to. What the calls are compared with is document 01 and the requests as definitions (`document`), never a program.
+-- `log_gate_collect` and `log_gate_report`, the front panel `log_gate_prepare` and `log_gate_start`, and a frame comes over the second
+-- port and `log_gate_modbus` is called; and refused calls anywhere among them. Of a call only its promise is known
+-- (`byte_call.Promises.ByteTaken`, `block_call.Promises.BlockDone`, `tick_call.Promises.TickTaken`,
+-- `application_calls.Promises.CollectDone` and `ReportDone`, `panel_calls.Promises.PrepareDone` and `StartDone`,
+-- `modbus.Promises.ModbusDone`), and that promise is the contract that the prover holds the compiled function to. What the calls are
+-- compared with is document 01 and the requests as definitions (`document`), never a program.
 use mathlib.Core.Path.{_≡_, refl, sym, ap, subst, _∙_}
 use mathlib.Core.Bool.{true, false}
 use mathlib.Core.List.{List, [], _∷_, _++_}
@@ -14,6 +16,7 @@ use lib.Dec.{ltb}
 use lib.ListN.{length, drop}
 use Rattle.document.specs.Numbers.{mostData, answerRoom, taken, done, busy, sumWrong}
 use Rattle.document.specs.Bytes.{AllBytes}
+use Rattle.document.specs.Areas.{variablesEnd}
 use Rattle.document.specs.Message.{Message, sumRight, wellFormed, onWire, finishedBy}
 use Rattle.document.specs.Answer.{Answer}
 use Rattle.document.specs.AnswerWriter.{answerRefusal}
@@ -29,7 +32,8 @@ use Rattle.document.specs.Tables.{Table}
 use Rattle.document.specs.Gate.{Gate, says, registered as gate}
 use Rattle.document.specs.Commands.{answered}
 use Rattle.document.specs.Panel.{panelPrepares, panelStarts}
-use Rattle.document.specs.Asides.Aside.{tick, collects, reports, prepares, starts as starting}
+use Rattle.document.specs.Modbus.{modbusRoom}
+use Rattle.document.specs.Asides.Aside.{tick, collects, reports, prepares, starts as starting, frames}
 use Rattle.document.specs.Happenings.{Happening, Since, after as happened, afterAll, fromReset as since}
 use Rattle.document.specs.Happenings.Happening.{byte, aside}
 use Rattle.history.specs.History.{memoriesLeft, TriggersNext, Unstopped}
@@ -49,6 +53,7 @@ use Rattle.blocks.specs.Places.{stateLength}
 use Rattle.blocks.specs.Layout.{decoded}
 use Rattle.checks.specs.Promises.{ResetDone, Checked}
 use Rattle.happenings.specs.Applying.{sends, sentOf, waitingIn, unrefusedSoFar, AllUnreported}
+use Rattle.happenings.specs.Ports.{modbusOf, withoutFrames, found, withoutService, shared, calibrationIn}
 use Rattle.happenings.proofs.Blocks.{block-stops}
 use Rattle.happenings.proofs.Tables.{tables-kept}
 use Rattle.happenings.proofs.Applying.{while-pending, between, handed-out-from-reset}
@@ -61,12 +66,13 @@ use Rattle.byte_call.specs.declared.Taken.{Taken}
 use Rattle.byte_call.specs.Promises.{ByteTaken}
 use Rattle.block_call.specs.declared.BlockTaken.{BlockTaken}
 use Rattle.block_call.specs.Promises.{BlockDone}
+use Rattle.modbus.specs.Promises.{ModbusDone}
 use Rattle.reader.specs.declared.calls.ReadByte.{ReadByte}
 use Rattle.reader.specs.Promises.{BeginDone, ReadDone}
 use Rattle.demands.specs.House.{House, gateIn}
 use Rattle.demands.specs.Lent.{lends}
 use Rattle.demands.specs.Run.{ByByte, ByBlock, Reset, Step, Refused, Singly, came, Run, Ready}
-use Rattle.demands.specs.Refused.{ResetRefused, CheckRefused, ByteRefused, BlockRefused, TickRefused, CollectRefused, ReportRefused, PanelRefused, RegisterRefused, WriteRefused, BeginRefused, ReadRefused, WireRefused}
+use Rattle.demands.specs.Refused.{ResetRefused, CheckRefused, ByteRefused, BlockRefused, TickRefused, CollectRefused, ReportRefused, PanelRefused, ModbusRefused, RegisterRefused, WriteRefused, BeginRefused, ReadRefused, WireRefused}
 use Rattle.demands.specs.Sent.{Sent, BlockStands}
 use Rattle.demands.specs.Stands.{blank, Stands}
 use Rattle.demands.specs.Fresh.{AnsweredFresh, NothingByHalf}
@@ -77,7 +83,7 @@ use Rattle.demands.proofs.Refused as calls
 use Rattle.demands.proofs.EndsRefused as both-ends
 use Rattle.demands.proofs.Served.{refused-kept, ready, room-lent, told-byte, told-prepare, told-start}
 use Rattle.demands.proofs.Turns.{turn-stands}
-use Rattle.demands.proofs.Runs.{Reached, reached-begun, reached-step, bytes-on, plan-fits, collect-only, report-only, prepare-only, start-only}
+use Rattle.demands.proofs.Runs.{Reached, reached-begun, reached-step, bytes-on, plan-fits, collect-only, report-only, prepare-only, start-only, frame-only}
 use Rattle.demands.proofs.Blocks as blocks
 use Rattle.demands.proofs.Blocks.{singly, reached-run}
 use Rattle.demands.proofs.Fresh.{answered-fresh, by-half}
@@ -85,6 +91,9 @@ use Rattle.demands.proofs.Recorded.{recorded}
 use Rattle.demands.specs.Applying.{OnlyCommand, OnlySaid}
 use Rattle.demands.proofs.Applying.{run-hands, only-said, sent-waits}
 use Rattle.demands.proofs.Recorder.{start-begun, panel-begun, panel-prepared, tick-touches, run-fires, run-stops}
+use Rattle.demands.specs.Ports.{OnlyVariables, SinceReset, SameService}
+use Rattle.demands.proofs.Ports.{modbus-sent, run-answers}
+use Rattle.demands.proofs.Independent.{service-runs, modbus-runs}
 use Rattle.demands.proofs.Readings as readings
 
 -- ---- Demand 1: "The line may bring anything at any moment without a fault. No entry relies on its caller. Each refusal has one
@@ -123,6 +132,15 @@ demand-1-prepare = calls.prepare-refused
 pub demand-1-start : (block : List ℕ) (r : Said) (after : List ℕ) → StartDone block r after → PanelRefused block r after
 demand-1-start = calls.start-refused
 
+pub demand-1-modbus : (station : ℕ) (frame memory buffer : List ℕ) (r : Written) (left told : List ℕ)
+    → ModbusDone station frame memory buffer r left told → ModbusRefused station memory buffer r left told
+demand-1-modbus = calls.modbus-refused
+
+-- "Bytes of it behind the answer keep their values; without an answer, all do.": and 256 bytes are room for every answer
+pub demand-1-modbus-behind : (station : ℕ) (frame memory buffer : List ℕ) (r : Written) (left told : List ℕ)
+    → ModbusDone station frame memory buffer r left told → Sent modbusRoom buffer (r .length) told
+demand-1-modbus-behind = modbus-sent
+
 pub demand-1-register : (block memory list : List ℕ) (r : ℕ) (after : List ℕ) → RegisterDone block memory list r after
     → RegisterRefused block memory list r after
 demand-1-register = calls.register-refused
@@ -147,21 +165,21 @@ demand-1-read = both-ends.read-refused
 pub demand-1-wire : (g : Gate) (m : Message) → WireRefused g m
 demand-1-wire = calls.wire-refused
 
--- a refused call along a run consumes nothing: block, memory, answers and commands are as before
+-- a refused call along a run consumes nothing: block, memory, answers of both ports and commands are as before
 pub demand-1-refused : (h next : House) → Refused h next → next ≡ h
 demand-1-refused = refused-kept
 
 -- ---- what happens since reset: `first` has happened, and h is the house then
 
 module _ (block memory : List ℕ) (tables : List Table) (after : List ℕ) (long : stateLength ≤ length block) (lent : MemoryWithin memory) (reset : Reset block memory tables after)
-    (first : List Happening) (h : House) (are : AreBytes first) (run : Run (record { block = after; memory = memory; answers = []; commands = [] }) first h) where
+    (first : List Happening) (h : House) (are : AreBytes first) (run : Run (record { block = after; memory = memory; answers = []; commands = []; modbus-answers = [] }) first h) where
   -- what the definition has then
   abbrev reached : Since
   reached = afterAll (since (gate tables memory)) first
 
   there : Reached h (afterAll (since (gate tables memory)) first)
   there =
-      reached-run (record { block = after; memory = memory; answers = []; commands = [] }) h first run (since (gate tables memory)) are
+      reached-run (record { block = after; memory = memory; answers = []; commands = []; modbus-answers = [] }) h first run (since (gate tables memory)) are
       (reached-begun block memory long lent tables after reset)
 
   reached-bytes : reached .bytes ≡ bytesOf first
@@ -174,7 +192,7 @@ module _ (block memory : List ℕ) (tables : List Table) (after : List ℕ) (lon
 
   -- "Bytes of it behind the answer keep their values; without an answer, all do.": of the buffer that this call was lent
   pub demand-1-behind : (b : ℕ) (next : House) (call : ByByte h b next) → b < 256 → call .result .refusal ≡ taken → lends (h .block) (call .state) ≡ h .block
-      → Sent (call .buffer) (call .result) (call .told)
+      → Sent answerRoom (call .buffer) (call .result .length) (call .told)
   demand-1-behind b next call small fine whole =
       let room : answerRoom ≤ length (call .buffer) = room-lent h (there .long) (there .within) b small next call fine whole in
       let stood = turn-stands (decoded (h .block)) b (h .memory) (call .buffer) room reached (there .stands .gate) (there .stands .link-part) in
@@ -239,6 +257,19 @@ module _ (block memory : List ℕ) (tables : List Table) (after : List ℕ) (lon
     block-takes-all enough =
         let stood = blocks.block-stands h reached there bytes all next call fine whole in
         stood .taken ∙ block-stops bytes reached (length (call .buffer)) (subst (λ (n : ℕ). answerRoom ≤ length (call .buffer) - n) (stood .written) enough)
+
+  -- ---- Modbus on the second port (2026-07): demands 2 and 3 read the memory as both ports left it, since a frame is one of the things
+  -- that happen
+
+  -- after any run its answers are the definition's, each over the memory as it stood at its frame, and silence is none
+  pub demand-2-modbus : h .modbus-answers ≡ modbusOf (since (gate tables memory)) first
+  demand-2-modbus =
+      let begun = reached-begun block memory long lent tables after reset in
+      run-answers _ h first (singly _ h first run (since (gate tables memory)) are begun) (since (gate tables memory)) are begun
+
+  -- a frame changes bytes 0 to 8,191 at most, and nothing of the service port: not the link, in the midst of a message or not
+  pub frame-touches : (station : ℕ) (frame : List ℕ) (next : House) → Step h (aside (frames station frame)) next → OnlyVariables station frame h next
+  frame-touches station frame next step = frame-only h reached there station frame next step
 
   -- ---- Demand 3: "After any bytes since reset, with an even (or no) run of 0x2B just before, a start byte and a well-formed
   -- stuffed message get exactly the answer, and leave the memory, scope and recorder, that a freshly reset link would give over
@@ -371,6 +402,24 @@ module _ (block memory : List ℕ) (tables : List Table) (after : List ℕ) (lon
   command-pending hs last more on quiet pending =
       ap (λ (g : Gate). isPending (g .application)) (reached-run h last hs on reached more there .stands .gate)
       ∙ between hs reached (ap (λ (g : Gate). isPending (g .application)) (sym (there .stands .gate)) ∙ pending) quiet
+
+-- ---- Two ports, one memory (2026-07): two runs since reset, with the same tables, of which one or both may have traffic on the other port
+
+module _ (tables : List Table) (memory memory′ : List ℕ) (hs ks : List Happening) (h k : House)
+    (one : SinceReset tables memory hs h) (other : SinceReset tables memory′ ks k) where
+  -- "an answer on the service port depends on Modbus traffic only through bytes 0 to 8,191 as commands, ticks and registering found them":
+  -- leave the frames out of both and let the same happen; if finished commands and ticks find the same bytes there, one after the
+  -- other, then the service port says the same, the gate's own program is handed the same commands, and all is the same but those bytes.
+  -- So it is at every moment, since a beginning of a run is one
+  pub service-independent : drop variablesEnd memory ≡ drop variablesEnd memory′ → withoutFrames hs ≡ withoutFrames ks
+      → found (since (gate tables memory)) hs ≡ found (since (gate tables memory′)) ks → SameService h k
+  service-independent = service-runs tables memory memory′ hs ks h k one other
+
+  -- "a Modbus answer depends on service traffic only through those bytes and the recorder buffer": leave out of both all but the frames
+  -- and what the gate's own program writes; if the frames find the same variables and the same buffer, they get the same answers
+  pub modbus-independent : calibrationIn memory ≡ calibrationIn memory′ → withoutService hs ≡ withoutService ks
+      → shared (since (gate tables memory)) hs ≡ shared (since (gate tables memory′)) ks → h .modbus-answers ≡ k .modbus-answers
+  modbus-independent = modbus-runs tables memory memory′ hs ks h k one other
 
 -- ".. with a right sum ..": of a message whose sum is wrong the definition carries nothing out, it says 0x82 and leaves the gate
 pub demand-3-sum : (g : Gate) (m : Message) → sumRight m ≡ false → answered g m ≡ says g sumWrong []

@@ -13,5 +13,7 @@ pub mod Recorded
 pub mod Recorder
 pub mod Applying
 pub mod Blocks
+pub mod Ports
+pub mod Independent
 pub mod Readings
 pub mod Demands

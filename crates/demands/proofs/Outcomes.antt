@@ -16,6 +16,7 @@ use Rattle.byte_call.specs.declared.Taken.{Taken}
 use Rattle.byte_call.specs.Promises.{ByteTaken}
 use Rattle.block_call.specs.declared.BlockTaken.{BlockTaken}
 use Rattle.block_call.specs.Promises.{BlockDone}
+use Rattle.modbus.specs.Promises.{ModbusDone}
 use Rattle.reader.specs.declared.calls.ReadByte.{ReadByte}
 use Rattle.reader.specs.Promises.{BeginDone, ReadDone}
 
@@ -53,6 +54,10 @@ module _ (block bytes memory buffer : List ℕ) (r s : BlockTaken) (x y m n c d 
 module _ (block buffer : List ℕ) (r s : Written) (x y c d : List ℕ) where
   pub collect-one-outcome : CollectDone block buffer r x c → CollectDone block buffer s y d → (r ≡ s) × (x ≡ y) × (c ≡ d)
   collect-one-outcome p q = (p .result ∙ sym (q .result), p .state ∙ sym (q .state), p .buffer-told ∙ sym (q .buffer-told))
+
+module _ (station : ℕ) (frame memory buffer : List ℕ) (r s : Written) (m n c d : List ℕ) where
+  pub modbus-one-outcome : ModbusDone station frame memory buffer r m c → ModbusDone station frame memory buffer s n d → (r ≡ s) × (m ≡ n) × (c ≡ d)
+  modbus-one-outcome p q = (p .result ∙ sym (q .result), p .memory-left ∙ sym (q .memory-left), p .buffer-told ∙ sym (q .buffer-told))
 
 -- neither is lent a memory, so any will do
 module _ (block : List ℕ) (r s : Said) (x y : List ℕ) where

@@ -1,23 +1,23 @@
 -- A refused call leaves all as it was, and only the document's table refuses on the wire.
 use mathlib.Core.Path.{_≡_, refl, sym, ap, _∙_}
-use mathlib.Core.Bool.{Bool, true, false, cond, false≢true}
+use mathlib.Core.Bool.{Bool, false, cond, false≢true}
 use mathlib.Core.List.{List, []}
-use Prim.Native.Nat.{ℕ, _<_}
-use native.Mathlib.Omega.{arith}
+use Prim.Native.Nat.{ℕ}
 use borrow.Author.Tests.{eqb-true, ne-eqb}
 use lib.Dec.{eqb, leb}
 use lib.ListN.{length}
 use lib.Seq.{sets}
-use Rattle.document.specs.Numbers.{taken, stateRefused, done, sumWrong, isError}
+use Rattle.document.specs.Numbers.{taken, stateRefused, done, sumWrong}
 use Rattle.document.specs.Message.{Message, sumRight}
 use Rattle.document.specs.Recorder.{tickedMemory}
 use Rattle.document.specs.Application.{Application, newCommand, collectBuffer}
 use Rattle.line.specs.declared.Written.{Written}
 use Rattle.application.specs.State.{applicationOf}
-use Rattle.document.specs.Gate.{Gate, Outcome, says}
+use Rattle.document.specs.Gate.{Gate, says}
 use Rattle.document.specs.Refusals.{refusal}
 use Rattle.document.specs.Commands.{answered}
 use Rattle.document.specs.Panel.{panelPrepares, panelStarts}
+use Rattle.document.specs.Modbus.{modbusAnswer, modbusMemory, modbusRefusal, modbusBuffer}
 use Rattle.document.proofs.Cases.{split}
 use Rattle.outcomes.proofs.Answered.{accepted-right}
 use Rattle.recorder.specs.State.{recorderOf}
@@ -39,7 +39,8 @@ use Rattle.byte_call.specs.Promises.{ByteTaken}
 use Rattle.block_call.specs.declared.BlockTaken.{BlockTaken}
 use Rattle.block_call.specs.Going.{walk}
 use Rattle.block_call.specs.Promises.{BlockDone}
-use Rattle.demands.specs.Refused.{ResetRefused, CheckRefused, ByteRefused, BlockRefused, TickRefused, CollectRefused, ReportRefused, PanelRefused, RegisterRefused, WireRefused}
+use Rattle.modbus.specs.Promises.{ModbusDone}
+use Rattle.demands.specs.Refused.{ResetRefused, CheckRefused, ByteRefused, BlockRefused, TickRefused, CollectRefused, ReportRefused, PanelRefused, ModbusRefused, RegisterRefused, WireRefused}
 use Rattle.demands.proofs.Goes.{stays}
 
 -- ---- calls
@@ -171,6 +172,23 @@ prepare-refused block setup r after promised =
 pub start-refused : (block : List ℕ) (r : Said) (after : List ℕ) → StartDone block r after → PanelRefused block r after
 start-refused block r after promised =
     panel-refused block r after (panelStarts (gateOf (decoded block .instruments) []) .answer .status) (startedTarget (decoded block)) (promised .result []) (promised .state)
+
+module _ (station : ℕ) (frame memory buffer : List ℕ) (r : Written) (left told : List ℕ) (promised : ModbusDone station frame memory buffer r left told) where
+  pub modbus-refused : ModbusRefused station memory buffer r left told
+  modbus-refused =
+      let n : ℕ = modbusRefusal station memory buffer in
+      let given : Written = record { refusal = taken; length = length (modbusAnswer station frame memory) } in
+      let kept : Written = record { refusal = n; length = 0 } in
+      let number : r .refusal ≡ n = numbered (λ (x : Written). x .refusal) n r given kept refl refl (promised .result) in
+      record {
+        number = number;
+        unchanged = λ other.
+            let no : n ≡ taken → ⊥ = λ e. other (number ∙ e) in (
+              ap (λ (x : Written). x .length) (stays n r given kept no (promised .result)),
+              stays n left (modbusMemory station frame memory) memory no (promised .memory-left),
+              stays n told (modbusBuffer station frame memory buffer) buffer no (promised .buffer-told),
+            );
+      }
 
 pub register-refused : (block memory list : List ℕ) (r : ℕ) (after : List ℕ) → RegisterDone block memory list r after
     → RegisterRefused block memory list r after

@@ -1,14 +1,15 @@
 -- What a run since reset comes to: a house within its bounds, standing for document 01.
 use mathlib.Core.Path.{_≡_, refl, sym, ap, subst, _∙_}
 use mathlib.Core.Bool.{true}
-use mathlib.Core.List.{List, [], _∷_, _++_}
+use mathlib.Core.List.{List, [], _∷_, _++_, append-nil, append-assoc}
 use Prim.Native.Nat.{ℕ, _<_, _≤_}
 use native.Mathlib.Omega.{arith}
 use borrow.Author.Tests.{le-leb, eq-eqb}
 use lib.Dec.{eqb}
-use lib.ListN.{length}
+use lib.ListN.{length, drop}
 use lib.Seq.{sets, length-sets}
 use Rattle.document.specs.Bytes.{AllBytes}
+use Rattle.document.specs.Areas.{variablesEnd}
 use Rattle.document.specs.Numbers.{answerRoom, taken}
 use Rattle.document.specs.Message.{Message, finishedBy}
 use Rattle.document.specs.Stores.{stored}
@@ -19,8 +20,9 @@ use Rattle.document.specs.Recorder.Recorder.{absent, planned}
 use Rattle.document.specs.Application.{Application, afterCollect, afterReport, isCollected}
 use Rattle.document.specs.Tables.{Table}
 use Rattle.document.specs.Gate.{Gate, registered as gate, withMemory, withRecorder, withApplication}
+use Rattle.document.specs.Modbus.{modbusMemory}
 use Rattle.document.specs.Asides.{Aside, beside, tickedGate}
-use Rattle.document.specs.Asides.Aside.{tick, writes, collects, reports, prepares, starts}
+use Rattle.document.specs.Asides.Aside.{tick, writes, collects, reports, prepares, starts, frames}
 use Rattle.document.specs.Happenings.{Happening, Since, told, after, afterAll, fromReset as since}
 use Rattle.document.specs.Happenings.Happening.{byte, aside}
 use Rattle.document.specs.Blocks.{answersOnWire}
@@ -55,7 +57,9 @@ use Rattle.tick_call.specs.Promises.{tickedTarget}
 use Rattle.application_calls.specs.Promises.{withCommand}
 use Rattle.panel_calls.specs.Promises.{givenNext, recorderChanged}
 use Rattle.panel_calls.proofs.Kept.{prepare-means, start-means, given-within}
+use Rattle.second_port.proofs.Kept.{frame-keeps-rest, frame-keeps-length, frame-keeps-bytes}
 use Rattle.happenings.specs.Bytes.{Bytes, bytesOf, BesideIsBytes, IsBytes, AreBytes}
+use Rattle.happenings.specs.Along.{along}
 use Rattle.happenings.proofs.Resync.{told-bytes}
 use Rattle.happenings.proofs.Blocks.{wire-append, answersTo, told-answers}
 use Rattle.demands.specs.House.{House, gateIn}
@@ -65,8 +69,9 @@ use Rattle.demands.specs.Run.Singly.{ends, happens, refuses}
 use Rattle.demands.specs.Stands.{blank, linkIn, Stands}
 use Rattle.demands.specs.Applying.{OnlyCommand}
 use Rattle.demands.specs.Recorder.{OnlyRecorder}
-use Rattle.demands.proofs.Served.{servedByte, servedTick, servedCollect, servedReport, servedPanel, refused-kept, room-lent, step-byte, step-tick, step-collect, step-report, report-fits, step-prepare, step-start}
-use Rattle.demands.proofs.Turns.{gateAfter, TurnStands, turn-stands}
+use Rattle.demands.specs.Ports.{OnlyVariables}
+use Rattle.demands.proofs.Served.{servedByte, servedTick, servedCollect, servedReport, servedPanel, servedFrame, servedBeside, refused-kept, room-lent, step-byte, step-collect, step-report, report-fits, step-prepare, step-start, step-frame, step-beside}
+use Rattle.demands.proofs.Turns.{gateAfter, turn-stands}
 
 -- ---- what comes over the line is bytes
 line-bytes : (hs : List Happening) → AreBytes hs → AllBytes (bytesOf hs)
@@ -180,10 +185,11 @@ module _ (h : House) (s : Since) (r : Reached h s) where
         stored = still-stored (h .block) next (r .long) (within-fits next left keeps);
       }
 
-  pub reached-write : (address : ℕ) (bytes : List ℕ) → AllBytes bytes
-      → Reached (record { block = h .block; memory = stored (h .memory) address bytes; answers = h .answers; commands = h .commands }) (after s (aside (writes address bytes)))
-  unfolding beside
-  reached-write address bytes are =
+  -- another memory, whatever the second port handed out with it
+  reached-memory : (memory : List ℕ) (a : Aside) (modbus-answers : List (List ℕ)) → MemoryWithin memory
+      → beside (s .gate) a ≡ withMemory (s .gate) memory
+      → Reached (record { block = h .block; memory = memory; answers = h .answers; commands = h .commands; modbus-answers = modbus-answers }) (after s (aside a))
+  reached-memory memory a modbus-answers within becomes =
       record {
         long = r .long;
         within =
@@ -193,17 +199,48 @@ module _ (h : House) (s : Since) (r : Reached h s) where
               recorder-part = r .within .recorder-part;
               application-part = r .within .application-part;
               tables-part = r .within .tables-part;
-              memory-part = memory-stored (h .memory) address bytes (r .within .memory-part) are;
+              memory-part = within;
             };
         stands =
             record {
-              gate = ap (λ (g : Gate). withMemory g (stored (g .memory) address bytes)) (r .stands .gate);
+              gate = ap (λ (g : Gate). withMemory g memory) (r .stands .gate) ∙ sym becomes;
               answers = r .stands .answers;
               link-part = r .stands .link-part;
             };
         bytes = r .bytes;
         stored = r .stored;
       }
+
+  memory-is : s .gate .memory ≡ h .memory
+  memory-is = ap (λ (g : Gate). g .memory) (sym (r .stands .gate))
+
+  pub reached-frame : (station : ℕ) (frame : List ℕ) → AllBytes frame → Reached (servedFrame h station frame) (after s (aside (frames station frame)))
+  unfolding beside
+  reached-frame station frame are =
+      let m = r .within .memory-part in
+      reached-memory (modbusMemory station frame (h .memory)) (frames station frame) _
+      (record { size = frame-keeps-length station frame (h .memory) ∙ m .size; bytes = frame-keeps-bytes station frame (h .memory) are (m .bytes) })
+      (ap (λ (l : List ℕ). withMemory (s .gate) (modbusMemory station frame l)) memory-is)
+
+  -- a frame touches nothing else
+  pub frame-only : (station : ℕ) (frame : List ℕ) (next : House) → Beside h (frames station frame) next → OnlyVariables station frame h next
+  frame-only station frame next step =
+      let is : next ≡ servedFrame h station frame = step-frame h (r .long) (r .within) station frame next (step .0) (step .1) in
+      record {
+        block = ap (λ (q : House). q .block) is;
+        memory = ap (λ (q : House). q .memory) is;
+        beyond = ap (λ (q : House). drop variablesEnd (q .memory)) is ∙ frame-keeps-rest station frame (h .memory);
+        answers = ap (λ (q : House). q .answers) is;
+        commands = ap (λ (q : House). q .commands) is;
+        modbus-answers = ap (λ (q : House). q .modbus-answers) is;
+      }
+
+  pub reached-write : (address : ℕ) (bytes : List ℕ) → AllBytes bytes
+      → Reached (record { block = h .block; memory = stored (h .memory) address bytes; answers = h .answers; commands = h .commands; modbus-answers = h .modbus-answers }) (after s (aside (writes address bytes)))
+  unfolding beside
+  reached-write address bytes are =
+      reached-memory (stored (h .memory) address bytes) (writes address bytes) _ (memory-stored (h .memory) address bytes (r .within .memory-part) are)
+      (ap (λ (l : List ℕ). withMemory (s .gate) (stored l address bytes)) memory-is)
 
   -- another application command in the block
   command-keeps : (c : Command) → CommandWithin c → Within (withCommand (decoded (h .block)) c) (h .memory)
@@ -227,7 +264,7 @@ module _ (h : House) (s : Since) (r : Reached h s) where
   -- it stands for what the gate has then
   reached-command : (c : Command) (a : Aside) → CommandWithin c → (commands : List (List ℕ))
       → beside (s .gate) a ≡ withApplication (s .gate) (applicationOf c)
-      → Reached (record { block = sets (h .block) 0 (encoded (withCommand (decoded (h .block)) c)); memory = h .memory; answers = h .answers; commands = commands }) (after s (aside a))
+      → Reached (record { block = sets (h .block) 0 (encoded (withCommand (decoded (h .block)) c)); memory = h .memory; answers = h .answers; commands = commands; modbus-answers = h .modbus-answers }) (after s (aside a))
   reached-command c a within commands becomes =
       let next : Target = withCommand (decoded (h .block)) c in
       let there : decoded (sets (h .block) 0 (encoded next)) ≡ next = command-there c within in
@@ -248,7 +285,7 @@ module _ (h : House) (s : Since) (r : Reached h s) where
       }
 
   only-command : (c : Command) (next : House) (commands : List (List ℕ)) → CommandWithin c
-      → next ≡ record { block = sets (h .block) 0 (encoded (withCommand (decoded (h .block)) c)); memory = h .memory; answers = h .answers; commands = commands }
+      → next ≡ record { block = sets (h .block) 0 (encoded (withCommand (decoded (h .block)) c)); memory = h .memory; answers = h .answers; commands = commands; modbus-answers = h .modbus-answers }
       → OnlyCommand h next
   only-command c next commands within is =
       let there : decoded (next .block) ≡ withCommand (decoded (h .block)) c = ap (λ (q : House). decoded (q .block)) is ∙ command-there c within in
@@ -259,6 +296,7 @@ module _ (h : House) (s : Since) (r : Reached h s) where
         tables = ap (λ (t : Target). t .instruments .tables) there;
         memory = ap (λ (q : House). q .memory) is;
         answers = ap (λ (q : House). q .answers) is;
+        modbus-answers = ap (λ (q : House). q .modbus-answers) is;
       }
 
   -- another recorder in the block: the link, in the midst of a message or not, the scope, the application command and the tables stay
@@ -311,6 +349,7 @@ module _ (h : House) (s : Since) (r : Reached h s) where
         tables = ap (λ (t : Target). t .instruments .tables) there;
         memory = ap (λ (q : House). q .memory) is;
         answers = ap (λ (q : House). q .answers) is;
+        modbus-answers = ap (λ (q : House). q .modbus-answers) is;
       }
 
   abbrev recorder : RecorderState
@@ -379,24 +418,19 @@ module _ (h : House) (s : Since) (r : Reached h s) where
       (command-ended command reported (r .within .application-part) (report-fits h (r .long) (r .within) reported next (step .0) (step .1) (step .2) .0))
       (step-report h (r .long) (r .within) reported next (step .0) (step .1) (step .2))
 
+  reached-served : (a : Aside) (next : House) → BesideIsBytes a → Beside h a next → Reached (servedBeside h a) (after s (aside a))
+  reached-served tick next are step = reached-tick
+  reached-served (writes address bytes) next are step = reached-write address bytes are
+  reached-served collects next are step = reached-collect
+  reached-served (reports reported) next are step =
+      let known = report-fits h (r .long) (r .within) reported next (step .0) (step .1) (step .2) in reached-report reported (known .0) (known .1)
+  reached-served (prepares setup) next are step = reached-prepare setup are
+  reached-served starts next are step = reached-start
+  reached-served (frames station frame) next are step = reached-frame station frame are
+
   reached-beside : (a : Aside) (next : House) → BesideIsBytes a → Beside h a next → Reached next (after s (aside a))
-  reached-beside tick next are step =
-      let same = memory-ticked (recorderOf (decoded (h .block) .instruments .recorder)) (h .memory) (r .within .memory-part) .size ∙ sym (r .within .memory-part .size) in
-      subst (λ (q : House). Reached q (after s (aside tick))) (sym (step-tick h (r .long) (r .within) next (step .0) (step .1) (step .2) same)) reached-tick
-  reached-beside (writes address bytes) next are step =
-      subst (λ (q : House). Reached q (after s (aside (writes address bytes)))) (sym step) (reached-write address bytes are)
-  reached-beside collects next are step =
-      subst (λ (q : House). Reached q (after s (aside collects))) (sym (step-collect h (r .long) (r .within) next (step .0) (step .1) (step .2)))
-      reached-collect
-  reached-beside (reports reported) next are step =
-      let known = report-fits h (r .long) (r .within) reported next (step .0) (step .1) (step .2) in
-      subst (λ (q : House). Reached q (after s (aside (reports reported))))
-      (sym (step-report h (r .long) (r .within) reported next (step .0) (step .1) (step .2))) (reached-report reported (known .0) (known .1))
-  reached-beside (prepares setup) next are step =
-      subst (λ (q : House). Reached q (after s (aside (prepares setup))))
-      (sym (step-prepare h (r .long) (r .within) setup next (step .0) (step .1) (step .2))) (reached-prepare setup are)
-  reached-beside starts next are step =
-      subst (λ (q : House). Reached q (after s (aside starts))) (sym (step-start h (r .long) (r .within) next (step .0) (step .1) (step .2))) reached-start
+  reached-beside a next are step =
+      subst (λ (q : House). Reached q (after s (aside a))) (sym (step-beside h (r .long) (r .within) a next step)) (reached-served a next are step)
 
   -- whatever happens, with whatever lent
   pub reached-step : (e : Happening) (next : House) → IsBytes e → Step h e next → Reached next (after s e)
@@ -413,12 +447,26 @@ reached-singly h last hs (happens _ next _ e es step run) s are r =
 reached-singly h last hs (refuses _ next _ _ refused run) s are r =
     reached-singly next last hs run s are (subst (λ (q : House). Reached q s) (sym (refused-kept h next refused)) r)
 
+-- a list that grows with each thing that happens, and stays where a call is refused
+module _ (listed : House → List (List ℕ)) (gives : Since → Happening → List (List ℕ))
+    (grows : (h : House) (s : Since) → Reached h s → (e : Happening) (next : House) → IsBytes e → Step h e next → listed next ≡ listed h ++ gives s e) where
+  pub run-grows : (h last : House) (hs : List Happening) → Singly h hs last → (s : Since) → AreBytes hs → Reached h s
+      → listed last ≡ listed h ++ along gives s hs
+  run-grows h last hs (ends _) s are r = sym (append-nil (listed h))
+  run-grows h last hs (happens _ next _ e es step run) s are r =
+      run-grows next last es run (after s e) (are .1) (reached-step h s r e next (are .0) step)
+      ∙ ap (λ (l : List (List ℕ)). l ++ along gives (after s e) es) (grows h s r e next (are .0) step)
+      ∙ append-assoc (listed h) (gives s e) (along gives (after s e) es)
+  run-grows h last hs (refuses _ next _ _ refused run) s are r =
+      run-grows next last hs run s are (subst (λ (q : House). Reached q s) (sym (refused-kept h next refused)) r)
+      ∙ ap (λ (q : House). listed q ++ along gives s hs) (refused-kept h next refused)
+
 -- ---- since reset, or since a registering
 
 module _ (block memory : List ℕ) (long : stateLength ≤ length block) (good : MemoryWithin memory) where
   -- a block that holds a state at its reset
   reached-fresh : (tables : Registered) (after : List ℕ) → TablesWithin tables → after ≡ sets block 0 (encoded (freshWith tables))
-      → Reached (record { block = after; memory = memory; answers = []; commands = [] }) (since (gate (tablesOf tables) memory))
+      → Reached (record { block = after; memory = memory; answers = []; commands = []; modbus-answers = [] }) (since (gate (tablesOf tables) memory))
   reached-fresh tables after listed stored-fresh =
       let t : Target = freshWith tables in
       let w : Within t memory = within-registered tables memory listed good in
@@ -438,14 +486,14 @@ module _ (block memory : List ℕ) (long : stateLength ≤ length block) (good :
       }
 
   pub reached-begun : (tables : List Table) (next : List ℕ) → Reset block memory tables next
-      → Reached (record { block = next; memory = memory; answers = []; commands = [] }) (since (gate tables memory))
+      → Reached (record { block = next; memory = memory; answers = []; commands = []; modbus-answers = [] }) (since (gate tables memory))
   reached-begun tables next (by-reset r _ reset) =
       reached-fresh noTables next no-tables (reset .state ∙ rw (le-leb stateLength (length block) long) refl)
   reached-begun tables next (by-registering list _ all done) =
       let known = taken-good block memory list (sym (done .number)) in
       let fine = eq-eqb (registerNumber block memory list) taken (sym (done .number)) in
       let stored-list : next ≡ sets block 0 (encoded (freshWith (registeredList list))) = done .state ∙ rw fine refl in
-      subst (λ (ts : List Table). Reached (record { block = next; memory = memory; answers = []; commands = [] }) (since (gate ts memory)))
+      subst (λ (ts : List Table). Reached (record { block = next; memory = memory; answers = []; commands = []; modbus-answers = [] }) (since (gate ts memory)))
       (registered-tables memory list (known .good))
       (reached-fresh (registeredList list) next (registered-within memory list (known .good) all) stored-list)
 

@@ -1,18 +1,24 @@
 -- One step of a run: a call that is taken leaves what its definition gives, with the buffer that it was lent; a call that is refused
 -- leaves all as it was.
 use mathlib.Core.Path.{_≡_, refl, sym, ap, subst, _∙_}
-use mathlib.Core.Bool.{Bool, true}
+use mathlib.Core.Bool.{true}
 use mathlib.Core.List.{List, [], _∷_, _++_, append-nil}
 use Prim.Native.Nat.{ℕ, suc, _<_, _≤_}
 use native.Mathlib.Omega.{arith}
-use borrow.Author.Tests.{eq-eqb, ne-eqb, le-leb, le-ltb}
+use borrow.Author.Tests.{eq-eqb, ne-eqb, le-ltb}
 use lib.ListN.{length, take}
 use lib.Seq.{sets, length-sets}
 use Rattle.document.specs.Areas.{memoryEnd}
 use Rattle.document.specs.Numbers.{answerRoom, mostData, taken}
 use Rattle.document.specs.Application.{Application, newCommand, collectBuffer, isCollected}
+use Rattle.document.specs.Stores.{stored}
 use Rattle.document.specs.Recorder.{tickedMemory}
+use Rattle.document.specs.Asides.{Aside}
+use Rattle.document.specs.Asides.Aside.{tick, writes, collects, reports, prepares, starts, frames}
 use Rattle.document.specs.Panel.{panelPrepares, panelStarts}
+use Rattle.document.specs.Frames.{isSilenced}
+use Rattle.document.specs.Modbus.{functionIn, exceptionTo, answerTo, modbusAnswer, modbusMemory, modbusRoom, modbusRefusal, modbusBuffer}
+use Rattle.document.proofs.Cases.{split}
 use Rattle.line.proofs.Left.{sets-front}
 use Rattle.recorder.specs.declared.state.Recorder.{Recorder as RecorderState}
 use Rattle.recorder.specs.State.{recorderOf}
@@ -22,28 +28,31 @@ use Rattle.application.proofs.Means.{new-few}
 use Rattle.happenings.specs.Applying.{ifAny, waitingIn}
 use Rattle.state.specs.State.{Target, gateOf}
 use Rattle.state.specs.Within.{Within}
-use Rattle.state.proofs.Keeps.{within-sound}
+use Rattle.state.proofs.Keeps.{within-sound, memory-ticked}
 use Rattle.blocks.specs.Places.{stateLength}
 use Rattle.blocks.specs.Layout.{decodedApplication, decoded, encoded}
 use Rattle.checks.specs.Promises.{blockSound, byteNumber, tickNumber, collectNumber, reportNumber, panelNumber}
 use Rattle.checks.proofs.Numbers.{tick-known, byte-known}
 use Rattle.checks.proofs.ApplicationNumbers.{collect-known, report-known}
-use Rattle.checks.proofs.Settled.{block-known, long-decides}
+use Rattle.checks.proofs.Settled.{long-decides}
 use Rattle.target.specs.Turn.{Turn, turn}
 use Rattle.target.proofs.Keeps.{byte-keeps}
-use Rattle.tick_call.specs.Promises.{tickedTarget, TickTaken}
+use Rattle.tick_call.specs.Promises.{tickedTarget}
 use Rattle.application_calls.specs.Promises.{collectedTarget, reportedTarget}
+use Rattle.modbus.proofs.Sealed.{sealed-length}
+use Rattle.modbus.proofs.Responses.{answer-short}
+use Rattle.modbus.proofs.Answers.{lent-right}
+use Rattle.second_port.proofs.Kept.{frame-keeps-length}
 use Rattle.panel_calls.specs.declared.Said.{Said}
 use Rattle.panel_calls.specs.Promises.{givenNext, recorderChanged, preparedTarget, startedTarget}
 use Rattle.byte_call.specs.declared.Taken.{Taken}
-use Rattle.byte_call.specs.Promises.{ByteTaken}
 use Rattle.demands.specs.House.{House, gateIn}
 use Rattle.demands.specs.Lent.{Piece, lends, handedBack}
-use Rattle.demands.specs.Run.{handedOut, ByByte, ByBlock, ByTick, ByCollect, ByReport, ByPrepare, ByStart, ByRegister, Refused, Ready}
-use Rattle.demands.specs.Run.Refused.{refused-byte, refused-block, refused-tick, refused-collect, refused-report, refused-prepare, refused-start, refused-register}
+use Rattle.demands.specs.Run.{handedOut, ByByte, ByBlock, ByTick, ByCollect, ByReport, ByPrepare, ByStart, ByModbus, ByRegister, Beside, Refused, Ready}
+use Rattle.demands.specs.Run.Refused.{refused-byte, refused-block, refused-tick, refused-collect, refused-report, refused-prepare, refused-start, refused-modbus, refused-register}
 use Rattle.demands.proofs.Goes.{goes}
 use Rattle.demands.proofs.Lends.{lent-back, lent-whole, whole-back}
-use Rattle.demands.proofs.Refused.{byte-refused, block-refused, tick-refused, collect-refused, report-refused, prepare-refused, start-refused, register-refused}
+use Rattle.demands.proofs.Refused.{byte-refused, block-refused, tick-refused, collect-refused, report-refused, prepare-refused, start-refused, modbus-refused, register-refused}
 
 -- ---- refused
 
@@ -59,7 +68,7 @@ byte-kept h next b c other =
     let block : handedBack (h .block) (c .state) (c .after) ≡ h .block = back-as-was (h .block) (c .state) (c .after) (kept .1) in
     let memory : handedBack (h .memory) (c .memory) (c .left) ≡ h .memory = back-as-was (h .memory) (c .memory) (c .left) (kept .2) in
     let answers : h .answers ++ take (c .result .length) (c .told) ≡ h .answers = none-sent (h .answers) (c .told) (c .result .length) (kept .0) in
-    c .house ∙ (λ j. record { block = block j; memory = memory j; answers = answers j; commands = h .commands })
+    c .house ∙ (λ j. record { block = block j; memory = memory j; answers = answers j; commands = h .commands; modbus-answers = h .modbus-answers })
 
 block-kept : (h next : House) (bytes : List ℕ) (c : ByBlock h bytes next) → (c .result .refusal ≡ taken → ⊥) → next ≡ h
 block-kept h next bytes c other =
@@ -67,14 +76,14 @@ block-kept h next bytes c other =
     let block : handedBack (h .block) (c .state) (c .after) ≡ h .block = back-as-was (h .block) (c .state) (c .after) (kept .2) in
     let memory : handedBack (h .memory) (c .memory) (c .left) ≡ h .memory = back-as-was (h .memory) (c .memory) (c .left) (kept .3) in
     let answers : h .answers ++ take (c .result .written) (c .told) ≡ h .answers = none-sent (h .answers) (c .told) (c .result .written) (kept .1) in
-    c .house ∙ (λ j. record { block = block j; memory = memory j; answers = answers j; commands = h .commands })
+    c .house ∙ (λ j. record { block = block j; memory = memory j; answers = answers j; commands = h .commands; modbus-answers = h .modbus-answers })
 
 tick-kept : (h next : House) (c : ByTick h next) → (c .result ≡ taken → ⊥) → next ≡ h
 tick-kept h next c other =
     let kept = tick-refused (lends (h .block) (c .state)) (lends (h .memory) (c .memory)) (c .result) (c .after) (c .left) (c .promised) .unchanged other in
     let block : handedBack (h .block) (c .state) (c .after) ≡ h .block = back-as-was (h .block) (c .state) (c .after) (kept .0) in
     let memory : handedBack (h .memory) (c .memory) (c .left) ≡ h .memory = back-as-was (h .memory) (c .memory) (c .left) (kept .1) in
-    c .house ∙ (λ j. record { block = block j; memory = memory j; answers = h .answers; commands = h .commands })
+    c .house ∙ (λ j. record { block = block j; memory = memory j; answers = h .answers; commands = h .commands; modbus-answers = h .modbus-answers })
 
 collect-kept : (h next : House) (c : ByCollect h next) → (c .result .refusal ≡ taken → ⊥) → next ≡ h
 collect-kept h next c other =
@@ -83,31 +92,40 @@ collect-kept h next c other =
     let block : handedBack (h .block) (c .state) (c .after) ≡ h .block = back-as-was (h .block) (c .state) (c .after) (kept .1) in
     let commands : h .commands ++ handedOut (c .result .length) (c .told) ≡ h .commands =
     ap (λ (l : List (List ℕ)). h .commands ++ l) none ∙ append-nil (h .commands) in
-    c .house ∙ (λ j. record { block = block j; memory = h .memory; answers = h .answers; commands = commands j })
+    c .house ∙ (λ j. record { block = block j; memory = h .memory; answers = h .answers; commands = commands j; modbus-answers = h .modbus-answers })
 
 report-kept : (h next : House) (reported : ℕ) (c : ByReport h reported next) → (c .result ≡ taken → ⊥) → next ≡ h
 report-kept h next reported c other =
     let kept = report-refused (lends (h .block) (c .state)) reported (c .result) (c .after) (c .promised) .unchanged other in
     let block : handedBack (h .block) (c .state) (c .after) ≡ h .block = back-as-was (h .block) (c .state) (c .after) kept in
-    c .house ∙ (λ j. record { block = block j; memory = h .memory; answers = h .answers; commands = h .commands })
+    c .house ∙ (λ j. record { block = block j; memory = h .memory; answers = h .answers; commands = h .commands; modbus-answers = h .modbus-answers })
 
 prepare-kept : (h next : House) (setup : List ℕ) (c : ByPrepare h setup next) → (c .result .refusal ≡ taken → ⊥) → next ≡ h
 prepare-kept h next setup c other =
     let kept = prepare-refused (lends (h .block) (c .state)) setup (c .result) (c .after) (c .promised) .unchanged other in
     let block : handedBack (h .block) (c .state) (c .after) ≡ h .block = back-as-was (h .block) (c .state) (c .after) (kept .1) in
-    c .house ∙ (λ j. record { block = block j; memory = h .memory; answers = h .answers; commands = h .commands })
+    c .house ∙ (λ j. record { block = block j; memory = h .memory; answers = h .answers; commands = h .commands; modbus-answers = h .modbus-answers })
 
 start-kept : (h next : House) (c : ByStart h next) → (c .result .refusal ≡ taken → ⊥) → next ≡ h
 start-kept h next c other =
     let kept = start-refused (lends (h .block) (c .state)) (c .result) (c .after) (c .promised) .unchanged other in
     let block : handedBack (h .block) (c .state) (c .after) ≡ h .block = back-as-was (h .block) (c .state) (c .after) (kept .1) in
-    c .house ∙ (λ j. record { block = block j; memory = h .memory; answers = h .answers; commands = h .commands })
+    c .house ∙ (λ j. record { block = block j; memory = h .memory; answers = h .answers; commands = h .commands; modbus-answers = h .modbus-answers })
+
+modbus-kept : (h next : House) (station : ℕ) (frame : List ℕ) (c : ByModbus h station frame next) → (c .result .refusal ≡ taken → ⊥) → next ≡ h
+modbus-kept h next station frame c other =
+    let kept = modbus-refused station frame (lends (h .memory) (c .memory)) (c .buffer) (c .result) (c .left) (c .told) (c .promised) .unchanged other in
+    let none : handedOut (c .result .length) (c .told) ≡ [] = rw (kept .0) refl in
+    let memory : handedBack (h .memory) (c .memory) (c .left) ≡ h .memory = back-as-was (h .memory) (c .memory) (c .left) (kept .1) in
+    let answers : h .modbus-answers ++ handedOut (c .result .length) (c .told) ≡ h .modbus-answers =
+    ap (λ (l : List (List ℕ)). h .modbus-answers ++ l) none ∙ append-nil (h .modbus-answers) in
+    c .house ∙ (λ j. record { block = h .block; memory = memory j; answers = h .answers; commands = h .commands; modbus-answers = answers j })
 
 register-kept : (h next : House) (list : List ℕ) (c : ByRegister h list next) → (c .result ≡ taken → ⊥) → next ≡ h
 register-kept h next list c other =
     let kept = register-refused (lends (h .block) (c .state)) (lends (h .memory) (c .memory)) list (c .result) (c .after) (c .promised) .unchanged other in
     let block : handedBack (h .block) (c .state) (c .after) ≡ h .block = back-as-was (h .block) (c .state) (c .after) kept in
-    c .house ∙ (λ j. record { block = block j; memory = h .memory; answers = h .answers; commands = h .commands })
+    c .house ∙ (λ j. record { block = block j; memory = h .memory; answers = h .answers; commands = h .commands; modbus-answers = h .modbus-answers })
 
 pub refused-kept : (h next : House) → Refused h next → next ≡ h
 refused-kept h next (refused-byte b call other) = byte-kept h next b call other
@@ -117,6 +135,7 @@ refused-kept h next (refused-collect call other) = collect-kept h next call othe
 refused-kept h next (refused-report reported call other) = report-kept h next reported call other
 refused-kept h next (refused-prepare setup call other) = prepare-kept h next setup call other
 refused-kept h next (refused-start call other) = start-kept h next call other
+refused-kept h next (refused-modbus station frame call other) = modbus-kept h next station frame call other
 refused-kept h next (refused-register list call other) = register-kept h next list call other
 
 -- ---- taken
@@ -133,6 +152,7 @@ servedByte h b buffer =
       memory = turn (decoded (h .block)) b (h .memory) buffer .memory;
       answers = h .answers ++ replied (turn (decoded (h .block)) b (h .memory) buffer);
       commands = h .commands;
+      modbus-answers = h .modbus-answers;
     }
 
 abbrev pub servedTick : House → House
@@ -142,6 +162,7 @@ servedTick h =
       memory = tickedMemory (recorderOf (decoded (h .block) .instruments .recorder)) (h .memory);
       answers = h .answers;
       commands = h .commands;
+      modbus-answers = h .modbus-answers;
     }
 
 -- behind a collection, and behind a report
@@ -152,6 +173,7 @@ servedCollect h =
       memory = h .memory;
       answers = h .answers;
       commands = h .commands ++ waitingIn (gateIn h .application);
+      modbus-answers = h .modbus-answers;
     }
 
 abbrev pub servedReport : House → ℕ → House
@@ -161,6 +183,7 @@ servedReport h reported =
       memory = h .memory;
       answers = h .answers;
       commands = h .commands;
+      modbus-answers = h .modbus-answers;
     }
 
 -- behind a call of the panel's that leaves this recorder
@@ -171,9 +194,46 @@ servedPanel h r =
       memory = h .memory;
       answers = h .answers;
       commands = h .commands;
+      modbus-answers = h .modbus-answers;
     }
 
--- a command that fits stands at the front of the buffer
+-- behind a frame of the second port
+abbrev pub servedFrame : House → ℕ → List ℕ → House
+servedFrame h station frame =
+    record {
+      block = h .block;
+      memory = modbusMemory station frame (h .memory);
+      answers = h .answers;
+      commands = h .commands;
+      modbus-answers = h .modbus-answers ++ ifAny (modbusAnswer station frame (h .memory));
+    }
+
+-- behind whatever happens beside the bytes
+abbrev pub servedBeside : House → Aside → House
+servedBeside h tick = servedTick h
+servedBeside h (writes address bytes) =
+    record {
+      block = h .block;
+      memory = stored (h .memory) address bytes;
+      answers = h .answers;
+      commands = h .commands;
+      modbus-answers = h .modbus-answers;
+    }
+servedBeside h collects = servedCollect h
+servedBeside h (reports reported) = servedReport h reported
+servedBeside h (prepares setup) = servedPanel h (givenNext (decoded (h .block) .instruments .recorder) setup)
+servedBeside h starts = servedPanel h (startedState (decoded (h .block) .instruments .recorder))
+servedBeside h (frames station frame) = servedFrame h station frame
+
+-- its answer has room in the 256 bytes that the call asks for
+pub modbus-fits : (station : ℕ) (frame memory : List ℕ) → length (modbusAnswer station frame memory) ≤ modbusRoom
+unfolding modbusAnswer
+modbus-fits station frame memory =
+    let bytes : List ℕ = station ∷ answerTo (exceptionTo (functionIn frame) frame memory) frame memory in
+    split (isSilenced station frame) (λ quiet. rw quiet (omega arith))
+    (λ loud. rw loud (omega (arith, answer-short frame memory, sealed-length bytes)))
+
+-- what fits stands at the front of the buffer
 front-handed : (new buffer : List ℕ) → length new ≤ length buffer → handedOut (length new) (sets buffer 0 new) ≡ ifAny new
 front-handed [] buffer fits = refl
 front-handed (code ∷ arguments) buffer fits =
@@ -194,6 +254,7 @@ module _ (h : House) (long : stateLength ≤ length (h .block)) (w : Within (dec
         tick-taken = rw (sound, eq-eqb (length (h .memory)) memoryEnd (w .memory-part .size)) refl;
         collect-taken = λ buffer room. rw (sound, le-ltb (length buffer) mostData room) refl;
         panel-taken = rw sound refl;
+        modbus-taken = λ station buffer own room. rw (eq-eqb (length (h .memory)) memoryEnd (w .memory-part .size), le-ltb (length buffer) modbusRoom room, own) refl;
       }
 
   module _ (b : ℕ) (small : b < 256) (next : House) (c : ByByte h b next) (fine : c .result .refusal ≡ taken) (whole : lends (h .block) (c .state) ≡ h .block) where
@@ -247,7 +308,7 @@ module _ (h : House) (long : stateLength ≤ length (h .block)) (w : Within (dec
         all-back (h .block) (c .state) (c .after) (sets (h .block) 0 (encoded (u .next))) whole after (length-sets (h .block) 0 (encoded (u .next))) in
         let memory : handedBack (h .memory) (c .memory) (c .left) ≡ u .memory =
         all-back (h .memory) (c .memory) (c .left) (u .memory) lent-memory left (keeps .memory-part .size ∙ sym (w .memory-part .size)) in
-        c .house ∙ (λ j. record { block = block j; memory = memory j; answers = h .answers ++ take (result j .length) (told j); commands = h .commands })
+        c .house ∙ (λ j. record { block = block j; memory = memory j; answers = h .answers ++ take (result j .length) (told j); commands = h .commands; modbus-answers = h .modbus-answers })
 
   module _ (next : House) (c : ByTick h next) (fine : c .result ≡ taken) (whole : lends (h .block) (c .state) ≡ h .block) where
     pub step-tick : length (tickedMemory (recorderOf (decoded (h .block) .instruments .recorder)) (h .memory)) ≡ length (h .memory) → next ≡ servedTick h
@@ -269,7 +330,7 @@ module _ (h : House) (long : stateLength ≤ length (h .block)) (w : Within (dec
         all-back (h .block) (c .state) (c .after) (sets (h .block) 0 (encoded (ticked (h .block) (h .memory)))) whole after (length-sets (h .block) 0 (encoded (ticked (h .block) (h .memory)))) in
         let memory : handedBack (h .memory) (c .memory) (c .left) ≡ left-by (h .block) (h .memory) =
         all-back (h .memory) (c .memory) (c .left) (left-by (h .block) (h .memory)) all left same in
-        c .house ∙ (λ j. record { block = block j; memory = memory j; answers = h .answers; commands = h .commands })
+        c .house ∙ (λ j. record { block = block j; memory = memory j; answers = h .answers; commands = h .commands; modbus-answers = h .modbus-answers })
 
   -- what was new is what the buffer begins with
   module _ (next : House) (c : ByCollect h next) (fine : c .result .refusal ≡ taken) (whole : lends (h .block) (c .state) ≡ h .block) where
@@ -294,8 +355,8 @@ module _ (h : House) (long : stateLength ≤ length (h .block)) (w : Within (dec
         all-back (h .block) (c .state) (c .after) (sets (h .block) 0 (encoded (collectedTarget (decoded (h .block))))) whole after
         (length-sets (h .block) 0 (encoded (collectedTarget (decoded (h .block))))) in
         c .house
-        ∙ (λ j. record { block = block j; memory = h .memory; answers = h .answers; commands = h .commands ++ handedOut (result j .length) (told j) })
-        ∙ ap (λ (l : List (List ℕ)). record { block = servedCollect h .block; memory = h .memory; answers = h .answers; commands = h .commands ++ l })
+        ∙ (λ j. record { block = block j; memory = h .memory; answers = h .answers; commands = h .commands ++ handedOut (result j .length) (told j); modbus-answers = h .modbus-answers })
+        ∙ ap (λ (l : List (List ℕ)). record { block = servedCollect h .block; memory = h .memory; answers = h .answers; commands = h .commands ++ l; modbus-answers = h .modbus-answers })
         (front-handed (newCommand (a (h .block))) (c .buffer) fits)
 
   module _ (reported : ℕ) (next : House) (c : ByReport h reported next) (fine : c .result ≡ taken) (whole : lends (h .block) (c .state) ≡ h .block) where
@@ -317,7 +378,7 @@ module _ (h : House) (long : stateLength ≤ length (h .block)) (w : Within (dec
         let block : handedBack (h .block) (c .state) (c .after) ≡ sets (h .block) 0 (encoded (reportedTarget reported (decoded (h .block)))) =
         all-back (h .block) (c .state) (c .after) (sets (h .block) 0 (encoded (reportedTarget reported (decoded (h .block))))) whole after
         (length-sets (h .block) 0 (encoded (reportedTarget reported (decoded (h .block))))) in
-        c .house ∙ (λ j. record { block = block j; memory = h .memory; answers = h .answers; commands = h .commands })
+        c .house ∙ (λ j. record { block = block j; memory = h .memory; answers = h .answers; commands = h .commands; modbus-answers = h .modbus-answers })
 
   -- what comes back of a state that was stored over all that was lent
   stored-back : (state : Piece) (after : List ℕ) (r : RecorderState) → lends (h .block) state ≡ h .block
@@ -345,7 +406,7 @@ module _ (h : House) (long : stateLength ≤ length (h .block)) (w : Within (dec
         let after = goes (panelNumber lentBlock) (c .after) (sets lentBlock 0 (encoded (preparedTarget setup (decoded lentBlock)))) lentBlock prepare-number (c .promised .state)
         ∙ ap (λ (l : List ℕ). sets l 0 (encoded (preparedTarget setup (decoded l)))) whole in
         let block = stored-back (c .state) (c .after) (givenNext (decoded (h .block) .instruments .recorder) setup) whole after in
-        c .house ∙ (λ j. record { block = block j; memory = h .memory; answers = h .answers; commands = h .commands })
+        c .house ∙ (λ j. record { block = block j; memory = h .memory; answers = h .answers; commands = h .commands; modbus-answers = h .modbus-answers })
 
   module _ (next : House) (c : ByStart h next) (fine : c .result .refusal ≡ taken) (whole : lends (h .block) (c .state) ≡ h .block) where
     start-number : panelNumber (lends (h .block) (c .state)) ≡ taken
@@ -365,4 +426,40 @@ module _ (h : House) (long : stateLength ≤ length (h .block)) (w : Within (dec
         let after = goes (panelNumber lentBlock) (c .after) (sets lentBlock 0 (encoded (startedTarget (decoded lentBlock)))) lentBlock start-number (c .promised .state)
         ∙ ap (λ (l : List ℕ). sets l 0 (encoded (startedTarget (decoded l)))) whole in
         let block = stored-back (c .state) (c .after) (startedState (decoded (h .block) .instruments .recorder)) whole after in
-        c .house ∙ (λ j. record { block = block j; memory = h .memory; answers = h .answers; commands = h .commands })
+        c .house ∙ (λ j. record { block = block j; memory = h .memory; answers = h .answers; commands = h .commands; modbus-answers = h .modbus-answers })
+
+  module _ (station : ℕ) (frame : List ℕ) (next : House) (c : ByModbus h station frame next) (fine : c .result .refusal ≡ taken) where
+    pub step-frame : next ≡ servedFrame h station frame
+    step-frame =
+        let lentMemory : List ℕ = lends (h .memory) (c .memory) in
+        let n : ℕ = modbusRefusal station lentMemory (c .buffer) in
+        let number : n ≡ taken = sym (modbus-refused station frame lentMemory (c .buffer) (c .result) (c .left) (c .told) (c .promised) .number) ∙ fine in
+        let right = lent-right station lentMemory (c .buffer) number in
+        let all : lentMemory ≡ h .memory = lent-whole (h .memory) (c .memory) (right .memory-length ∙ sym (w .memory-part .size)) in
+        let answer : List ℕ = modbusAnswer station frame (h .memory) in
+        let result : c .result ≡ record { refusal = taken; length = length answer } =
+        goes n (c .result) (record { refusal = taken; length = length (modbusAnswer station frame lentMemory) }) (record { refusal = n; length = 0 }) number (c .promised .result)
+        ∙ ap (λ (m : List ℕ). record { refusal = taken; length = length (modbusAnswer station frame m) }) all in
+        let left : c .left ≡ modbusMemory station frame (h .memory) =
+        goes n (c .left) (modbusMemory station frame lentMemory) lentMemory number (c .promised .memory-left) ∙ ap (modbusMemory station frame) all in
+        let told : c .told ≡ modbusBuffer station frame (h .memory) (c .buffer) =
+        goes n (c .told) (modbusBuffer station frame lentMemory (c .buffer)) (c .buffer) number (c .promised .buffer-told)
+        ∙ ap (λ (m : List ℕ). modbusBuffer station frame m (c .buffer)) all in
+        let memory : handedBack (h .memory) (c .memory) (c .left) ≡ modbusMemory station frame (h .memory) =
+        all-back (h .memory) (c .memory) (c .left) (modbusMemory station frame (h .memory)) all left (frame-keeps-length station frame (h .memory)) in
+        let fits : length answer ≤ length (c .buffer) = omega (arith, modbus-fits station frame (h .memory), right .room) in
+        c .house
+        ∙ (λ j. record { block = h .block; memory = memory j; answers = h .answers; commands = h .commands; modbus-answers = h .modbus-answers ++ handedOut (result j .length) (told j) })
+        ∙ ap (λ (l : List (List ℕ)). record { block = h .block; memory = servedFrame h station frame .memory; answers = h .answers; commands = h .commands; modbus-answers = h .modbus-answers ++ l })
+        (front-handed answer (c .buffer) fits)
+
+  pub step-beside : (a : Aside) (next : House) → Beside h a next → next ≡ servedBeside h a
+  step-beside tick next step =
+      let same = memory-ticked (recorderOf (decoded (h .block) .instruments .recorder)) (h .memory) (w .memory-part) .size ∙ sym (w .memory-part .size) in
+      step-tick next (step .0) (step .1) (step .2) same
+  step-beside (writes address bytes) next step = step
+  step-beside collects next step = step-collect next (step .0) (step .1) (step .2)
+  step-beside (reports reported) next step = step-report reported next (step .0) (step .1) (step .2)
+  step-beside (prepares setup) next step = step-prepare setup next (step .0) (step .1) (step .2)
+  step-beside starts next step = step-start next (step .0) (step .1) (step .2)
+  step-beside (frames station frame) next step = step-frame station frame next (step .0) (step .1)

@@ -1,17 +1,17 @@
 -- A walk over a block, as houses: from each to the next a byte comes by a call of its own.
 use mathlib.Core.Path.{_≡_, refl, sym, ap, subst, _∙_}
 use mathlib.Core.List.{List, [], _∷_, _++_, append-nil, append-assoc}
-use Prim.Native.Nat.{ℕ, zero, suc, _+_, _-_, _<_, _≤_}
+use Prim.Native.Nat.{ℕ, suc, _+_, _-_, _<_, _≤_}
 use native.Mathlib.Nat.{add-zero, zero-add}
 use native.Mathlib.Omega.{arith}
 use borrow.Author.Tests.{ltb-true, ltb-false}
 use lib.Dec.{ltb}
-use lib.ListN.{length, take, drop, length-append, length-take, length-drop, take-append-drop}
+use lib.ListN.{length, take, drop, length-append, length-take, length-drop}
 use lib.Seq.{sets, length-sets, take-length, drop-drop}
 use Rattle.document.specs.Numbers.{answerRoom, taken}
 use Rattle.document.specs.Bytes.{AllBytes}
 use Rattle.document.specs.Message.{finishedBy}
-use Rattle.document.specs.Happenings.{Happening, Since, after, afterAll}
+use Rattle.document.specs.Happenings.{Since, after}
 use Rattle.document.specs.Happenings.Happening.{byte}
 use Rattle.document.specs.Blocks.{Block, broughtBy, behind, stops, blockAfter}
 use Rattle.document.proofs.Cases.{split}
@@ -21,20 +21,19 @@ use Rattle.state.specs.Within.{Within}
 use Rattle.state.proofs.Keeps.{within-fits}
 use Rattle.target.specs.Turn.{Turn, turn}
 use Rattle.target.specs.Walk.{Walk, byteTurn, onward, room, walked}
-use Rattle.target.proofs.Fits.{turn-size, turn-fits}
+use Rattle.target.proofs.Fits.{turn-size}
 use Rattle.target.proofs.Keeps.{byte-keeps}
 use Rattle.target.proofs.Walks.{walked-all, walked-short, walked-on}
 use Rattle.blocks.specs.Places.{stateLength}
 use Rattle.blocks.specs.Layout.{decoded, encoded}
 use Rattle.blocks.proofs.Back.{stored-decoded}
-use Rattle.byte_call.specs.declared.Taken.{Taken}
-use Rattle.byte_call.specs.Promises.{Turned, ByteTaken}
+use Rattle.byte_call.specs.Promises.{ByteTaken}
 use Rattle.byte_call.proofs.Stores.{target-over}
 use Rattle.byte_call.proofs.Turns.{byte-taken}
 use Rattle.demands.specs.House.{House}
-use Rattle.demands.specs.Lent.{Piece, lends, handedBack}
+use Rattle.demands.specs.Lent.{Piece, lends}
 use Rattle.demands.specs.Stands.{linkIn}
-use Rattle.demands.specs.Run.{ByByte, Step, Singly, came}
+use Rattle.demands.specs.Run.{Step, Singly, came}
 use Rattle.demands.specs.Run.Singly.{ends, happens}
 use Rattle.demands.proofs.Lends.{whole-back}
 use Rattle.demands.proofs.Served.{servedByte, ready}
@@ -81,6 +80,7 @@ module _ (h : House) (s : Since) (r : Reached h s) (b : ℕ) (small : b < 256) (
             memory = sym (whole-back (h .memory) (whole (h .memory)) (u .memory) (ap length (lends-all (h .memory))) memory-size) j;
             answers = h .answers ++ take (u .length) (u .buffer);
             commands = h .commands;
+            modbus-answers = h .modbus-answers;
           };
     },
     refl,
@@ -97,6 +97,7 @@ houseAt first w =
       memory = w .memory;
       answers = first .answers ++ take (w .written) (w .buffer);
       commands = first .commands;
+      modbus-answers = first .modbus-answers;
     }
 
 longer : (xs : List ℕ) (n : ℕ) → suc (length xs) + n ≡ suc (length xs + n)
@@ -148,7 +149,7 @@ module _ (first : House) (w : Walk) (long : stateLength ≤ length (first .block
         ap (λ (t : Target). (first .answers ++ take (w .written) (w .buffer)) ++ take (turn t b (w .memory) rest .length) (turn t b (w .memory) rest .buffer)) there
         ∙ append-assoc (first .answers) (take (w .written) (w .buffer)) (take (v .length) (v .buffer))
         ∙ ap (λ (l : List ℕ). first .answers ++ l) (sym sent) in
-        λ j. record { block = block j; memory = turn (there j) b (w .memory) rest .memory; answers = answers j; commands = first .commands }
+        λ j. record { block = block j; memory = turn (there j) b (w .memory) rest .memory; answers = answers j; commands = first .commands; modbus-answers = first .modbus-answers }
 
     module _ (s : Since) (r : Reached (houseAt first w) s) (enough : answerRoom ≤ room w) where
       rest-size : answerRoom ≤ length (drop (w .written) (w .buffer))

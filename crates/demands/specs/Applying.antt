@@ -1,7 +1,6 @@
 -- Application commands (2026-01) along a run of the calls that are linked into a gate.
 use mathlib.Core.Path.{_≡_}
-use mathlib.Core.List.{List, _++_}
-use Prim.Native.Nat.{ℕ}
+use mathlib.Core.List.{_++_}
 use Rattle.document.specs.Answer.{Answer, answerOnWire}
 use Rattle.blocks.specs.Layout.{decoded}
 use Rattle.demands.specs.House.{House, gateIn}
@@ -15,6 +14,7 @@ pub record OnlyCommand (h next : House) : Type 0 where
   pub tables : decoded (next .block) .instruments .tables ≡ decoded (h .block) .instruments .tables
   pub memory : next .memory ≡ h .memory
   pub answers : next .answers ≡ h .answers
+  pub modbus-answers : next .modbus-answers ≡ h .modbus-answers
 
 -- this was answered, and the gate is as it was
 pub record OnlySaid (a : Answer) (h next : House) : Type 0 where

@@ -9,4 +9,5 @@ pub mod Fresh
 pub mod Recorded
 pub mod Recorder
 pub mod Applying
+pub mod Ports
 pub mod Readings

@@ -26,6 +26,7 @@ pub record OnlyRecorder (h next : House) : Type 0 where
   pub tables : decoded (next .block) .instruments .tables ≡ decoded (h .block) .instruments .tables
   pub memory : next .memory ≡ h .memory
   pub answers : next .answers ≡ h .answers
+  pub modbus-answers : next .modbus-answers ≡ h .modbus-answers
 
 -- a recorder with this plan, which goes on or not
 pub record Goes (p : Plan) (h : House) (on : Bool) : Type 0 where

@@ -12,6 +12,7 @@ use Rattle.document.specs.Message.{Message}
 use Rattle.document.specs.Gate.{Gate, says}
 use Rattle.document.specs.Refusals.{refusal}
 use Rattle.document.specs.Commands.{answered}
+use Rattle.document.specs.Modbus.{modbusRefusal}
 use Rattle.line.specs.declared.Written.{Written}
 use Rattle.host.specs.Reader.{idle, stepped}
 use Rattle.blocks.specs.Places.{stateLength}
@@ -64,6 +65,11 @@ pub record PanelRefused (block : List ℕ) (r : Said) (after : List ℕ) : Type 
 pub record RegisterRefused (block memory list : List ℕ) (r : ℕ) (after : List ℕ) : Type 0 where
   pub number : r ≡ registerNumber block memory list
   pub unchanged : (r ≡ taken → ⊥) → after ≡ block
+
+-- the second port: 2, 3 and 9, "Lowest number first" (2026-07)
+pub record ModbusRefused (station : ℕ) (memory buffer : List ℕ) (r : Written) (left told : List ℕ) : Type 0 where
+  pub number : r .refusal ≡ modbusRefusal station memory buffer
+  pub unchanged : (r .refusal ≡ taken → ⊥) → (r .length ≡ 0) × (left ≡ memory) × (told ≡ buffer)
 
 -- "a refusal sent on the wire writes that answer's bytes only": the gate stays, and there are no data
 pub record WireRefused (g : Gate) (m : Message) : Type 0 where

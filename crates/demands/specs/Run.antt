@@ -2,7 +2,7 @@
 -- of bytes, and refused calls anywhere among them. Each call brings its own buffer, of any room and with anything in it, and its own
 -- lengths.
 use mathlib.Core.Path.{_≡_}
-use mathlib.Core.Bool.{cond}
+use mathlib.Core.Bool.{true, cond}
 use mathlib.Core.List.{List, [], _∷_, _++_, map}
 use Prim.Native.Nat.{ℕ, _≤_}
 use lib.ListN.{length, take}
@@ -11,8 +11,10 @@ use Rattle.document.specs.Numbers.{answerRoom, mostData, taken}
 use Rattle.document.specs.Stores.{stored}
 use Rattle.document.specs.Bytes.{AllBytes}
 use Rattle.document.specs.Tables.{Table, tablesIn}
+use Rattle.document.specs.Frames.{isStation}
+use Rattle.document.specs.Modbus.{modbusRoom, modbusRefusal}
 use Rattle.document.specs.Asides.{Aside}
-use Rattle.document.specs.Asides.Aside.{tick, writes, collects, reports, prepares, starts}
+use Rattle.document.specs.Asides.Aside.{tick, writes, collects, reports, prepares, starts, frames}
 use Rattle.document.specs.Happenings.{Happening}
 use Rattle.document.specs.Happenings.Happening.{byte, aside}
 use Rattle.line.specs.declared.Written.{Written}
@@ -26,10 +28,11 @@ use Rattle.byte_call.specs.declared.Taken.{Taken}
 use Rattle.byte_call.specs.Promises.{ByteTaken}
 use Rattle.block_call.specs.declared.BlockTaken.{BlockTaken}
 use Rattle.block_call.specs.Promises.{BlockDone}
+use Rattle.modbus.specs.Promises.{ModbusDone}
 use Rattle.demands.specs.House.{House}
 use Rattle.demands.specs.Lent.{Piece, lends, handedBack}
 
--- a command is the first bytes of the lent buffer, as many as the call says; a length of 0 is none
+-- a command, and an answer of the second port, is the first bytes of the lent buffer, as many as the call says; a length of 0 is none
 abbrev pub handedOut : ℕ → List ℕ → List (List ℕ)
 handedOut n told = cond (eqb n 0) [] (take n told ∷ [])
 
@@ -51,6 +54,7 @@ pub record ByByte (h : House) (b : ℕ) (next : House) : Type 0 where
         -- an answer is the first bytes of the lent buffer, as many as the call says
         answers = h .answers ++ take (result .length) told;
         commands = h .commands;
+        modbus-answers = h .modbus-answers;
       }
 
 -- `log_gate_block` was called
@@ -70,6 +74,7 @@ pub record ByBlock (h : House) (bytes : List ℕ) (next : House) : Type 0 where
         memory = handedBack (h .memory) memory left;
         answers = h .answers ++ take (result .written) told;
         commands = h .commands;
+        modbus-answers = h .modbus-answers;
       }
 
 -- `log_gate_tick` was called
@@ -87,6 +92,7 @@ pub record ByTick (h next : House) : Type 0 where
         memory = handedBack (h .memory) memory left;
         answers = h .answers;
         commands = h .commands;
+        modbus-answers = h .modbus-answers;
       }
 
 -- `log_gate_collect` was called
@@ -104,6 +110,7 @@ pub record ByCollect (h next : House) : Type 0 where
         memory = h .memory;
         answers = h .answers;
         commands = h .commands ++ handedOut (result .length) told;
+        modbus-answers = h .modbus-answers;
       }
 
 -- `log_gate_report` was called
@@ -119,6 +126,7 @@ pub record ByReport (h : House) (reported : ℕ) (next : House) : Type 0 where
         memory = h .memory;
         answers = h .answers;
         commands = h .commands;
+        modbus-answers = h .modbus-answers;
       }
 
 -- `log_gate_prepare` was called
@@ -134,6 +142,7 @@ pub record ByPrepare (h : House) (setup : List ℕ) (next : House) : Type 0 wher
         memory = h .memory;
         answers = h .answers;
         commands = h .commands;
+        modbus-answers = h .modbus-answers;
       }
 
 -- `log_gate_start` was called
@@ -149,6 +158,25 @@ pub record ByStart (h next : House) : Type 0 where
         memory = h .memory;
         answers = h .answers;
         commands = h .commands;
+        modbus-answers = h .modbus-answers;
+      }
+
+-- `log_gate_modbus` was called: it is lent the memory, and nothing of the target
+pub record ByModbus (h : House) (station : ℕ) (frame : List ℕ) (next : House) : Type 0 where
+  pub memory : Piece
+  pub buffer : List ℕ
+  pub result : Written
+  pub left : List ℕ
+  pub told : List ℕ
+  pub promised : ModbusDone station frame (lends (h .memory) memory) buffer result left told
+  pub house :
+      next
+      ≡ record {
+        block = h .block;
+        memory = handedBack (h .memory) memory left;
+        answers = h .answers;
+        commands = h .commands;
+        modbus-answers = h .modbus-answers ++ handedOut (result .length) told;
       }
 
 -- `log_gate_register` was called
@@ -165,6 +193,7 @@ pub record ByRegister (h : House) (list : List ℕ) (next : House) : Type 0 wher
         memory = h .memory;
         answers = h .answers;
         commands = h .commands;
+        modbus-answers = h .modbus-answers;
       }
 
 -- how a run begins: a reset, or a registering that is taken, over the memory as it is then
@@ -176,7 +205,7 @@ pub data Reset (block memory : List ℕ) : List Table → List ℕ → Type 0 wh
 abbrev pub Beside : House → Aside → House → Type 0
 Beside h tick next = (call : ByTick h next) × (call .result ≡ taken) × (lends (h .block) (call .state) ≡ h .block)
 Beside h (writes address bytes) next =
-    next ≡ record { block = h .block; memory = stored (h .memory) address bytes; answers = h .answers; commands = h .commands }
+    next ≡ record { block = h .block; memory = stored (h .memory) address bytes; answers = h .answers; commands = h .commands; modbus-answers = h .modbus-answers }
 Beside h collects next =
     (call : ByCollect h next) × (call .result .refusal ≡ taken) × (lends (h .block) (call .state) ≡ h .block)
 Beside h (reports reported) next =
@@ -185,6 +214,7 @@ Beside h (prepares setup) next =
     (call : ByPrepare h setup next) × (call .result .refusal ≡ taken) × (lends (h .block) (call .state) ≡ h .block)
 Beside h starts next =
     (call : ByStart h next) × (call .result .refusal ≡ taken) × (lends (h .block) (call .state) ≡ h .block)
+Beside h (frames station frame) next = (call : ByModbus h station frame next) × (call .result .refusal ≡ taken)
 
 abbrev pub Step : House → Happening → House → Type 0
 Step h (byte b) next = (call : ByByte h b next) × (call .result .refusal ≡ taken) × (lends (h .block) (call .state) ≡ h .block)
@@ -199,6 +229,7 @@ pub data Refused (h next : House) : Type 0 where
   refused-report : (reported : ℕ) (call : ByReport h reported next) → (call .result ≡ taken → ⊥) → Refused h next
   refused-prepare : (setup : List ℕ) (call : ByPrepare h setup next) → (call .result .refusal ≡ taken → ⊥) → Refused h next
   refused-start : (call : ByStart h next) → (call .result .refusal ≡ taken → ⊥) → Refused h next
+  refused-modbus : (station : ℕ) (frame : List ℕ) (call : ByModbus h station frame next) → (call .result .refusal ≡ taken → ⊥) → Refused h next
   refused-register : (list : List ℕ) (call : ByRegister h list next) → (call .result ≡ taken → ⊥) → Refused h next
 
 -- every byte comes by a call of its own
@@ -222,9 +253,12 @@ pub data Run : House → List Happening → House → Type 0 where
   refuses : (h next last : House) (es : List Happening) → Refused h next → Run next es last → Run h es last
 
 -- a byte, a block, a tick or a collection that is lent the block, the memory and room for an answer or for a command is taken, and so are
--- the panel's calls; a report waits for its command
+-- the panel's calls, and a frame of the second port for an own station that is one; a report waits for its command
 pub record Ready (h : House) : Type 0 where
   pub byte-taken : (buffer : List ℕ) → answerRoom ≤ length buffer → byteNumber (h .block) (h .memory) buffer ≡ taken
   pub tick-taken : tickNumber (h .block) (h .memory) ≡ taken
   pub collect-taken : (buffer : List ℕ) → mostData ≤ length buffer → collectNumber (h .block) buffer ≡ taken
   pub panel-taken : panelNumber (h .block) ≡ taken
+  pub modbus-taken :
+      (station : ℕ) (buffer : List ℕ) → isStation station ≡ true → modbusRoom ≤ length buffer
+      → modbusRefusal station (h .memory) buffer ≡ taken

@@ -1,21 +1,18 @@
--- The lent buffer behind a byte that is taken, and behind a block.
+-- The lent buffer behind a byte that is taken, behind a block, and behind a frame.
 use mathlib.Core.Path.{_≡_}
 use mathlib.Core.List.{List}
 use Prim.Native.Nat.{ℕ, _≤_}
 use lib.ListN.{length, take, drop}
-use Rattle.document.specs.Numbers.{answerRoom}
 use Rattle.document.specs.Happenings.{Since}
 use Rattle.document.specs.Blocks.{blockAfter}
-use Rattle.byte_call.specs.declared.Taken.{Taken}
 use Rattle.block_call.specs.declared.BlockTaken.{BlockTaken}
 use Rattle.demands.specs.House.{House}
 use Rattle.demands.specs.Stands.{Stands}
 
--- "Bytes of it behind the answer keep their values; without an answer, all do."
-pub record Sent (buffer : List ℕ) (r : Taken) (told : List ℕ) : Type 0 where
-  pub behind : drop (r .length) told ≡ drop (r .length) buffer
-  -- "start, status, and 65 bytes that may all be doubled"
-  pub fits : r .length ≤ answerRoom
+-- "Bytes of it behind the answer keep their values; without an answer, all do.": an answer of n bytes, for which there was room
+pub record Sent (room : ℕ) (buffer : List ℕ) (n : ℕ) (told : List ℕ) : Type 0 where
+  pub behind : drop n told ≡ drop n buffer
+  pub fits : n ≤ room
 
 -- a block (2026-05) that is taken, behind what has happened: "writes the answers one behind another .. and reports bytes taken and
 -- bytes written", and every other byte of the lent buffer keeps its value

@@ -3,6 +3,7 @@ pub mod Bytes
 pub mod Calls
 pub mod Cases
 pub mod Levels
+pub mod Modbus
 pub mod Order
 pub mod Pairs
 pub mod Panel

@@ -91,7 +91,7 @@ commandRows =
 
 -- ---- "00 to 02 and 81 to 89"; "A status with its top bit set"
 
-abbrev below : ℕ → List ℕ
+abbrev pub below : ℕ → List ℕ
 below zero = []
 below (suc n) = below n ++ (n ∷ [])
 

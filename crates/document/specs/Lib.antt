@@ -37,6 +37,11 @@ pub mod Trigger
 pub mod Run
 pub mod Recorder
 pub mod Sets
+-- "Modbus on the second port" (2026-07)
+pub mod CheckSum
+pub mod Frames
+pub mod Registers
+pub mod Modbus
 -- since reset, and "Staples to try"
 pub mod Panel
 pub mod Asides
@@ -64,4 +69,5 @@ pub mod ApplicationRows
 pub mod TableRows
 pub mod BlockRows
 pub mod PanelRows
+pub mod ModbusRows
 pub mod SetRows

@@ -110,3 +110,7 @@ resultRefused = 7
 -- "call number 8 for a bad list, nothing registered, after 7" (2026-03)
 abbrev pub listRefused : ℕ
 listRefused = 8
+
+-- "9 for an own station outside 1 to 247, after 8" (2026-07)
+abbrev pub stationRefused : ℕ
+stationRefused = 9

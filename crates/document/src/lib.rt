@@ -1,4 +1,5 @@
-// What the definitions and the code share: a variable's definition, and what the list of commands says of one.
+// What the definitions and the code share: a variable's definition, what the list of commands says of one, and the second port's
+// functions.
 
 // One definition: `size` bytes from `address` on.
 #[repr(C)]
@@ -33,4 +34,13 @@ pub struct Service {
     pub operation: Operation,
     pub ex: bool,
     pub size: u8,
+}
+
+// A name for each function of the second port that is served, and one for every other.
+pub enum Function {
+    ReadRegisters,
+    WriteRegister,
+    WriteRegisters,
+    MaskRegister,
+    Other,
 }

@@ -17,7 +17,7 @@ use Rattle.document.specs.Gate.{Gate, Outcome, registered, says, withApplicatio
 use Rattle.document.specs.Refusals.{sendLines, firstOf, refusal}
 use Rattle.document.specs.Commands.{doing, served, answered}
 use Rattle.document.specs.Asides.{Aside, beside}
-use Rattle.document.specs.Asides.Aside.{tick, writes, collects, reports, prepares, starts as starting}
+use Rattle.document.specs.Asides.Aside.{tick, writes, collects, reports, prepares, starts as starting, frames}
 use Rattle.document.specs.Happenings.{Happening, Since, told, after, afterAll, fromReset}
 use Rattle.document.specs.Happenings.Happening.{byte, aside}
 use Rattle.document.specs.declared.Operation.the-variants.{Unserved}
@@ -228,6 +228,7 @@ beside-hands g (prepares setup) =
     append-nil (waitingIn (g .application)) ∙ ap (λ (q : Gate). waitingIn (q .application)) (sym (prepare-touches g setup))
 beside-hands g starting =
     append-nil (waitingIn (g .application)) ∙ ap (λ (q : Gate). waitingIn (q .application)) (sym (start-touches g))
+beside-hands g (frames station frame) = append-nil (waitingIn (g .application))
 
 happening-hands : (s : Since) (h : Happening) → waitingAt s ++ sentAt s h ≡ handedAt s h ++ waitingAt (after s h)
 happening-hands s (byte b) = by (finishedBy (s .bytes) b)
@@ -278,6 +279,7 @@ beside-pending g collects quiet pending = collect-pending (g .application) pendi
 beside-pending g (reports result) quiet pending = uncollected-pending result (g .application) quiet pending
 beside-pending g (prepares setup) quiet pending = ap (λ (q : Gate). isPending (q .application)) (prepare-touches g setup) ∙ pending
 beside-pending g starting quiet pending = ap (λ (q : Gate). isPending (q .application)) (start-touches g) ∙ pending
+beside-pending g (frames station frame) quiet pending = pending
 
 stays-pending : (s : Since) (h : Happening) → Unreported s h → Pending s → Pending (after s h)
 stays-pending s (byte b) quiet pending = by (finishedBy (s .bytes) b)

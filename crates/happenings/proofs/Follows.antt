@@ -14,9 +14,10 @@ use Rattle.document.specs.Recorder.Recorder.{planned}
 use Rattle.document.specs.Gate.{Gate}
 use Rattle.document.specs.Commands.{answered}
 use Rattle.document.specs.Panel.{panelPrepares, panelStarts}
+use Rattle.document.specs.Modbus.{modbusMemory}
 use Rattle.document.specs.Happenings.{Happening, Since, told, after, afterAll}
 use Rattle.document.specs.Asides.{Aside, beside}
-use Rattle.document.specs.Asides.Aside.{tick, writes, collects, reports, prepares, starts as starting}
+use Rattle.document.specs.Asides.Aside.{tick, writes, collects, reports, prepares, starts as starting, frames}
 use Rattle.document.specs.Happenings.Happening.{byte, aside}
 use Rattle.document.proofs.Cases.{split}
 use Rattle.memory.proofs.Copies.{stored-length}
@@ -24,8 +25,9 @@ use Rattle.history.specs.History.{Event, Recording, AllLeaveBuffer}
 use Rattle.history.specs.History as history
 use Rattle.outcomes.specs.Starts.{starts, stops}
 use Rattle.outcomes.proofs.Recording.{stop-stops, others-pass}
+use Rattle.second_port.proofs.Kept.{frame-keeps-rest, frame-keeps-length}
 use Rattle.happenings.specs.Recording.{eventsOf, eventsBeside, eventsAt, events, NoStart, Unstarted, AllUnstarted, NothingNew, Undisturbed, AllUndisturbed}
-use Rattle.happenings.proofs.Recording.{message-leaves, ticked-length}
+use Rattle.happenings.proofs.Recording.{buffer-left, message-leaves, ticked-length}
 use Rattle.happenings.proofs.Panel.{prepare-refused, start-passes}
 
 -- the gate's recorder has this plan, and goes through this history
@@ -52,11 +54,13 @@ module _ (p : Plan) where
         leaves = λ quiet. (tt, tt);
       }))
       (λ n.
-      let left = message-leaves gate m (f .size) in
+      let left = message-leaves gate m in
+      let size : length (answered gate m .gate .memory) ≡ memoryEnd = left .0 ∙ f .size in
+      let buffer = buffer-left (answered gate m .gate .memory) (gate .memory) (left .1) in
       rw n
       (record {
-        follows = record { recorder = others-pass gate m p (g .run) (f .recorder) no-start n; memory = refl; size = left .0 };
-        leaves = λ quiet. ((left .0, left .1 ∙ ap (drop bufferBegin) (f .memory)), tt);
+        follows = record { recorder = others-pass gate m p (g .run) (f .recorder) no-start n; memory = refl; size = size };
+        leaves = λ quiet. ((size, buffer ∙ ap (drop bufferBegin) (f .memory)), tt);
       }))
 
   module _ (s : Since) (g : Recording) (f : Follows p (s .gate) g) where
@@ -109,6 +113,13 @@ module _ (p : Plan) where
         record { follows = record { recorder = f .recorder; memory = f .memory; size = f .size }; leaves = λ quiet. tt }
     followed-beside (prepares setup) old = followed-same (panelPrepares (s .gate) setup .gate) (prepare-refused (s .gate) setup old)
     followed-beside starting old = followed-same (panelStarts (s .gate) .gate) (start-passes (s .gate) old)
+    followed-beside (frames station frame) old =
+        let size : length (modbusMemory station frame (s .gate .memory)) ≡ memoryEnd = frame-keeps-length station frame (s .gate .memory) ∙ f .size in
+        let buffer = buffer-left (modbusMemory station frame (s .gate .memory)) (s .gate .memory) (frame-keeps-rest station frame (s .gate .memory)) in
+        record {
+          follows = record { recorder = f .recorder; memory = refl; size = size };
+          leaves = λ quiet. ((size, buffer ∙ ap (drop bufferBegin) (f .memory)), tt);
+        }
 
   -- ---- one after the other
   after-append : (es fs : List Event) (g : Recording) → history.after p g (es ++ fs) ≡ history.after p (history.after p g es) fs

@@ -9,3 +9,6 @@ pub mod Follows
 pub mod Applying
 pub mod Tables
 pub mod Blocks
+pub mod Agree
+pub mod ServicePort
+pub mod ModbusPort

@@ -1,5 +1,5 @@
--- What messages and ticks leave of the memory, as the recorder's history asks it.
-use mathlib.Core.Path.{_≡_, refl, _∙_}
+-- What messages and ticks leave of the memory, as the recorder's history and the second port ask it.
+use mathlib.Core.Path.{_≡_, refl, sym, ap, _∙_}
 use mathlib.Core.Bool.{true}
 use mathlib.Core.List.{List, [], _∷_}
 use Prim.Native.Nat.{ℕ, _+_, _≤_}
@@ -7,7 +7,8 @@ use native.Mathlib.Omega.{arith}
 use borrow.Author.Tests.{leb-true}
 use lib.Dec.{eqb}
 use lib.ListN.{length, drop, length-take}
-use Rattle.document.specs.Areas.{variablesEnd, bufferBegin, memoryEnd, bytesAt}
+use lib.Seq.{drop-drop}
+use Rattle.document.specs.Areas.{variablesEnd, bufferBegin, bytesAt}
 use Rattle.document.specs.Message.{Message}
 use Rattle.document.specs.Stores.{stored, maskedBytes}
 use Rattle.document.specs.Services.{serviceOf}
@@ -24,9 +25,15 @@ use Rattle.memory.proofs.Copies.{stored-length}
 use Rattle.history.proofs.Bytes.{drop-sets}
 use Rattle.outcomes.proofs.Answered.{answered-memory}
 
--- ---- what a message leaves of the buffer: all of it
-abbrev LeftBuffer : List ℕ → List ℕ → Type 0
-LeftBuffer before m = (length m ≡ memoryEnd) × (drop bufferBegin m ≡ drop bufferBegin before)
+-- ---- what a message leaves behind the variables: all of it
+abbrev LeftRest : List ℕ → List ℕ → Type 0
+LeftRest before m = (length m ≡ length before) × (drop variablesEnd m ≡ drop variablesEnd before)
+
+-- and so the buffer
+pub buffer-left : (m before : List ℕ) → drop variablesEnd m ≡ drop variablesEnd before → drop bufferBegin m ≡ drop bufferBegin before
+buffer-left m before rest =
+    let behind : (l : List ℕ) → drop bufferBegin l ≡ drop 4096 (drop variablesEnd l) = λ l. sym (drop-drop 4096 variablesEnd l) in
+    behind m ∙ ap (drop 4096) rest ∙ sym (behind before)
 
 masked-few : (os vs ms : List ℕ) → length (maskedBytes os vs ms) ≤ length vs
 masked-few [] vs ms = omega arith
@@ -35,22 +42,21 @@ masked-few (o ∷ os) (v ∷ vs) [] = omega arith
 masked-few (o ∷ os) (v ∷ vs) (m ∷ ms) = omega (arith, masked-few os vs ms)
 
 -- a store that ends where the variables do
-store-leaves : (g : Gate) (a n : ℕ) (vs : List ℕ) → length (g .memory) ≡ memoryEnd → mayBeWritten g a n ≡ true → length vs ≤ n
-    → LeftBuffer (g .memory) (stored (g .memory) a vs)
+store-leaves : (g : Gate) (a n : ℕ) (vs : List ℕ) → mayBeWritten g a n ≡ true → length vs ≤ n → LeftRest (g .memory) (stored (g .memory) a vs)
 unfolding mayBeWritten
-store-leaves g a n vs size may few =
+store-leaves g a n vs may few =
     let inside : a + n ≤ variablesEnd = leb-true (a + n) variablesEnd may in (
-      stored-length (g .memory) (stored (g .memory) a vs) vs a refl ∙ size,
-      drop-sets vs (g .memory) a bufferBegin (omega (arith, inside, few)),
+      stored-length (g .memory) (stored (g .memory) a vs) vs a refl,
+      drop-sets vs (g .memory) a variablesEnd (omega (arith, inside, few)),
     )
 
-pub message-leaves : (g : Gate) (m : Message) → length (g .memory) ≡ memoryEnd → LeftBuffer (g .memory) (answered g m .gate .memory)
-message-leaves g m size =
-    answered-memory g m (LeftBuffer (g .memory)) (size, refl)
-    (λ may. store-leaves g (addressField s body) (sizeField s body) values size may few)
+pub message-leaves : (g : Gate) (m : Message) → LeftRest (g .memory) (answered g m .gate .memory)
+message-leaves g m =
+    answered-memory g m (LeftRest (g .memory)) (refl, refl)
+    (λ may. store-leaves g (addressField s body) (sizeField s body) values may few)
     (λ may.
     let old : List ℕ = bytesAt (g .memory) (addressField s body) (length values) in
-    store-leaves g (addressField s body) (sizeField s body) (maskedBytes old values (maskField s body)) size may
+    store-leaves g (addressField s body) (sizeField s body) (maskedBytes old values (maskField s body)) may
     (omega (arith, masked-few old values (maskField s body), few)))
   where
     s : Service

@@ -7,7 +7,7 @@ use Rattle.document.specs.Services.{serviceOf}
 use Rattle.document.specs.Gate.{Gate}
 use Rattle.document.specs.Commands.{answered}
 use Rattle.document.specs.Asides.{Aside, beside}
-use Rattle.document.specs.Asides.Aside.{tick, writes, collects, reports, prepares, starts as starting}
+use Rattle.document.specs.Asides.Aside.{tick, writes, collects, reports, prepares, starts as starting, frames}
 use Rattle.document.specs.Happenings.{Happening, Since, told, after, afterAll}
 use Rattle.document.specs.Happenings.Happening.{byte, aside}
 use Rattle.document.specs.declared.Service.{Service}
@@ -40,6 +40,7 @@ aside-tables g collects = refl
 aside-tables g (reports result) = refl
 aside-tables g (prepares setup) = ap (λ (q : Gate). q .tables) (prepare-touches g setup)
 aside-tables g starting = ap (λ (q : Gate). q .tables) (start-touches g)
+aside-tables g (frames station frame) = refl
 
 told-tables : (s : Since) (ms : List Message) → told s ms .gate .tables ≡ s .gate .tables
 told-tables s [] = refl

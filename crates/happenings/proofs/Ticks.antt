@@ -6,7 +6,7 @@ use native.Mathlib.Omega.{arith}
 use Rattle.document.specs.Message.{Message, finishedBy}
 use Rattle.document.specs.Gate.{Gate}
 use Rattle.document.specs.Asides.{Aside}
-use Rattle.document.specs.Asides.Aside.{tick, writes, collects, reports, prepares, starts as starting}
+use Rattle.document.specs.Asides.Aside.{tick, writes, collects, reports, prepares, starts as starting, frames}
 use Rattle.document.specs.Happenings.{Happening, Since, after}
 use Rattle.document.specs.Happenings.Happening.{byte, aside}
 use Rattle.document.proofs.Cases.{split}
@@ -32,6 +32,7 @@ aside-ticks g collects = refl
 aside-ticks g (reports result) = refl
 aside-ticks g (prepares setup) = refl
 aside-ticks g starting = refl
+aside-ticks g (frames station frame) = refl
 
 pub ticks-counted : (hs : List Happening) (s : Since) → ticks (events s hs) ≡ ticksOf hs
 ticks-counted [] s = refl

@@ -1,7 +1,7 @@
 -- Application commands (2026-01) among what happens to a gate: which are sent, which are handed out, and which one waits.
 use mathlib.Core.Path.{_≡_}
 use mathlib.Core.Bool.{Bool, true, false, cond, not, _&&_}
-use mathlib.Core.List.{List, [], _∷_, _++_}
+use mathlib.Core.List.{List, [], _∷_}
 use Prim.Native.Nat.{ℕ}
 use lib.Dec.{eqb, ltb}
 use lib.ListN.{length}
@@ -12,9 +12,10 @@ use Rattle.document.specs.Gate.{Gate, says}
 use Rattle.document.specs.Refusals.{refusal}
 use Rattle.document.specs.Commands.{answered}
 use Rattle.document.specs.Asides.{Aside}
-use Rattle.document.specs.Asides.Aside.{tick, writes, collects, reports, prepares, starts as starting}
+use Rattle.document.specs.Asides.Aside.{tick, writes, collects, reports, prepares, starts as starting, frames}
 use Rattle.document.specs.Happenings.{Happening, Since, after}
 use Rattle.document.specs.Happenings.Happening.{byte, aside}
+use Rattle.happenings.specs.Along.{along}
 
 -- ---- sent over the line
 
@@ -32,8 +33,7 @@ sentAt s (byte b) = sentBy (s .gate) (finishedBy (s .bytes) b)
 sentAt s (aside a) = []
 
 abbrev pub sentOf : Since → List Happening → List (List ℕ)
-sentOf s [] = []
-sentOf s (h ∷ hs) = sentAt s h ++ sentOf (after s h) hs
+sentOf = along sentAt
 
 -- ---- handed out to the gate's own program
 
@@ -56,14 +56,14 @@ handedBeside g collects = waitingIn (g .application)
 handedBeside g (reports result) = []
 handedBeside g (prepares setup) = []
 handedBeside g starting = []
+handedBeside g (frames station frame) = []
 
 abbrev pub handedAt : Since → Happening → List (List ℕ)
 handedAt s (byte b) = []
 handedAt s (aside a) = handedBeside (s .gate) a
 
 abbrev pub handedOut : Since → List Happening → List (List ℕ)
-handedOut s [] = []
-handedOut s (h ∷ hs) = handedAt s h ++ handedOut (after s h) hs
+handedOut = along handedAt
 
 -- ---- pending until its result is reported
 
@@ -90,6 +90,7 @@ NoResult g collects = Unit {0}
 NoResult g (reports result) = isCollected (g .application) ≡ false
 NoResult g (prepares setup) = Unit {0}
 NoResult g starting = Unit {0}
+NoResult g (frames station frame) = Unit {0}
 
 abbrev pub Unreported : Since → Happening → Type 0
 Unreported s (byte b) = Unit {0}

@@ -4,7 +4,7 @@ use Prim.Native.Nat.{ℕ, _<_}
 use lib.ListN.{getD}
 use Rattle.document.specs.Bytes.{AllBytes}
 use Rattle.document.specs.Asides.{Aside}
-use Rattle.document.specs.Asides.Aside.{tick, writes, collects, reports, prepares, starts as starting}
+use Rattle.document.specs.Asides.Aside.{tick, writes, collects, reports, prepares, starts as starting, frames}
 use Rattle.document.specs.Happenings.{Happening}
 use Rattle.document.specs.Happenings.Happening.{byte, aside}
 
@@ -32,6 +32,7 @@ BesideIsBytes collects = Unit {0}
 BesideIsBytes (reports result) = result < 256
 BesideIsBytes (prepares setup) = AllBytes setup
 BesideIsBytes starting = Unit {0}
+BesideIsBytes (frames station frame) = AllBytes frame
 
 abbrev pub IsBytes : Happening → Type 0
 IsBytes (byte b) = b < 256

@@ -1,7 +1,7 @@
 -- The recorder among what happens to a gate: what a message, a tick and a write are to it, from one accepted start to the next.
 use mathlib.Core.Path.{_≡_}
 use mathlib.Core.Bool.{Bool, false, cond, not, _&&_}
-use mathlib.Core.List.{List, [], _∷_, _++_}
+use mathlib.Core.List.{List, [], _∷_}
 use Prim.Native.Nat.{ℕ, _+_}
 use lib.Dec.{eqb}
 use lib.ListN.{drop}
@@ -14,12 +14,13 @@ use Rattle.document.specs.Refusals.{firstOf, recorderLines}
 use Rattle.document.specs.Panel.{prepareLines}
 use Rattle.document.specs.Commands.{answered}
 use Rattle.document.specs.Asides.{Aside, beside}
-use Rattle.document.specs.Asides.Aside.{tick, writes, collects, reports, prepares, starts as starting}
+use Rattle.document.specs.Asides.Aside.{tick, writes, collects, reports, prepares, starts as starting, frames}
 use Rattle.document.specs.Happenings.{Happening, Since, after}
 use Rattle.document.specs.Happenings.Happening.{byte, aside}
 use Rattle.history.specs.History.{Event}
 use Rattle.history.specs.History.Event.{tick as ticks, others, stop}
 use Rattle.outcomes.specs.Starts.{starts, stops}
+use Rattle.happenings.specs.Along.{along}
 
 -- every message but a stop leaves the recorder, and may write memory
 abbrev pub eventsOf : Gate → List Message → List Event
@@ -33,14 +34,14 @@ eventsBeside g collects = []
 eventsBeside g (reports result) = []
 eventsBeside g (prepares setup) = []
 eventsBeside g starting = []
+eventsBeside g (frames station frame) = others (beside g (frames station frame) .memory) ∷ []
 
 abbrev pub eventsAt : Since → Happening → List Event
 eventsAt s (byte b) = eventsOf (s .gate) (finishedBy (s .bytes) b)
 eventsAt s (aside a) = eventsBeside (s .gate) a
 
 abbrev pub events : Since → List Happening → List Event
-events s [] = []
-events s (h ∷ hs) = eventsAt s h ++ events (after s h) hs
+events = along eventsAt
 
 -- how many ticks there are among what happens
 abbrev pub ticksBeside : Aside → ℕ
@@ -50,6 +51,7 @@ ticksBeside collects = 0
 ticksBeside (reports result) = 0
 ticksBeside (prepares setup) = 0
 ticksBeside starting = 0
+ticksBeside (frames station frame) = 0
 
 abbrev pub ticksOf : List Happening → ℕ
 ticksOf [] = 0
@@ -78,6 +80,7 @@ NothingNew g collects = Unit {0}
 NothingNew g (reports result) = Unit {0}
 NothingNew g (prepares setup) = preparesAnew g setup ≡ false
 NothingNew g starting = startsAnew g ≡ false
+NothingNew g (frames station frame) = Unit {0}
 
 abbrev pub Unstarted : Since → Happening → Type 0
 Unstarted s (byte b) = NoStart (s .gate) (finishedBy (s .bytes) b)
@@ -87,7 +90,7 @@ abbrev pub AllUnstarted : Since → List Happening → Type 0
 AllUnstarted s [] = Unit {0}
 AllUnstarted s (h ∷ hs) = Unstarted s h × AllUnstarted (after s h) hs
 
--- "So long as nobody else writes the buffer": commands cannot, and the gate's own program does not
+-- "So long as nobody else writes the buffer": commands and frames cannot, and the gate's own program does not
 abbrev pub LeavesBuffer : Gate → Aside → Type 0
 LeavesBuffer g tick = Unit {0}
 LeavesBuffer g (writes address bytes) =
@@ -96,6 +99,7 @@ LeavesBuffer g collects = Unit {0}
 LeavesBuffer g (reports result) = Unit {0}
 LeavesBuffer g (prepares setup) = Unit {0}
 LeavesBuffer g starting = Unit {0}
+LeavesBuffer g (frames station frame) = Unit {0}
 
 abbrev pub Undisturbed : Since → Happening → Type 0
 Undisturbed s (byte b) = NoStart (s .gate) (finishedBy (s .bytes) b)

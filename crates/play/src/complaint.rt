@@ -28,6 +28,8 @@ pub const BLOCK_ROOM: u8 = 10;
 
 pub const SETUP_LENGTH: u8 = 11;
 
+pub const FRAME_LENGTH: u8 = 12;
+
 fn put_reason(wrong: u8, out: &mut [u8; 65536], at: usize) -> usize {
     match wrong {
         OPERATION => put_text(b"no operation begins so", out, at),
@@ -39,6 +41,7 @@ fn put_reason(wrong: u8, out: &mut [u8; 65536], at: usize) -> usize {
         BLOCK_ROOM => put_text(b"the room is above 2000", out, at),
         WIDE => put_text(b"a number is above 65535", out, at),
         SETUP_LENGTH => put_text(b"the panel gives more than 255 bytes", out, at),
+        FRAME_LENGTH => put_text(b"the frame has more than 600 bytes", out, at),
         MANY => put_text(b"there are more than 40 tables", out, at),
         _ => put_text(b"the line is too long", out, at),
     }

@@ -1,4 +1,4 @@
-// The orders to the gate: bytes over the wire, ticks, what its own program and its panel do, and a look at its memory.
+// The orders to the gate: bytes over the wire, ticks, frames at the second port, what its own program and its panel do, and a look at its memory.
 ghost use Prim.Native.Nat.{_≤_};
 ghost use lib.ListN.{length};
 ghost use Rattle.play.specs.Bounds.{Bounded};
@@ -9,6 +9,7 @@ use crate::panel::start;
 use crate::program::collect;
 use crate::program::register;
 use crate::program::report;
+use crate::second::frame;
 use crate::shown::FILLING;
 use crate::shown::put_block_taken;
 use adler::adler32;
@@ -123,7 +124,7 @@ fn put_part(start: usize, end: usize, memory: &[u8], out: &mut [u8; 65536], at: 
     put(b'\n', out, shown)
 }
 
-// An order that begins with B, K, T, P, C, Y, G, F, S or M; `first` is how many bytes the gate was given before. Where the output ends.
+// An order that begins with B, K, T, P, C, Y, G, F, S, U or M; `first` is how many bytes the gate was given before. Where the output ends.
 pub fn carry_out(
     order: Order,
     first: u64,
@@ -151,6 +152,7 @@ pub fn carry_out(
         b'Y' => report(order.code, state, out, at),
         b'G' => register(bytes, state, memory, out, at),
         b'F' => prepare(bytes, state, out, at),
+        b'U' => frame(order.wide, order.room, bytes, memory, out, at),
         b'S' => start(state, out, at),
         _ => put_part(order.start, order.end, memory, out, at),
     }

@@ -7,7 +7,10 @@ pub const BLOCK_LENT: usize = 2000;
 // The most bytes that a script can have the panel give.
 pub const SETUP: usize = 255;
 
-// A room, an address or a size that has no limit of its own.
+// The most bytes of a frame that a script can give to the second port.
+pub const FRAME: usize = 600;
+
+// A room, a station, an address or a size that has no limit of its own.
 pub const WIDEST: usize = 65535;
 
 // The most numbers by which a line can name tables: 40 pairs, more than can be registered.

@@ -7,6 +7,7 @@ mod order;
 mod panel;
 mod play;
 mod program;
+mod second;
 mod shown;
 mod tables;
 

@@ -2,6 +2,7 @@
 ghost use Rattle.play.specs.Bounds.{Bounded};
 use crate::complaint::BLOCK_ROOM;
 use crate::complaint::BYTE;
+use crate::complaint::FRAME_LENGTH;
 use crate::complaint::NONE;
 use crate::complaint::NUMBER;
 use crate::complaint::OPERATION;
@@ -12,6 +13,7 @@ use crate::complaint::SURPLUS;
 use crate::complaint::WIDE;
 use crate::lengths::BLOCK_LENT;
 use crate::lengths::BYTES;
+use crate::lengths::FRAME;
 use crate::lengths::LENT;
 use crate::lengths::SETUP;
 use crate::lengths::WIDEST;
@@ -39,7 +41,7 @@ pub struct Order {
     pub number: u64,
     // how many bytes the line gives, or the list of its tables has
     pub count: usize,
-    // how much of a buffer is lent; so much for a block, and where a room has no limit of its own
+    // how much of a buffer is lent; so much for a block, and where a room has no limit of its own; or which station is meant
     pub room: usize,
     pub wide: usize,
     // the part of the memory that is meant
@@ -112,6 +114,26 @@ fn with_block(order: Order, line: &[u8], from: usize, bytes: &mut [u8; BYTES]) -
     let mut lending = order;
     lending.wide = value as usize;
     with_bytes(lending, line, next, bytes)
+}
+
+// A station, a room, and a frame: `U station room hh ..`
+fn with_frame(order: Order, line: &[u8], from: usize, bytes: &mut [u8; BYTES]) -> Order
+    requires { ⌜ Bounded order ⌝ }
+    ensures { λ r. ⌜ Bounded r ⌝ }
+{
+    let NumberRead::Is { value, next } = read_number(line, from) else {
+        return refused(NUMBER);
+    };
+    if value > WIDEST as u64 {
+        return refused(WIDE);
+    }
+    let mut stationed = order;
+    stationed.wide = value as usize;
+    let framed = with_room(stationed, line, next, bytes);
+    if framed.count > FRAME {
+        return refused(FRAME_LENGTH);
+    }
+    framed
 }
 
 // `W cc room hh ..` and `V ss room hh ..`
@@ -275,6 +297,7 @@ fn with_operands(letter: u8, line: &[u8], from: usize, bytes: &mut [u8; BYTES]) 
         b'Y' => with_result(order, line, from),
         b'G' => with_tables(order, line, from, bytes),
         b'F' => with_setup(order, line, from, bytes),
+        b'U' => with_frame(order, line, from, bytes),
         b'S' => with_nothing(order, line, from),
         b'M' => with_look(order, line, from),
         _ => refused(OPERATION),

@@ -39,7 +39,7 @@ impl Play {
                 self.given = std::num::wrapping_add_u64(self.given, count);
                 self.concerned = 1;
             }
-            b'T' | b'P' | b'C' | b'Y' | b'G' | b'F' | b'S' | b'M' => self.concerned = 1,
+            b'T' | b'P' | b'C' | b'Y' | b'G' | b'F' | b'S' | b'U' | b'M' => self.concerned = 1,
             b'R' => self.read = std::num::wrapping_add_u64(self.read, count),
             _ => {}
         }
@@ -62,15 +62,8 @@ pub fn carry_out(
     let count = order.count;
     let given = &bytes[0..count];
     let at = match letter {
-        b'B' | b'K' | b'T' | b'P' | b'C' | b'Y' | b'G' | b'F' | b'S' | b'M' => gate::carry_out(
-            order,
-            play.given,
-            given,
-            state,
-            memory,
-            out,
-            play.at,
-        ),
+        b'B' | b'K' | b'T' | b'P' | b'C' | b'Y' | b'G' | b'F' | b'S' | b'U' | b'M' =>
+            gate::carry_out(order, play.given, given, state, memory, out, play.at),
         b'W' | b'V' | b'E' | b'R' => cable::carry_out(
             order,
             play.read,

@@ -4,8 +4,7 @@ use mathlib.Core.List.{List, [], _∷_, _++_}
 use Prim.Native.Nat.{ℕ, zero, suc, _+_, _*_, _^_, _<_, _≤_}
 use native.Mathlib.Nat.{pow-suc}
 use native.Mathlib.Omega.{arith}
-use lib.ListN.{length, getD, set, take, drop, replicate}
-use lib.Seq.{sets}
+use lib.ListN.{length, getD, take, replicate}
 use Rattle.document.specs.Areas.{bytesAt}
 use Rattle.document.specs.Values.{number}
 use Rattle.document.specs.Stores.{maskedBytes}
@@ -14,15 +13,12 @@ use Rattle.document.specs.Variables.{valuesOf}
 use Rattle.masks.proofs.Masks.{masked-below}
 use Rattle.memory.proofs.Widths.{bytes-bits, fewer-bytes}
 use Rattle.document.specs.Bytes.{AllBytes}
+pub use Rattle.document.proofs.Bytes.{all-append, all-set, all-sets, all-take, all-drop, all-range}
 
 pub all-at : (l : List ℕ) → AllBytes l → (i : ℕ) → getD l i 0 < 256
 all-at [] all i = omega arith
 all-at (b ∷ l) all zero = all .0
 all-at (b ∷ l) all (suc i) = all-at l (all .1) i
-
-pub all-append : (xs ys : List ℕ) → AllBytes xs → AllBytes ys → AllBytes (xs ++ ys)
-all-append [] ys px py = py
-all-append (x ∷ xs) ys px py = (px .0, all-append xs ys (px .1) py)
 
 pub all-front : (xs ys : List ℕ) → AllBytes (xs ++ ys) → AllBytes xs
 all-front [] ys p = tt
@@ -31,28 +27,6 @@ all-front (x ∷ xs) ys p = (p .0, all-front xs ys (p .1))
 pub all-behind : (xs ys : List ℕ) → AllBytes (xs ++ ys) → AllBytes ys
 all-behind [] ys p = p
 all-behind (x ∷ xs) ys p = all-behind xs ys (p .1)
-
-pub all-set : (xs : List ℕ) (i b : ℕ) → AllBytes xs → b < 256 → AllBytes (set xs i b)
-all-set [] i b p h = tt
-all-set (x ∷ xs) zero b p h = (h, p .1)
-all-set (x ∷ xs) (suc i) b p h = (p .0, all-set xs i b (p .1) h)
-
-pub all-sets : (vs xs : List ℕ) (i : ℕ) → AllBytes xs → AllBytes vs → AllBytes (sets xs i vs)
-all-sets [] xs i p q = p
-all-sets (v ∷ vs) xs i p q = all-sets vs (set xs i v) (suc i) (all-set xs i v p (q .0)) (q .1)
-
-pub all-take : (n : ℕ) (xs : List ℕ) → AllBytes xs → AllBytes (take n xs)
-all-take zero xs p = tt
-all-take (suc n) [] p = tt
-all-take (suc n) (x ∷ xs) p = (p .0, all-take n xs (p .1))
-
-pub all-drop : (n : ℕ) (xs : List ℕ) → AllBytes xs → AllBytes (drop n xs)
-all-drop zero xs p = p
-all-drop (suc n) [] p = tt
-all-drop (suc n) (x ∷ xs) p = all-drop n xs (p .1)
-
-pub all-range : (m : List ℕ) (address size : ℕ) → AllBytes m → AllBytes (bytesAt m address size)
-all-range m address size p = all-take size (drop address m) (all-drop address m p)
 
 pub all-zeros : (n : ℕ) → AllBytes (replicate n 0)
 all-zeros zero = tt

@@ -95,6 +95,7 @@ impl Maker {
             3 => self.move_trigger(),
             4 => self.application_call(),
             6 => self.panel_call(),
+            7 => self.some_frame(),
             5 => {
                 let room = self.block_room();
                 self.block_line(room, &[]);

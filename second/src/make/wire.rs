@@ -46,13 +46,14 @@ impl Maker {
             let (piece, after) = rest.split_at(count);
             self.bytes(piece);
             rest = after;
-            match self.rng.below(7) {
+            match self.rng.below(8) {
                 0 => self.ticks(1),
                 1 => self.some_ticks(),
                 2 => self.some_poke(),
                 3 => self.move_trigger(),
                 4 => self.application_call(),
                 6 => self.panel_call(),
+                7 => self.some_frame(),
                 5 if self.rng.once_in(6) => self.register_between(),
                 _ => {}
             }

@@ -1,0 +1,2 @@
+-- Words in which damage to a frame can be read.
+pub mod Flips

@@ -1,0 +1,18 @@
+-- The rows for the second port hold of the definitions.
+use mathlib.Core.Path.{_≡_, refl}
+use mathlib.Core.List.{List, _++_, map}
+use Rattle.document.specs.Permission.{mayBeWritten}
+use Rattle.document.specs.CheckSum.{shifted, shifts, stepped, checkSum}
+use Rattle.document.specs.Frames.{isSilenced}
+use Rattle.document.specs.Modbus.{exceptionTo, modbusAnswer, modbusMemory}
+use Rattle.document.specs.CallRows.{Line}
+use Rattle.document.specs.ModbusRows.{checkSumRows, silenceRows, functionRows, exceptionRows, modbusCallRows}
+use Rattle.document.proofs.Rows.{lists-eq}
+
+abbrev pub modbusRows : List Line
+unfolding checkSumRows silenceRows functionRows exceptionRows modbusCallRows
+modbusRows = checkSumRows ++ silenceRows ++ functionRows ++ exceptionRows ++ modbusCallRows
+
+pub modbus-holds : map (λ (l : Line). l .gives) modbusRows ≡ map (λ (l : Line). l .says) modbusRows
+unfolding checkSumRows silenceRows functionRows exceptionRows modbusCallRows mayBeWritten shifted shifts stepped checkSum isSilenced exceptionTo modbusAnswer modbusMemory
+modbus-holds = lists-eq (map (λ (l : Line). l .gives) modbusRows) (map (λ (l : Line). l .says) modbusRows) refl

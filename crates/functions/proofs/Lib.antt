@@ -1,0 +1,4 @@
+-- What follows from the definitions, for the proofs of this crate and of those above it.
+pub mod Told
+pub mod Masked
+pub mod Carried

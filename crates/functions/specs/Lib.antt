@@ -1,0 +1,2 @@
+-- What telling an answer promises.
+pub mod Put

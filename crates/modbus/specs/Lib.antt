@@ -1,0 +1,3 @@
+-- What the call of the second port promises, and its steps.
+pub mod Responded
+pub mod Promises
