@@ -1,6 +1,6 @@
 /*
  * The log gate's serial target, for firmware in C or C++. Link liblog_gate.a (./run library builds it); of a C library it needs
- * memcpy and memset alone. docs/PORTING.md says what else it asks of a board.
+ * memset alone. docs/PORTING.md says what else it asks of a board.
  *
  * Every call takes anything: whatever the lent bytes hold, it returns, and what it refuses it leaves as it was. Four things no
  * call can check are asked of the caller:

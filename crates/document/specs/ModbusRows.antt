@@ -9,6 +9,11 @@ use Rattle.document.specs.Areas.{bytesAt}
 use Rattle.document.specs.CheckSum.{withCheckSum, isCheckSumRight}
 use Rattle.document.specs.Modbus.{functionOf, isOther, exceptionTo, modbusAnswer, modbusMemory, modbusRefusal, modbusBuffer}
 use Rattle.document.specs.declared.Function.the-variants.{ReadRegisters, WriteRegisters}
+use Rattle.document.specs.Gate.{fresh}
+use Rattle.document.specs.Asides.Aside.{frames}
+use Rattle.document.specs.Happenings.{afterAll, fromReset}
+use Rattle.document.specs.Happenings.Happening.{byte, aside}
+use Rattle.document.specs.Blocks.{answersOnWire}
 use Rattle.document.specs.Staples.{zeros}
 use Rattle.document.specs.CallRows.{Line, line, lent, below}
 
@@ -175,4 +180,18 @@ modbusCallRows =
     -- bytes behind the answer keep their values; with silence all do
     ∷ line (modbusBuffer 0x11 (hex "11 04 0C23") four (lent 7)) (hex "11 84 01 8305 AAAA")
     ∷ line (modbusBuffer 0x11 (hex "10 04 0DB3") four (lent 7)) (hex "AAAAAAAAAAAAAA")
+    ∷ []
+
+-- ---- both ports: "Demand 3 reads the memory as both ports left it."
+
+-- what the service port says when this frame comes between the bytes of its line
+abbrev between : String → String → String → List ℕ
+between before frame behind =
+    answersOnWire (afterAll (fromReset (fresh zeros)) (map byte (hex before) ++ (aside (frames 17 (hex frame)) ∷ map byte (hex behind))) .answers)
+
+-- register 1 is written in the midst of a message that reads bytes 2 and 3, or not, with a wrong check sum
+unfoldable pub bothPortsRows : List Line
+bothPortsRows =
+    line (between "2BD102" "1106 0001 0003 9A9B" "002D") (hex "2B00 0300 FD")
+    ∷ line (between "2BD102" "1106 0001 0003 9A9C" "002D") (hex "2B00 0000 00")
     ∷ []
