@@ -13,10 +13,10 @@ use Rattle.document.specs.Asides.Aside.{tick, writes, collects, reports, prepar
 use Rattle.document.specs.Happenings.{Happening, Since, told, after}
 use Rattle.document.specs.Happenings.Happening.{byte, aside}
 use Rattle.document.specs.Blocks.{answersOnWire}
-use Rattle.happenings.proofs.Blocks.{wire-one}
-use Rattle.happenings.specs.Bytes.{IsBytes, AreBytes}
-use Rattle.happenings.specs.Applying.{sends, waitingIn, handedBeside, handedAt, handedOut}
-use Rattle.happenings.proofs.Applying.{application-after}
+use Rattle.laws_happenings.proofs.Blocks.{wire-one}
+use Rattle.laws_happenings.specs.Bytes.{IsBytes, AreBytes}
+use Rattle.laws_happenings.specs.Applying.{sends, waitingIn, handedBeside, handedAt, handedOut}
+use Rattle.laws_happenings.proofs.Applying.{application-after}
 use Rattle.demands.specs.House.{House, gateIn}
 use Rattle.demands.specs.Run.{Step, Singly}
 use Rattle.demands.specs.Stands.{Stands}

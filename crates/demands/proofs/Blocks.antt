@@ -10,15 +10,15 @@ use Rattle.document.specs.Numbers.{taken}
 use Rattle.document.specs.Bytes.{AllBytes}
 use Rattle.document.specs.Happenings.{Happening, Since, after, afterAll}
 use Rattle.document.specs.Blocks.{blockAfter}
-use Rattle.happenings.specs.Bytes.{AreBytes}
-use Rattle.happenings.proofs.Blocks.{block-came}
-use Rattle.target.specs.Walk.{Walk, begun, walked}
-use Rattle.target.proofs.Walks.{walked-keeps}
-use Rattle.blocks.specs.Layout.{decoded, encoded}
-use Rattle.checks.specs.Promises.{blockSound, byteNumber}
-use Rattle.checks.proofs.Numbers.{byte-known}
-use Rattle.block_call.specs.declared.BlockTaken.{BlockTaken}
-use Rattle.block_call.specs.Going.{walk}
+use Rattle.laws_happenings.specs.Bytes.{AreBytes}
+use Rattle.laws_happenings.proofs.Blocks.{block-came}
+use Rattle.state_byte.specs.Walk.{Walk, begun, walked}
+use Rattle.state_byte.proofs.Walks.{walked-keeps}
+use Rattle.state_block.specs.Layout.{decoded, encoded}
+use Rattle.call_checks.specs.Promises.{blockSound, byteNumber}
+use Rattle.call_checks.proofs.Numbers.{byte-known}
+use Rattle.call_block.specs.declared.BlockTaken.{BlockTaken}
+use Rattle.call_block.specs.Going.{walk}
 use Rattle.demands.specs.House.{House}
 use Rattle.demands.specs.Lent.{lends, handedBack}
 use Rattle.demands.specs.Run.{ByBlock, Singly, came, Run}

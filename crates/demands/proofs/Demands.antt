@@ -4,9 +4,9 @@
 -- `log_gate_block` is, the gate ticks and `log_gate_tick` is called, the gate's own program writes its memory, or it calls
 -- `log_gate_collect` and `log_gate_report`, the front panel `log_gate_prepare` and `log_gate_start`, and a frame comes over the second
 -- port and `log_gate_modbus` is called; and refused calls anywhere among them. Of a call only its promise is known
--- (`byte_call.Promises.ByteTaken`, `block_call.Promises.BlockDone`, `tick_call.Promises.TickTaken`,
--- `application_calls.Promises.CollectDone` and `ReportDone`, `panel_calls.Promises.PrepareDone` and `StartDone`,
--- `modbus.Promises.ModbusDone`), and that promise is the contract that the prover holds the compiled function to. What the calls are
+-- (`call_byte.Promises.ByteTaken`, `call_block.Promises.BlockDone`, `call_tick.Promises.TickTaken`,
+-- `call_application.Promises.CollectDone` and `ReportDone`, `call_panel.Promises.PrepareDone` and `StartDone`,
+-- `call_modbus.Promises.ModbusDone`), and that promise is the contract that the prover holds the compiled function to. What the calls are
 -- compared with is document 01 and the requests as definitions (`document`), never a program.
 use mathlib.Core.Path.{_≡_, refl, sym, ap, subst, _∙_}
 use mathlib.Core.Bool.{true, false}
@@ -36,39 +36,39 @@ use Rattle.document.specs.Modbus.{modbusRoom}
 use Rattle.document.specs.Asides.Aside.{tick, collects, reports, prepares, starts as starting, frames}
 use Rattle.document.specs.Happenings.{Happening, Since, after as happened, afterAll, fromReset as since}
 use Rattle.document.specs.Happenings.Happening.{byte, aside}
-use Rattle.history.specs.History.{memoriesLeft, TriggersNext, Unstopped}
-use Rattle.line.specs.declared.Written.{Written}
-use Rattle.line.specs.AnswerWritten.{AnswerWritten}
-use Rattle.link.specs.Report.{Beside, sinceReset}
-use Rattle.link.specs.Runs.{oddRun}
-use Rattle.link.proofs.Idle.{Idle, finished-idle}
-use Rattle.commands.specs.CommandWritten.{CommandWritten}
-use Rattle.outcomes.specs.Starts.{starts, Begins}
-use Rattle.outcomes.proofs.Recording.{start-begins}
-use Rattle.happenings.specs.Bytes.{bytesOf, besideBytes, AreBytes}
-use Rattle.happenings.specs.Recording.{events, ticksOf, preparesAnew, startsAnew, AllUnstarted, AllUndisturbed}
-use Rattle.happenings.proofs.Resync.{told-bytes, bytes-after, resync-even, resync-next}
-use Rattle.state.specs.Within.{MemoryWithin}
-use Rattle.blocks.specs.Places.{stateLength}
-use Rattle.blocks.specs.Layout.{decoded}
-use Rattle.checks.specs.Promises.{ResetDone, Checked}
-use Rattle.happenings.specs.Applying.{sends, sentOf, waitingIn, unrefusedSoFar, AllUnreported}
-use Rattle.happenings.specs.Ports.{modbusOf, withoutFrames, found, withoutService, shared, calibrationIn}
-use Rattle.happenings.proofs.Blocks.{block-stops}
-use Rattle.happenings.proofs.Tables.{tables-kept}
-use Rattle.happenings.proofs.Applying.{while-pending, between, handed-out-from-reset}
-use Rattle.tick_call.specs.Promises.{TickTaken}
-use Rattle.application_calls.specs.Promises.{CollectDone, ReportDone}
-use Rattle.registering.specs.Promises.{RegisterDone}
-use Rattle.panel_calls.specs.declared.Said.{Said}
-use Rattle.panel_calls.specs.Promises.{PrepareDone, StartDone}
-use Rattle.byte_call.specs.declared.Taken.{Taken}
-use Rattle.byte_call.specs.Promises.{ByteTaken}
-use Rattle.block_call.specs.declared.BlockTaken.{BlockTaken}
-use Rattle.block_call.specs.Promises.{BlockDone}
-use Rattle.modbus.specs.Promises.{ModbusDone}
-use Rattle.reader.specs.declared.calls.ReadByte.{ReadByte}
-use Rattle.reader.specs.Promises.{BeginDone, ReadDone}
+use Rattle.recorder_history.specs.History.{memoriesLeft, TriggersNext, Unstopped}
+use Rattle.line_wire.specs.declared.Written.{Written}
+use Rattle.line_wire.specs.AnswerWritten.{AnswerWritten}
+use Rattle.line_receiver.specs.Report.{Beside, sinceReset}
+use Rattle.line_receiver.specs.Runs.{oddRun}
+use Rattle.line_receiver.proofs.Idle.{Idle, finished-idle}
+use Rattle.line_commands.specs.CommandWritten.{CommandWritten}
+use Rattle.document_outcomes.specs.Starts.{starts, Begins}
+use Rattle.document_outcomes.proofs.Recording.{start-begins}
+use Rattle.laws_happenings.specs.Bytes.{bytesOf, besideBytes, AreBytes}
+use Rattle.laws_happenings.specs.Recording.{events, ticksOf, preparesAnew, startsAnew, AllUnstarted, AllUndisturbed}
+use Rattle.laws_happenings.proofs.Resync.{told-bytes, bytes-after, resync-even, resync-next}
+use Rattle.state_parts.specs.Within.{MemoryWithin}
+use Rattle.state_block.specs.Places.{stateLength}
+use Rattle.state_block.specs.Layout.{decoded}
+use Rattle.call_checks.specs.Promises.{ResetDone, Checked}
+use Rattle.laws_happenings.specs.Applying.{sends, sentOf, waitingIn, unrefusedSoFar, AllUnreported}
+use Rattle.laws_happenings.specs.Ports.{modbusOf, withoutFrames, found, withoutService, shared, calibrationIn}
+use Rattle.laws_happenings.proofs.Blocks.{block-stops}
+use Rattle.laws_happenings.proofs.Tables.{tables-kept}
+use Rattle.laws_happenings.proofs.Applying.{while-pending, between, handed-out-from-reset}
+use Rattle.call_tick.specs.Promises.{TickTaken}
+use Rattle.call_application.specs.Promises.{CollectDone, ReportDone}
+use Rattle.call_register.specs.Promises.{RegisterDone}
+use Rattle.call_panel.specs.declared.Said.{Said}
+use Rattle.call_panel.specs.Promises.{PrepareDone, StartDone}
+use Rattle.call_byte.specs.declared.Taken.{Taken}
+use Rattle.call_byte.specs.Promises.{ByteTaken}
+use Rattle.call_block.specs.declared.BlockTaken.{BlockTaken}
+use Rattle.call_block.specs.Promises.{BlockDone}
+use Rattle.call_modbus.specs.Promises.{ModbusDone}
+use Rattle.call_reader.specs.declared.calls.ReadByte.{ReadByte}
+use Rattle.call_reader.specs.Promises.{BeginDone, ReadDone}
 use Rattle.demands.specs.House.{House, gateIn}
 use Rattle.demands.specs.Lent.{lends}
 use Rattle.demands.specs.Run.{ByByte, ByBlock, Reset, Step, Refused, Singly, came, Run, Ready}

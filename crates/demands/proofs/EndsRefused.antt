@@ -12,14 +12,14 @@ use Rattle.document.specs.AnswerWriter.{answerRefusal, answerWritten, answerBuf
 use Rattle.document.specs.CommandWriter.{commandOnWire, commandRefusal, commandWritten, commandBuffer}
 use Rattle.document.specs.AnswerReader.{Brought, readBuffer}
 use Rattle.document.specs.AnswerReader.Brought.{wrong}
-use Rattle.line.specs.declared.Written.{Written}
-use Rattle.line.specs.AnswerWritten.{AnswerWritten}
-use Rattle.commands.specs.CommandWritten.{CommandWritten}
-use Rattle.host.specs.Reader.{Step, fresh, stepped}
-use Rattle.host.proofs.Idle.{wrong-idle}
-use Rattle.reader.specs.declared.calls.ReadByte.{ReadByte}
-use Rattle.reader.specs.Layout.{decodedReader, encodedReader}
-use Rattle.reader.specs.Promises.{beginNumber, BeginDone, readNumber, without, readOf, ReadDone}
+use Rattle.line_wire.specs.declared.Written.{Written}
+use Rattle.line_wire.specs.AnswerWritten.{AnswerWritten}
+use Rattle.line_commands.specs.CommandWritten.{CommandWritten}
+use Rattle.line_reader.specs.Reader.{Step, fresh, stepped}
+use Rattle.line_reader.proofs.Idle.{wrong-idle}
+use Rattle.call_reader.specs.declared.calls.ReadByte.{ReadByte}
+use Rattle.call_reader.specs.Layout.{decodedReader, encodedReader}
+use Rattle.call_reader.specs.Promises.{beginNumber, BeginDone, readNumber, without, readOf, ReadDone}
 use Rattle.demands.specs.Refused.{WriteRefused, BeginRefused, ReadRefused}
 use Rattle.demands.proofs.Goes.{goes, stays}
 

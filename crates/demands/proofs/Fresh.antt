@@ -10,11 +10,11 @@ use Rattle.document.specs.Commands.{answered}
 use Rattle.document.specs.Happenings.{Happening, Since, after, afterAll}
 use Rattle.document.specs.Happenings.Happening.{byte}
 use Rattle.document.specs.Blocks.{answersOnWire}
-use Rattle.happenings.proofs.Blocks.{wire-one}
-use Rattle.link.specs.Runs.{oddRun}
-use Rattle.happenings.specs.Bytes.{Bytes, bytesOf, besideBytes}
-use Rattle.happenings.specs.Resync.{Resynchronised, ByHalf}
-use Rattle.happenings.proofs.Resync.{resync-even, resync-next, nothing-by-half}
+use Rattle.laws_happenings.proofs.Blocks.{wire-one}
+use Rattle.line_receiver.specs.Runs.{oddRun}
+use Rattle.laws_happenings.specs.Bytes.{Bytes, bytesOf, besideBytes}
+use Rattle.laws_happenings.specs.Resync.{Resynchronised, ByHalf}
+use Rattle.laws_happenings.proofs.Resync.{resync-even, resync-next, nothing-by-half}
 use Rattle.demands.specs.House.{House}
 use Rattle.demands.specs.Stands.{Stands}
 use Rattle.demands.specs.Fresh.{AnsweredFresh, NothingByHalf}

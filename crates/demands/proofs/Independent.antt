@@ -8,12 +8,12 @@ use Rattle.document.specs.Tables.{Table}
 use Rattle.document.specs.Gate.{Gate, registered as gate}
 use Rattle.document.specs.Happenings.{Happening, afterAll, fromReset as since}
 use Rattle.document.specs.Blocks.{answersOnWire}
-use Rattle.link.specs.Report.{sinceReset}
-use Rattle.happenings.specs.Applying.{handedOut}
-use Rattle.happenings.specs.Ports.{modbusOf, withoutFrames, found, SameBeyond, withoutService, shared, calibrationIn}
-use Rattle.happenings.specs.Ports as definition
-use Rattle.happenings.proofs.ServicePort.{service-same, commands-same}
-use Rattle.happenings.proofs.ModbusPort.{modbus-same}
+use Rattle.line_receiver.specs.Report.{sinceReset}
+use Rattle.laws_happenings.specs.Applying.{handedOut}
+use Rattle.laws_happenings.specs.Ports.{modbusOf, withoutFrames, found, SameBeyond, withoutService, shared, calibrationIn}
+use Rattle.laws_happenings.specs.Ports as definition
+use Rattle.laws_happenings.proofs.ServicePort.{service-same, commands-same}
+use Rattle.laws_happenings.proofs.ModbusPort.{modbus-same}
 use Rattle.demands.specs.House.{House, gateIn}
 use Rattle.demands.specs.Stands.{blank, Stands}
 use Rattle.demands.specs.Ports.{SinceReset, SameService}

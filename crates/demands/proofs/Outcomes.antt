@@ -3,22 +3,22 @@ use mathlib.Core.Path.{_≡_, sym, _∙_}
 use mathlib.Core.List.{List, []}
 use Prim.Native.Nat.{ℕ}
 use Rattle.document.specs.Answer.{Answer}
-use Rattle.line.specs.declared.Written.{Written}
-use Rattle.line.specs.AnswerWritten.{AnswerWritten}
-use Rattle.commands.specs.CommandWritten.{CommandWritten}
-use Rattle.checks.specs.Promises.{ResetDone, Checked}
-use Rattle.tick_call.specs.Promises.{TickTaken}
-use Rattle.application_calls.specs.Promises.{CollectDone, ReportDone}
-use Rattle.registering.specs.Promises.{RegisterDone}
-use Rattle.panel_calls.specs.declared.Said.{Said}
-use Rattle.panel_calls.specs.Promises.{PrepareDone, StartDone}
-use Rattle.byte_call.specs.declared.Taken.{Taken}
-use Rattle.byte_call.specs.Promises.{ByteTaken}
-use Rattle.block_call.specs.declared.BlockTaken.{BlockTaken}
-use Rattle.block_call.specs.Promises.{BlockDone}
-use Rattle.modbus.specs.Promises.{ModbusDone}
-use Rattle.reader.specs.declared.calls.ReadByte.{ReadByte}
-use Rattle.reader.specs.Promises.{BeginDone, ReadDone}
+use Rattle.line_wire.specs.declared.Written.{Written}
+use Rattle.line_wire.specs.AnswerWritten.{AnswerWritten}
+use Rattle.line_commands.specs.CommandWritten.{CommandWritten}
+use Rattle.call_checks.specs.Promises.{ResetDone, Checked}
+use Rattle.call_tick.specs.Promises.{TickTaken}
+use Rattle.call_application.specs.Promises.{CollectDone, ReportDone}
+use Rattle.call_register.specs.Promises.{RegisterDone}
+use Rattle.call_panel.specs.declared.Said.{Said}
+use Rattle.call_panel.specs.Promises.{PrepareDone, StartDone}
+use Rattle.call_byte.specs.declared.Taken.{Taken}
+use Rattle.call_byte.specs.Promises.{ByteTaken}
+use Rattle.call_block.specs.declared.BlockTaken.{BlockTaken}
+use Rattle.call_block.specs.Promises.{BlockDone}
+use Rattle.call_modbus.specs.Promises.{ModbusDone}
+use Rattle.call_reader.specs.declared.calls.ReadByte.{ReadByte}
+use Rattle.call_reader.specs.Promises.{BeginDone, ReadDone}
 
 module _ (block : List ℕ) (r s : ℕ) (x y : List ℕ) where
   pub reset-one-outcome : ResetDone block r x → ResetDone block s y → (r ≡ s) × (x ≡ y)

@@ -15,13 +15,13 @@ use Rattle.document.specs.Asides.Aside.{tick, writes, collects, reports, prepar
 use Rattle.document.specs.Happenings.{Happening, Since}
 use Rattle.document.specs.Happenings.Happening.{byte, aside}
 use Rattle.document.proofs.Cases.{split}
-use Rattle.line.specs.declared.Written.{Written}
-use Rattle.line.proofs.Left.{sets-behind}
-use Rattle.modbus.specs.Promises.{ModbusDone}
-use Rattle.modbus.proofs.Answers.{lent-right}
-use Rattle.happenings.specs.Bytes.{IsBytes, AreBytes}
-use Rattle.happenings.specs.Applying.{ifAny}
-use Rattle.happenings.specs.Ports.{answeredBeside, modbusAt, modbusOf}
+use Rattle.line_wire.specs.declared.Written.{Written}
+use Rattle.line_wire.proofs.Left.{sets-behind}
+use Rattle.call_modbus.specs.Promises.{ModbusDone}
+use Rattle.call_modbus.proofs.Answers.{lent-right}
+use Rattle.laws_happenings.specs.Bytes.{IsBytes, AreBytes}
+use Rattle.laws_happenings.specs.Applying.{ifAny}
+use Rattle.laws_happenings.specs.Ports.{answeredBeside, modbusAt, modbusOf}
 use Rattle.demands.specs.House.{House}
 use Rattle.demands.specs.Run.{Step, Singly}
 use Rattle.demands.specs.Sent.{Sent}

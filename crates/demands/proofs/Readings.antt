@@ -12,13 +12,13 @@ use Rattle.document.specs.Numbers.{mostData, taken, stateRefused, roomRefused, 
 use Rattle.document.specs.AnswerReader.{Brought, brought, readRoomRefusal, readBuffer}
 use Rattle.document.specs.AnswerReader.Brought.{wrong}
 use Rattle.document.proofs.Cases.{split}
-use Rattle.host.specs.Reader.{AnswerReader, Step, idle, sound, fresh, stepped, readerAfter}
-use Rattle.host.proofs.Reading.{reader-brings, reader-within}
-use Rattle.host.proofs.Idle.{wrong-idle, after-size}
-use Rattle.reader.specs.declared.calls.ReadByte.{ReadByte}
-use Rattle.reader.specs.Layout.{readerLength, decodedReader, encodedReader}
-use Rattle.reader.specs.Promises.{beginNumber, BeginDone, readNumber, without, readOf, ReadDone}
-use Rattle.reader.proofs.Back.{stored-reader}
+use Rattle.line_reader.specs.Reader.{AnswerReader, Step, idle, sound, fresh, stepped, readerAfter}
+use Rattle.line_reader.proofs.Reading.{reader-brings, reader-within}
+use Rattle.line_reader.proofs.Idle.{wrong-idle, after-size}
+use Rattle.call_reader.specs.declared.calls.ReadByte.{ReadByte}
+use Rattle.call_reader.specs.Layout.{readerLength, decodedReader, encodedReader}
+use Rattle.call_reader.specs.Promises.{beginNumber, BeginDone, readNumber, without, readOf, ReadDone}
+use Rattle.call_reader.proofs.Back.{stored-reader}
 use Rattle.demands.specs.Readings.{ByRead, Readings, Reads}
 use Rattle.demands.specs.Readings.Readings.{ends, reads, refuses}
 use Rattle.demands.proofs.Goes.{goes, stays}

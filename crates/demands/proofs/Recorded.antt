@@ -11,10 +11,10 @@ use Rattle.document.specs.Recorder.Recorder.{planned}
 use Rattle.document.specs.Sets.{setsTaken, readRound}
 use Rattle.document.specs.Gate.{Gate}
 use Rattle.document.specs.Happenings.{Happening, Since, afterAll}
-use Rattle.history.specs.History.{PlanFits, begun, after, memoriesLeft}
-use Rattle.history.proofs.History.{history, next-place}
-use Rattle.happenings.specs.Recording.{events, AllUndisturbed}
-use Rattle.happenings.proofs.Follows.{Followed, followed-all, unstarted}
+use Rattle.recorder_history.specs.History.{PlanFits, begun, after, memoriesLeft}
+use Rattle.recorder_history.proofs.History.{history, next-place}
+use Rattle.laws_happenings.specs.Recording.{events, AllUndisturbed}
+use Rattle.laws_happenings.proofs.Follows.{Followed, followed-all, unstarted}
 use Rattle.demands.specs.House.{House, gateIn}
 use Rattle.demands.specs.Stands.{Stands}
 use Rattle.demands.specs.Recorded.{Recorded}

@@ -19,17 +19,17 @@ use Rattle.document.specs.Asides.{beside}
 use Rattle.document.specs.Asides.Aside.{tick, prepares, starts as starting}
 use Rattle.document.specs.Happenings.{Happening, Since, told, after, afterAll}
 use Rattle.document.specs.Happenings.Happening.{byte, aside}
-use Rattle.history.specs.History as history
-use Rattle.history.specs.History.{PlanFits, Recording, begun, takesNext, beyondIn, NoneBeyond, TriggersNext, Unstopped}
-use Rattle.history.proofs.Ticks.{tick-before, tick-behind}
-use Rattle.history.proofs.Stop.{stops}
-use Rattle.history.proofs.Beyond.{trigger-at-first, first-triggers}
-use Rattle.outcomes.specs.Starts.{starts}
-use Rattle.outcomes.proofs.Recording.{start-begins}
-use Rattle.happenings.specs.Recording.{events, ticksOf, preparesAnew, startsAnew, AllUnstarted}
-use Rattle.happenings.proofs.Panel.{prepare-anew, start-anew}
-use Rattle.happenings.proofs.Ticks.{ticks-counted}
-use Rattle.happenings.proofs.Follows.{followed-all}
+use Rattle.recorder_history.specs.History as history
+use Rattle.recorder_history.specs.History.{PlanFits, Recording, begun, takesNext, beyondIn, NoneBeyond, TriggersNext, Unstopped}
+use Rattle.recorder_history.proofs.Ticks.{tick-before, tick-behind}
+use Rattle.recorder_history.proofs.Stop.{stops}
+use Rattle.recorder_history.proofs.Beyond.{trigger-at-first, first-triggers}
+use Rattle.document_outcomes.specs.Starts.{starts}
+use Rattle.document_outcomes.proofs.Recording.{start-begins}
+use Rattle.laws_happenings.specs.Recording.{events, ticksOf, preparesAnew, startsAnew, AllUnstarted}
+use Rattle.laws_happenings.proofs.Panel.{prepare-anew, start-anew}
+use Rattle.laws_happenings.proofs.Ticks.{ticks-counted}
+use Rattle.laws_happenings.proofs.Follows.{followed-all}
 use Rattle.demands.specs.House.{House, gateIn}
 use Rattle.demands.specs.Stands.{Stands}
 use Rattle.demands.specs.Recorder.{Begun, Goes, FiresAtFirst, OnlyItsPlace}

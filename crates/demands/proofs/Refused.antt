@@ -11,35 +11,35 @@ use Rattle.document.specs.Numbers.{taken, stateRefused, done, sumWrong}
 use Rattle.document.specs.Message.{Message, sumRight}
 use Rattle.document.specs.Recorder.{tickedMemory}
 use Rattle.document.specs.Application.{Application, newCommand, collectBuffer}
-use Rattle.line.specs.declared.Written.{Written}
-use Rattle.application.specs.State.{applicationOf}
+use Rattle.line_wire.specs.declared.Written.{Written}
+use Rattle.application_state.specs.State.{applicationOf}
 use Rattle.document.specs.Gate.{Gate, says}
 use Rattle.document.specs.Refusals.{refusal}
 use Rattle.document.specs.Commands.{answered}
 use Rattle.document.specs.Panel.{panelPrepares, panelStarts}
 use Rattle.document.specs.Modbus.{modbusAnswer, modbusMemory, modbusRefusal, modbusBuffer}
 use Rattle.document.proofs.Cases.{split}
-use Rattle.outcomes.proofs.Answered.{accepted-right}
-use Rattle.recorder.specs.State.{recorderOf}
-use Rattle.tables.specs.State.{registeredList}
-use Rattle.state.specs.State.{Target, gateOf}
-use Rattle.state.specs.Bounds.{freshWith, fresh}
-use Rattle.blocks.specs.Places.{stateLength}
-use Rattle.blocks.specs.Layout.{decodedApplication, decoded, encoded}
-use Rattle.checks.specs.Promises.{ResetDone, Checked, byteNumber, tickNumber, collectNumber, reportNumber, panelNumber}
-use Rattle.target.specs.Turn.{Turn, turn}
-use Rattle.target.specs.Walk.{Walk}
-use Rattle.tick_call.specs.Promises.{tickedTarget, TickTaken}
-use Rattle.application_calls.specs.Promises.{collectedTarget, reportedTarget, CollectDone, ReportDone}
-use Rattle.registering.specs.Promises.{registerNumber, RegisterDone}
-use Rattle.panel_calls.specs.declared.Said.{Said}
-use Rattle.panel_calls.specs.Promises.{preparedTarget, startedTarget, PrepareDone, StartDone}
-use Rattle.byte_call.specs.declared.Taken.{Taken}
-use Rattle.byte_call.specs.Promises.{ByteTaken}
-use Rattle.block_call.specs.declared.BlockTaken.{BlockTaken}
-use Rattle.block_call.specs.Going.{walk}
-use Rattle.block_call.specs.Promises.{BlockDone}
-use Rattle.modbus.specs.Promises.{ModbusDone}
+use Rattle.document_outcomes.proofs.Answered.{accepted-right}
+use Rattle.recorder_state.specs.State.{recorderOf}
+use Rattle.tables_state.specs.State.{registeredList}
+use Rattle.state_parts.specs.State.{Target, gateOf}
+use Rattle.state_parts.specs.Bounds.{freshWith, fresh}
+use Rattle.state_block.specs.Places.{stateLength}
+use Rattle.state_block.specs.Layout.{decodedApplication, decoded, encoded}
+use Rattle.call_checks.specs.Promises.{ResetDone, Checked, byteNumber, tickNumber, collectNumber, reportNumber, panelNumber}
+use Rattle.state_byte.specs.Turn.{Turn, turn}
+use Rattle.state_byte.specs.Walk.{Walk}
+use Rattle.call_tick.specs.Promises.{tickedTarget, TickTaken}
+use Rattle.call_application.specs.Promises.{collectedTarget, reportedTarget, CollectDone, ReportDone}
+use Rattle.call_register.specs.Promises.{registerNumber, RegisterDone}
+use Rattle.call_panel.specs.declared.Said.{Said}
+use Rattle.call_panel.specs.Promises.{preparedTarget, startedTarget, PrepareDone, StartDone}
+use Rattle.call_byte.specs.declared.Taken.{Taken}
+use Rattle.call_byte.specs.Promises.{ByteTaken}
+use Rattle.call_block.specs.declared.BlockTaken.{BlockTaken}
+use Rattle.call_block.specs.Going.{walk}
+use Rattle.call_block.specs.Promises.{BlockDone}
+use Rattle.call_modbus.specs.Promises.{ModbusDone}
 use Rattle.demands.specs.Refused.{ResetRefused, CheckRefused, ByteRefused, BlockRefused, TickRefused, CollectRefused, ReportRefused, PanelRefused, ModbusRefused, RegisterRefused, WireRefused}
 use Rattle.demands.proofs.Goes.{stays}
 

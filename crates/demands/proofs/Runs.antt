@@ -27,41 +27,41 @@ use Rattle.document.specs.Happenings.{Happening, Since, told, after, afterAll, 
 use Rattle.document.specs.Happenings.Happening.{byte, aside}
 use Rattle.document.specs.Blocks.{answersOnWire}
 use Rattle.document.proofs.Cases.{split, neither}
-use Rattle.history.specs.History.{PlanFits}
-use Rattle.link.specs.Report.{sinceReset}
-use Rattle.scope.specs.State.{scopeOf}
-use Rattle.plans.proofs.Granted.{sound-fits}
-use Rattle.recorder.specs.declared.state.Recorder.{Recorder as RecorderState}
-use Rattle.recorder.specs.State.{recorderOf}
-use Rattle.recorder.specs.Calls.{startedState}
-use Rattle.recorder.proofs.Keeps.{sound-parts}
-use Rattle.application.specs.State.{Command, applicationOf, collectedCommand, endedCommand}
-use Rattle.application.proofs.Means.{collected-means, ended-means}
-use Rattle.ticks.proofs.Ticked.{ticked-means}
-use Rattle.state.specs.State.{Target, gateOf}
-use Rattle.tables.specs.State.{Registered, noTables, tablesOf, registeredList}
-use Rattle.state.specs.Bounds.{freshWith}
-use Rattle.state.specs.Widths.{TargetFits}
-use Rattle.state.specs.Within.{RecorderWithin, CommandWithin, TablesWithin, MemoryWithin, Within}
-use Rattle.state.proofs.ByteLaws.{all-at, all-append}
-use Rattle.state.proofs.Keeps.{recorder-started, recorder-ticked, command-collected, command-ended, memory-stored, memory-ticked, within-fits, within-registered, no-tables}
-use Rattle.blocks.specs.Places.{stateLength}
-use Rattle.blocks.specs.Layout.{decoded, encoded}
-use Rattle.blocks.proofs.Back.{stored-decoded}
-use Rattle.registering.specs.Promises.{registerNumber}
-use Rattle.registering.proofs.Registered.{taken-good, registered-tables, registered-within}
-use Rattle.target.specs.Turn.{Turn, turn}
-use Rattle.target.proofs.Keeps.{byte-keeps}
-use Rattle.byte_call.proofs.Stores.{target-over}
-use Rattle.tick_call.specs.Promises.{tickedTarget}
-use Rattle.application_calls.specs.Promises.{withCommand}
-use Rattle.panel_calls.specs.Promises.{givenNext, recorderChanged}
-use Rattle.panel_calls.proofs.Kept.{prepare-means, start-means, given-within}
-use Rattle.second_port.proofs.Kept.{frame-keeps-rest, frame-keeps-length, frame-keeps-bytes}
-use Rattle.happenings.specs.Bytes.{Bytes, bytesOf, BesideIsBytes, IsBytes, AreBytes}
-use Rattle.happenings.specs.Along.{along}
-use Rattle.happenings.proofs.Resync.{told-bytes}
-use Rattle.happenings.proofs.Blocks.{wire-append, answersTo, told-answers}
+use Rattle.recorder_history.specs.History.{PlanFits}
+use Rattle.line_receiver.specs.Report.{sinceReset}
+use Rattle.scope_state.specs.State.{scopeOf}
+use Rattle.recorder_plans.proofs.Granted.{sound-fits}
+use Rattle.recorder_state.specs.declared.state.Recorder.{Recorder as RecorderState}
+use Rattle.recorder_state.specs.State.{recorderOf}
+use Rattle.recorder_state.specs.Calls.{startedState}
+use Rattle.recorder_state.proofs.Keeps.{sound-parts}
+use Rattle.application_state.specs.State.{Command, applicationOf, collectedCommand, endedCommand}
+use Rattle.application_state.proofs.Means.{collected-means, ended-means}
+use Rattle.recorder_taking.proofs.Ticked.{ticked-means}
+use Rattle.state_parts.specs.State.{Target, gateOf}
+use Rattle.tables_state.specs.State.{Registered, noTables, tablesOf, registeredList}
+use Rattle.state_parts.specs.Bounds.{freshWith}
+use Rattle.state_parts.specs.Widths.{TargetFits}
+use Rattle.state_parts.specs.Within.{RecorderWithin, CommandWithin, TablesWithin, MemoryWithin, Within}
+use Rattle.state_parts.proofs.ByteLaws.{all-at, all-append}
+use Rattle.state_parts.proofs.Keeps.{recorder-started, recorder-ticked, command-collected, command-ended, memory-stored, memory-ticked, within-fits, within-registered, no-tables}
+use Rattle.state_block.specs.Places.{stateLength}
+use Rattle.state_block.specs.Layout.{decoded, encoded}
+use Rattle.state_block.proofs.Back.{stored-decoded}
+use Rattle.call_register.specs.Promises.{registerNumber}
+use Rattle.call_register.proofs.Registered.{taken-good, registered-tables, registered-within}
+use Rattle.state_byte.specs.Turn.{Turn, turn}
+use Rattle.state_byte.proofs.Keeps.{byte-keeps}
+use Rattle.call_byte.proofs.Stores.{target-over}
+use Rattle.call_tick.specs.Promises.{tickedTarget}
+use Rattle.call_application.specs.Promises.{withCommand}
+use Rattle.call_panel.specs.Promises.{givenNext, recorderChanged}
+use Rattle.call_panel.proofs.Kept.{prepare-means, start-means, given-within}
+use Rattle.laws_modbus.proofs.Kept.{frame-keeps-rest, frame-keeps-length, frame-keeps-bytes}
+use Rattle.laws_happenings.specs.Bytes.{Bytes, bytesOf, BesideIsBytes, IsBytes, AreBytes}
+use Rattle.laws_happenings.specs.Along.{along}
+use Rattle.laws_happenings.proofs.Resync.{told-bytes}
+use Rattle.laws_happenings.proofs.Blocks.{wire-append, answersTo, told-answers}
 use Rattle.demands.specs.House.{House, gateIn}
 use Rattle.demands.specs.Run.{Reset, Beside, Step, Singly}
 use Rattle.demands.specs.Run.Reset.{by-reset, by-registering}

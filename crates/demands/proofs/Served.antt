@@ -19,33 +19,33 @@ use Rattle.document.specs.Panel.{panelPrepares, panelStarts}
 use Rattle.document.specs.Frames.{isSilenced}
 use Rattle.document.specs.Modbus.{functionIn, exceptionTo, answerTo, modbusAnswer, modbusMemory, modbusRoom, modbusRefusal, modbusBuffer}
 use Rattle.document.proofs.Cases.{split}
-use Rattle.line.proofs.Left.{sets-front}
-use Rattle.recorder.specs.declared.state.Recorder.{Recorder as RecorderState}
-use Rattle.recorder.specs.State.{recorderOf}
-use Rattle.recorder.specs.Calls.{startedState}
-use Rattle.application.specs.State.{applicationOf}
-use Rattle.application.proofs.Means.{new-few}
-use Rattle.happenings.specs.Applying.{ifAny, waitingIn}
-use Rattle.state.specs.State.{Target, gateOf}
-use Rattle.state.specs.Within.{Within}
-use Rattle.state.proofs.Keeps.{within-sound, memory-ticked}
-use Rattle.blocks.specs.Places.{stateLength}
-use Rattle.blocks.specs.Layout.{decodedApplication, decoded, encoded}
-use Rattle.checks.specs.Promises.{blockSound, byteNumber, tickNumber, collectNumber, reportNumber, panelNumber}
-use Rattle.checks.proofs.Numbers.{tick-known, byte-known}
-use Rattle.checks.proofs.ApplicationNumbers.{collect-known, report-known}
-use Rattle.checks.proofs.Settled.{long-decides}
-use Rattle.target.specs.Turn.{Turn, turn}
-use Rattle.target.proofs.Keeps.{byte-keeps}
-use Rattle.tick_call.specs.Promises.{tickedTarget}
-use Rattle.application_calls.specs.Promises.{collectedTarget, reportedTarget}
-use Rattle.modbus.proofs.Sealed.{sealed-length}
-use Rattle.modbus.proofs.Responses.{answer-short}
-use Rattle.modbus.proofs.Answers.{lent-right}
-use Rattle.second_port.proofs.Kept.{frame-keeps-length}
-use Rattle.panel_calls.specs.declared.Said.{Said}
-use Rattle.panel_calls.specs.Promises.{givenNext, recorderChanged, preparedTarget, startedTarget}
-use Rattle.byte_call.specs.declared.Taken.{Taken}
+use Rattle.line_wire.proofs.Left.{sets-front}
+use Rattle.recorder_state.specs.declared.state.Recorder.{Recorder as RecorderState}
+use Rattle.recorder_state.specs.State.{recorderOf}
+use Rattle.recorder_state.specs.Calls.{startedState}
+use Rattle.application_state.specs.State.{applicationOf}
+use Rattle.application_state.proofs.Means.{new-few}
+use Rattle.laws_happenings.specs.Applying.{ifAny, waitingIn}
+use Rattle.state_parts.specs.State.{Target, gateOf}
+use Rattle.state_parts.specs.Within.{Within}
+use Rattle.state_parts.proofs.Keeps.{within-sound, memory-ticked}
+use Rattle.state_block.specs.Places.{stateLength}
+use Rattle.state_block.specs.Layout.{decodedApplication, decoded, encoded}
+use Rattle.call_checks.specs.Promises.{blockSound, byteNumber, tickNumber, collectNumber, reportNumber, panelNumber}
+use Rattle.call_checks.proofs.Numbers.{tick-known, byte-known}
+use Rattle.call_checks.proofs.ApplicationNumbers.{collect-known, report-known}
+use Rattle.call_checks.proofs.Settled.{long-decides}
+use Rattle.state_byte.specs.Turn.{Turn, turn}
+use Rattle.state_byte.proofs.Keeps.{byte-keeps}
+use Rattle.call_tick.specs.Promises.{tickedTarget}
+use Rattle.call_application.specs.Promises.{collectedTarget, reportedTarget}
+use Rattle.call_modbus.proofs.Sealed.{sealed-length}
+use Rattle.call_modbus.proofs.Responses.{answer-short}
+use Rattle.call_modbus.proofs.Answers.{lent-right}
+use Rattle.laws_modbus.proofs.Kept.{frame-keeps-length}
+use Rattle.call_panel.specs.declared.Said.{Said}
+use Rattle.call_panel.specs.Promises.{givenNext, recorderChanged, preparedTarget, startedTarget}
+use Rattle.call_byte.specs.declared.Taken.{Taken}
 use Rattle.demands.specs.House.{House, gateIn}
 use Rattle.demands.specs.Lent.{Piece, lends, handedBack}
 use Rattle.demands.specs.Run.{handedOut, ByByte, ByBlock, ByTick, ByCollect, ByReport, ByPrepare, ByStart, ByModbus, ByRegister, Beside, Refused, Ready}

@@ -13,23 +13,23 @@ use Rattle.document.specs.Commands.{answered}
 use Rattle.document.specs.Happenings.{Since, told, after}
 use Rattle.document.specs.Happenings.Happening.{byte}
 use Rattle.document.specs.Blocks.{answersOnWire}
-use Rattle.happenings.proofs.Blocks.{answersTo}
-use Rattle.line.proofs.Left.{sets-front, sets-behind, answer-fits}
-use Rattle.link.specs.declared.Receiver.{Receiver}
-use Rattle.link.specs.declared.Taken.{Taken as StepTaken}
-use Rattle.link.specs.declared.Event.{Event}
-use Rattle.link.specs.declared.Event.the-variants.{Nothing, Keep, Whole}
-use Rattle.link.specs.Bounds as link
-use Rattle.link.specs.Step.{stepped}
-use Rattle.link.specs.Report.{Held, held, Beside, bodyAfter, reportOf, onByte, sinceReset}
-use Rattle.link.proofs.Reports.{reports}
-use Rattle.state.specs.State.{Instruments, Target, gateOf}
-use Rattle.target.specs.AnsweredHeld.{answeredHeld}
-use Rattle.target.proofs.Held.{answered-held}
-use Rattle.target.proofs.Fits.{held-formed}
-use Rattle.target.proofs.HeldLaws.{held-kept}
-use Rattle.target.specs.Turn.{Turn, silent, keeping, heldBy, answering, onEvent, turn}
-use Rattle.target.proofs.TurnLaws.{nextOf, by-event}
+use Rattle.laws_happenings.proofs.Blocks.{answersTo}
+use Rattle.line_wire.proofs.Left.{sets-front, sets-behind, answer-fits}
+use Rattle.line_receiver.specs.declared.Receiver.{Receiver}
+use Rattle.line_receiver.specs.declared.Taken.{Taken as StepTaken}
+use Rattle.line_receiver.specs.declared.Event.{Event}
+use Rattle.line_receiver.specs.declared.Event.the-variants.{Nothing, Keep, Whole}
+use Rattle.line_receiver.specs.Bounds as link
+use Rattle.line_receiver.specs.Step.{stepped}
+use Rattle.line_receiver.specs.Report.{Held, held, Beside, bodyAfter, reportOf, onByte, sinceReset}
+use Rattle.line_receiver.proofs.Reports.{reports}
+use Rattle.state_parts.specs.State.{Instruments, Target, gateOf}
+use Rattle.state_byte.specs.AnsweredHeld.{answeredHeld}
+use Rattle.state_byte.proofs.Held.{answered-held}
+use Rattle.state_byte.proofs.Fits.{held-formed}
+use Rattle.state_byte.proofs.HeldLaws.{held-kept}
+use Rattle.state_byte.specs.Turn.{Turn, silent, keeping, heldBy, answering, onEvent, turn}
+use Rattle.state_byte.proofs.TurnLaws.{nextOf, by-event}
 use Rattle.demands.specs.Stands.{blank, linkIn}
 use Rattle.demands.proofs.Served.{replied}
 

@@ -15,21 +15,21 @@ use Rattle.document.specs.Happenings.{Since, after}
 use Rattle.document.specs.Happenings.Happening.{byte}
 use Rattle.document.specs.Blocks.{Block, broughtBy, behind, stops, blockAfter}
 use Rattle.document.proofs.Cases.{split}
-use Rattle.happenings.proofs.Blocks.{brought-told}
-use Rattle.state.specs.State.{Target, gateOf}
-use Rattle.state.specs.Within.{Within}
-use Rattle.state.proofs.Keeps.{within-fits}
-use Rattle.target.specs.Turn.{Turn, turn}
-use Rattle.target.specs.Walk.{Walk, byteTurn, onward, room, walked}
-use Rattle.target.proofs.Fits.{turn-size}
-use Rattle.target.proofs.Keeps.{byte-keeps}
-use Rattle.target.proofs.Walks.{walked-all, walked-short, walked-on}
-use Rattle.blocks.specs.Places.{stateLength}
-use Rattle.blocks.specs.Layout.{decoded, encoded}
-use Rattle.blocks.proofs.Back.{stored-decoded}
-use Rattle.byte_call.specs.Promises.{ByteTaken}
-use Rattle.byte_call.proofs.Stores.{target-over}
-use Rattle.byte_call.proofs.Turns.{byte-taken}
+use Rattle.laws_happenings.proofs.Blocks.{brought-told}
+use Rattle.state_parts.specs.State.{Target, gateOf}
+use Rattle.state_parts.specs.Within.{Within}
+use Rattle.state_parts.proofs.Keeps.{within-fits}
+use Rattle.state_byte.specs.Turn.{Turn, turn}
+use Rattle.state_byte.specs.Walk.{Walk, byteTurn, onward, room, walked}
+use Rattle.state_byte.proofs.Fits.{turn-size}
+use Rattle.state_byte.proofs.Keeps.{byte-keeps}
+use Rattle.state_byte.proofs.Walks.{walked-all, walked-short, walked-on}
+use Rattle.state_block.specs.Places.{stateLength}
+use Rattle.state_block.specs.Layout.{decoded, encoded}
+use Rattle.state_block.proofs.Back.{stored-decoded}
+use Rattle.call_byte.specs.Promises.{ByteTaken}
+use Rattle.call_byte.proofs.Stores.{target-over}
+use Rattle.call_byte.proofs.Turns.{byte-taken}
 use Rattle.demands.specs.House.{House}
 use Rattle.demands.specs.Lent.{Piece, lends}
 use Rattle.demands.specs.Stands.{linkIn}

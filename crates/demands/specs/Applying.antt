@@ -2,7 +2,7 @@
 use mathlib.Core.Path.{_≡_}
 use mathlib.Core.List.{_++_}
 use Rattle.document.specs.Answer.{Answer, answerOnWire}
-use Rattle.blocks.specs.Layout.{decoded}
+use Rattle.state_block.specs.Layout.{decoded}
 use Rattle.demands.specs.House.{House, gateIn}
 use Rattle.demands.specs.Stands.{linkIn}
 

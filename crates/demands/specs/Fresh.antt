@@ -6,7 +6,7 @@ use Rattle.document.specs.Message.{Message}
 use Rattle.document.specs.Answer.{answerOnWire}
 use Rattle.document.specs.Gate.{Gate}
 use Rattle.document.specs.Commands.{answered}
-use Rattle.link.specs.Demands.{EndIn}
+use Rattle.line_receiver.specs.Demands.{EndIn}
 use Rattle.demands.specs.House.{House, gateIn}
 
 -- "get exactly the answer, and leave the memory, scope and recorder, that a freshly reset link would give over these as

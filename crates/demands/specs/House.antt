@@ -3,8 +3,8 @@
 use mathlib.Core.List.{List, []}
 use Prim.Native.Nat.{ℕ}
 use Rattle.document.specs.Gate.{Gate}
-use Rattle.state.specs.State.{gateOf}
-use Rattle.blocks.specs.Layout.{decoded}
+use Rattle.state_parts.specs.State.{gateOf}
+use Rattle.state_block.specs.Layout.{decoded}
 
 pub record House : Type 0 where
   pub block : List ℕ

@@ -7,12 +7,12 @@ use Rattle.document.specs.Areas.{variablesEnd}
 use Rattle.document.specs.Tables.{Table}
 use Rattle.document.specs.Modbus.{modbusAnswer, modbusMemory}
 use Rattle.document.specs.Happenings.{Happening}
-use Rattle.happenings.specs.Bytes.{AreBytes}
-use Rattle.happenings.specs.Applying.{ifAny}
-use Rattle.happenings.specs.Ports.{SameBeyond}
-use Rattle.state.specs.Within.{MemoryWithin}
-use Rattle.blocks.specs.Places.{stateLength}
-use Rattle.blocks.specs.Layout.{decoded}
+use Rattle.laws_happenings.specs.Bytes.{AreBytes}
+use Rattle.laws_happenings.specs.Applying.{ifAny}
+use Rattle.laws_happenings.specs.Ports.{SameBeyond}
+use Rattle.state_parts.specs.Within.{MemoryWithin}
+use Rattle.state_block.specs.Places.{stateLength}
+use Rattle.state_block.specs.Layout.{decoded}
 use Rattle.demands.specs.House.{House, gateIn}
 use Rattle.demands.specs.Run.{Reset, Run}
 use Rattle.demands.specs.Stands.{linkIn}

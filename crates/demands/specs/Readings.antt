@@ -6,10 +6,10 @@ use lib.ListN.{length}
 use Rattle.document.specs.Numbers.{mostData}
 use Rattle.document.specs.AnswerReader.{brought, readBuffer}
 use Rattle.document.specs.AnswerReader.Brought.{wrong}
-use Rattle.host.specs.Reader.{idle}
-use Rattle.reader.specs.declared.calls.ReadByte.{ReadByte}
-use Rattle.reader.specs.Layout.{decodedReader}
-use Rattle.reader.specs.Promises.{readOf, ReadDone}
+use Rattle.line_reader.specs.Reader.{idle}
+use Rattle.call_reader.specs.declared.calls.ReadByte.{ReadByte}
+use Rattle.call_reader.specs.Layout.{decodedReader}
+use Rattle.call_reader.specs.Promises.{readOf, ReadDone}
 
 -- `log_gate_reader_byte` was called
 pub record ByRead (block : List ℕ) (b : ℕ) (next : List ℕ) : Type 0 where

@@ -8,8 +8,8 @@ use Rattle.document.specs.Variables.{setSize}
 use Rattle.document.specs.Plan.{Plan}
 use Rattle.document.specs.Run.{Run, started, placeBegins}
 use Rattle.document.specs.Recorder.Recorder.{planned}
-use Rattle.history.specs.History.{Event, begun, takesNext, beyondIn, NoneBeyond, TriggersNext}
-use Rattle.blocks.specs.Layout.{decoded}
+use Rattle.recorder_history.specs.History.{Event, begun, takesNext, beyondIn, NoneBeyond, TriggersNext}
+use Rattle.state_block.specs.Layout.{decoded}
 use Rattle.demands.specs.House.{House, gateIn}
 use Rattle.demands.specs.Stands.{linkIn}
 

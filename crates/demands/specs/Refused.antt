@@ -13,17 +13,17 @@ use Rattle.document.specs.Gate.{Gate, says}
 use Rattle.document.specs.Refusals.{refusal}
 use Rattle.document.specs.Commands.{answered}
 use Rattle.document.specs.Modbus.{modbusRefusal}
-use Rattle.line.specs.declared.Written.{Written}
-use Rattle.host.specs.Reader.{idle, stepped}
-use Rattle.blocks.specs.Places.{stateLength}
-use Rattle.checks.specs.Promises.{blockSound, byteNumber, tickNumber, collectNumber, reportNumber, panelNumber}
-use Rattle.registering.specs.Promises.{registerNumber}
-use Rattle.panel_calls.specs.declared.Said.{Said}
-use Rattle.byte_call.specs.declared.Taken.{Taken}
-use Rattle.block_call.specs.declared.BlockTaken.{BlockTaken}
-use Rattle.reader.specs.declared.calls.ReadByte.{ReadByte}
-use Rattle.reader.specs.Layout.{decodedReader, encodedReader}
-use Rattle.reader.specs.Promises.{beginNumber, readNumber}
+use Rattle.line_wire.specs.declared.Written.{Written}
+use Rattle.line_reader.specs.Reader.{idle, stepped}
+use Rattle.state_block.specs.Places.{stateLength}
+use Rattle.call_checks.specs.Promises.{blockSound, byteNumber, tickNumber, collectNumber, reportNumber, panelNumber}
+use Rattle.call_register.specs.Promises.{registerNumber}
+use Rattle.call_panel.specs.declared.Said.{Said}
+use Rattle.call_byte.specs.declared.Taken.{Taken}
+use Rattle.call_block.specs.declared.BlockTaken.{BlockTaken}
+use Rattle.call_reader.specs.declared.calls.ReadByte.{ReadByte}
+use Rattle.call_reader.specs.Layout.{decodedReader, encodedReader}
+use Rattle.call_reader.specs.Promises.{beginNumber, readNumber}
 
 -- "one number from the document, given exactly when the document says, and changes no byte lent to the call"
 

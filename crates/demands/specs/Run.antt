@@ -17,18 +17,18 @@ use Rattle.document.specs.Asides.{Aside}
 use Rattle.document.specs.Asides.Aside.{tick, writes, collects, reports, prepares, starts, frames}
 use Rattle.document.specs.Happenings.{Happening}
 use Rattle.document.specs.Happenings.Happening.{byte, aside}
-use Rattle.line.specs.declared.Written.{Written}
-use Rattle.checks.specs.Promises.{ResetDone, byteNumber, tickNumber, collectNumber, panelNumber}
-use Rattle.tick_call.specs.Promises.{TickTaken}
-use Rattle.application_calls.specs.Promises.{CollectDone, ReportDone}
-use Rattle.registering.specs.Promises.{RegisterDone}
-use Rattle.panel_calls.specs.declared.Said.{Said}
-use Rattle.panel_calls.specs.Promises.{PrepareDone, StartDone}
-use Rattle.byte_call.specs.declared.Taken.{Taken}
-use Rattle.byte_call.specs.Promises.{ByteTaken}
-use Rattle.block_call.specs.declared.BlockTaken.{BlockTaken}
-use Rattle.block_call.specs.Promises.{BlockDone}
-use Rattle.modbus.specs.Promises.{ModbusDone}
+use Rattle.line_wire.specs.declared.Written.{Written}
+use Rattle.call_checks.specs.Promises.{ResetDone, byteNumber, tickNumber, collectNumber, panelNumber}
+use Rattle.call_tick.specs.Promises.{TickTaken}
+use Rattle.call_application.specs.Promises.{CollectDone, ReportDone}
+use Rattle.call_register.specs.Promises.{RegisterDone}
+use Rattle.call_panel.specs.declared.Said.{Said}
+use Rattle.call_panel.specs.Promises.{PrepareDone, StartDone}
+use Rattle.call_byte.specs.declared.Taken.{Taken}
+use Rattle.call_byte.specs.Promises.{ByteTaken}
+use Rattle.call_block.specs.declared.BlockTaken.{BlockTaken}
+use Rattle.call_block.specs.Promises.{BlockDone}
+use Rattle.call_modbus.specs.Promises.{ModbusDone}
 use Rattle.demands.specs.House.{House}
 use Rattle.demands.specs.Lent.{Piece, lends, handedBack}
 

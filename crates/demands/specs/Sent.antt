@@ -5,7 +5,7 @@ use Prim.Native.Nat.{ℕ, _≤_}
 use lib.ListN.{length, take, drop}
 use Rattle.document.specs.Happenings.{Since}
 use Rattle.document.specs.Blocks.{blockAfter}
-use Rattle.block_call.specs.declared.BlockTaken.{BlockTaken}
+use Rattle.call_block.specs.declared.BlockTaken.{BlockTaken}
 use Rattle.demands.specs.House.{House}
 use Rattle.demands.specs.Stands.{Stands}
 

@@ -6,9 +6,9 @@ use lib.ListN.{replicate}
 use Rattle.document.specs.Numbers.{mostData}
 use Rattle.document.specs.Happenings.{Since}
 use Rattle.document.specs.Blocks.{answersOnWire}
-use Rattle.link.specs.Report.{Beside, sinceReset}
-use Rattle.state.specs.State.{Target}
-use Rattle.blocks.specs.Layout.{decoded}
+use Rattle.line_receiver.specs.Report.{Beside, sinceReset}
+use Rattle.state_parts.specs.State.{Target}
+use Rattle.state_block.specs.Layout.{decoded}
 use Rattle.demands.specs.House.{House, gateIn}
 
 -- the body of a link at reset

@@ -1,17 +1,17 @@
 // The gate's own program: it collects a command that 0x10 brought, and reports its result.
-ghost use Rattle.application_calls.specs.Promises.{CollectDone, ReportDone};
-use line::Written;
+ghost use Rattle.call_application.specs.Promises.{CollectDone, ReportDone};
+use line_wire::Written;
 
 #[no_mangle]
 pub extern "C" fn log_gate_collect(state: &mut [u8], out: &mut [u8]) -> Written
     ensures { λ r. ⌜ CollectDone (now (state .entry)) (now (out .entry)) r (now (state .exit)) (now (out .exit)) ⌝ }
 {
-    application_calls::collect(state, out)
+    call_application::collect(state, out)
 }
 
 #[no_mangle]
 pub extern "C" fn log_gate_report(state: &mut [u8], result: u8) -> u8
     ensures { λ r. ⌜ ReportDone (now (state .entry)) result r (now (state .exit)) ⌝ }
 {
-    application_calls::report(state, result)
+    call_application::report(state, result)
 }

@@ -1,34 +1,34 @@
 // Both ends of the line: the two writers, and the answer reader.
-ghost use Rattle.line.specs.AnswerWritten.{AnswerWritten};
-ghost use Rattle.commands.specs.CommandWritten.{CommandWritten};
-ghost use Rattle.reader.specs.Promises.{BeginDone, ReadDone};
-use line::Written;
-use reader::ReadByte;
+ghost use Rattle.line_wire.specs.AnswerWritten.{AnswerWritten};
+ghost use Rattle.line_commands.specs.CommandWritten.{CommandWritten};
+ghost use Rattle.call_reader.specs.Promises.{BeginDone, ReadDone};
+use line_wire::Written;
+use call_reader::ReadByte;
 
 #[no_mangle]
 pub extern "C" fn log_gate_write_answer(status: u8, body: &[u8], out: &mut [u8]) -> Written
     ensures { λ r. ⌜ AnswerWritten (record { status = status; body = now (body .entry) }) (now (out .entry)) r (now (out .exit)) ⌝ }
 {
-    line::write_answer(status, body, out)
+    line_wire::write_answer(status, body, out)
 }
 
 #[no_mangle]
 pub extern "C" fn log_gate_write_command(command: u8, body: &[u8], out: &mut [u8]) -> Written
     ensures { λ r. ⌜ CommandWritten command (now (body .entry)) (now (out .entry)) r (now (out .exit)) ⌝ }
 {
-    commands::write_command(command, body, out)
+    line_commands::write_command(command, body, out)
 }
 
 #[no_mangle]
 pub extern "C" fn log_gate_reader_begin(reader: &mut [u8], expected: usize) -> u8
     ensures { λ r. ⌜ BeginDone (now (reader .entry)) expected r (now (reader .exit)) ⌝ }
 {
-    reader::begin(reader, expected)
+    call_reader::begin(reader, expected)
 }
 
 #[no_mangle]
 pub extern "C" fn log_gate_reader_byte(reader: &mut [u8], byte: u8, out: &mut [u8]) -> ReadByte
     ensures { λ r. ⌜ ReadDone (now (reader .entry)) byte (now (out .entry)) r (now (reader .exit)) (now (out .exit)) ⌝ }
 {
-    reader::read(reader, byte, out)
+    call_reader::read(reader, byte, out)
 }

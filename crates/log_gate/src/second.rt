@@ -1,6 +1,6 @@
 // The second port: a whole frame, and the answer to it.
-ghost use Rattle.modbus.specs.Promises.{ModbusDone};
-use line::Written;
+ghost use Rattle.call_modbus.specs.Promises.{ModbusDone};
+use line_wire::Written;
 
 #[no_mangle]
 pub extern "C" fn log_gate_modbus(
@@ -11,5 +11,5 @@ pub extern "C" fn log_gate_modbus(
 ) -> Written
     ensures { λ r. ⌜ ModbusDone station (now (frame .entry)) (now (memory .entry)) (now (out .entry)) r (now (memory .exit)) (now (out .exit)) ⌝ }
 {
-    modbus::answer(station, frame, memory, out)
+    call_modbus::answer(station, frame, memory, out)
 }

@@ -1,23 +1,23 @@
 // The target: reset, check, a byte of the line or a block of them, a tick of the gate.
-ghost use Rattle.checks.specs.Promises.{ResetDone, Checked};
-ghost use Rattle.tick_call.specs.Promises.{TickTaken};
-ghost use Rattle.byte_call.specs.Promises.{ByteTaken};
-ghost use Rattle.block_call.specs.Promises.{BlockDone};
-use block_call::BlockTaken;
-use byte_call::Taken;
+ghost use Rattle.call_checks.specs.Promises.{ResetDone, Checked};
+ghost use Rattle.call_tick.specs.Promises.{TickTaken};
+ghost use Rattle.call_byte.specs.Promises.{ByteTaken};
+ghost use Rattle.call_block.specs.Promises.{BlockDone};
+use call_block::BlockTaken;
+use call_byte::Taken;
 
 #[no_mangle]
 pub extern "C" fn log_gate_reset(state: &mut [u8]) -> u8
     ensures { λ r. ⌜ ResetDone (now (state .entry)) r (now (state .exit)) ⌝ }
 {
-    checks::reset(state)
+    call_checks::reset(state)
 }
 
 #[no_mangle]
 pub extern "C" fn log_gate_check(state: &[u8]) -> u8
     ensures { λ r. ⌜ Checked (now (state .entry)) r ⌝ }
 {
-    checks::check(state)
+    call_checks::check(state)
 }
 
 #[no_mangle]
@@ -29,7 +29,7 @@ pub extern "C" fn log_gate_byte(
 ) -> Taken
     ensures { λ r. ⌜ ByteTaken (now (state .entry)) byte (now (memory .entry)) (now (answer .entry)) r (now (state .exit)) (now (memory .exit)) (now (answer .exit)) ⌝ }
 {
-    byte_call::byte(state, byte, memory, answer)
+    call_byte::byte(state, byte, memory, answer)
 }
 
 #[no_mangle]
@@ -41,12 +41,12 @@ pub extern "C" fn log_gate_block(
 ) -> BlockTaken
     ensures { λ r. ⌜ BlockDone (now (state .entry)) (now (block .entry)) (now (memory .entry)) (now (answers .entry)) r (now (state .exit)) (now (memory .exit)) (now (answers .exit)) ⌝ }
 {
-    block_call::block(state, block, memory, answers)
+    call_block::block(state, block, memory, answers)
 }
 
 #[no_mangle]
 pub extern "C" fn log_gate_tick(state: &mut [u8], memory: &mut [u8]) -> u8
     ensures { λ r. ⌜ TickTaken (now (state .entry)) (now (memory .entry)) r (now (state .exit)) (now (memory .exit)) ⌝ }
 {
-    tick_call::tick(state, memory)
+    call_tick::tick(state, memory)
 }

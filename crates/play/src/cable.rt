@@ -6,18 +6,18 @@ use crate::order::Order;
 use crate::shown::FILLING;
 use crate::shown::put_refusal;
 use crate::shown::put_written;
-use line::Written;
+use line_wire::Written;
 use log_gate::LOG_GATE_READER;
 use log_gate::log_gate_reader_begin;
 use log_gate::log_gate_reader_byte;
 use log_gate::log_gate_write_answer;
 use log_gate::log_gate_write_command;
-use reader::ReadByte;
-use script::output::put;
-use script::output::put_bytes;
-use script::output::put_decimal;
-use script::output::put_hex;
-use script::output::put_text;
+use call_reader::ReadByte;
+use script_lines::output::put;
+use script_lines::output::put_bytes;
+use script_lines::output::put_decimal;
+use script_lines::output::put_hex;
+use script_lines::output::put_text;
 
 fn written(letter: u8, code: u8, body: &[u8], lent: &mut [u8]) -> Written {
     if letter == b'W' {

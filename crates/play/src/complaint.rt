@@ -1,8 +1,8 @@
 // What can be wrong with a line, and saying so.
-use script::output::flush;
-use script::output::flush_error;
-use script::output::put_decimal;
-use script::output::put_text;
+use script_lines::output::flush;
+use script_lines::output::flush_error;
+use script_lines::output::put_decimal;
+use script_lines::output::put_text;
 
 pub const NONE: u8 = 0;
 

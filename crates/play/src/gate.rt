@@ -12,18 +12,18 @@ use crate::program::report;
 use crate::second::frame;
 use crate::shown::FILLING;
 use crate::shown::put_block_taken;
-use adler::adler32;
+use script_adler::adler32;
 use log_gate::LOG_GATE_ANSWER_ROOM;
 use log_gate::LOG_GATE_MEMORY;
 use log_gate::LOG_GATE_STATE;
 use log_gate::log_gate_block;
 use log_gate::log_gate_byte;
 use log_gate::log_gate_tick;
-use script::output::put;
-use script::output::put_bytes;
-use script::output::put_decimal;
-use script::output::put_text;
-use script::output::put_word;
+use script_lines::output::put;
+use script_lines::output::put_bytes;
+use script_lines::output::put_decimal;
+use script_lines::output::put_text;
+use script_lines::output::put_word;
 
 fn put_answer(index: u64, answer: &[u8], length: usize, out: &mut [u8; 65536], at: usize) -> usize {
     if length == 0 || length > answer.len() {

@@ -22,11 +22,11 @@ use log_gate::log_gate_reader_begin;
 use log_gate::log_gate_reset;
 use order::Order;
 use play::Play;
-use script::input::Input;
-use script::input::LONG;
-use script::input::OVER;
-use script::input::next_line;
-use script::output::flush;
+use script_lines::input::Input;
+use script_lines::input::LONG;
+use script_lines::input::OVER;
+use script_lines::input::next_line;
+use script_lines::output::flush;
 
 // A script as far as it is played, and 0 in `going` once it is over.
 struct Run {

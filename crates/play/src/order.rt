@@ -19,13 +19,13 @@ use crate::lengths::SETUP;
 use crate::lengths::WIDEST;
 use crate::tables::read_tables;
 use log_gate::LOG_GATE_MEMORY;
-use words::operands::ByteRead;
-use words::operands::NumberRead;
-use words::operands::read_byte;
-use words::operands::read_bytes;
-use words::operands::read_number;
-use words::words::is_over;
-use words::words::word_at;
+use script_words::operands::ByteRead;
+use script_words::operands::NumberRead;
+use script_words::operands::read_byte;
+use script_words::operands::read_bytes;
+use script_words::operands::read_number;
+use script_words::words::is_over;
+use script_words::words::word_at;
 
 // The letter of a line on which there is nothing to do. No word is a blank.
 const SKIP: u8 = b' ';

@@ -1,11 +1,11 @@
 // What a call did, as a line of the output shows it.
-use block_call::BlockTaken;
-use line::Written;
-use panel_calls::Said;
-use script::output::put;
-use script::output::put_bytes;
-use script::output::put_decimal;
-use script::output::put_hex;
+use call_block::BlockTaken;
+use line_wire::Written;
+use call_panel::Said;
+use script_lines::output::put;
+use script_lines::output::put_bytes;
+use script_lines::output::put_decimal;
+use script_lines::output::put_hex;
 
 // Every lent buffer is filled so before a call, so that what a call leaves can be seen.
 pub const FILLING: u8 = 0xEE;

@@ -7,9 +7,9 @@ use crate::complaint::WIDE;
 use crate::lengths::BYTES;
 use crate::lengths::NUMBERS;
 use crate::lengths::WIDEST;
-use words::operands::NumberRead;
-use words::operands::read_number;
-use words::words::is_over;
+use script_words::operands::NumberRead;
+use script_words::operands::read_number;
+use script_words::words::is_over;
 
 // Why the words are no list, or NONE, and how many bytes the list has.
 pub struct List {

@@ -7,7 +7,7 @@ mod show;
 mod table;
 mod target;
 
-use script::output::flush;
+use script_lines::output::flush;
 
 fn main() {
     let mut out = [0u8; 65536];

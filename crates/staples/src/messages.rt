@@ -1,7 +1,7 @@
 // The two sides of a line of text: what goes over the wire, and behind a mark what comes back.
 ghost use Prim.Native.Nat.{_≤_};
 ghost use lib.ListN.{length};
-use words::operands::read_bytes;
+use script_words::operands::read_bytes;
 
 // How many bytes there are of each.
 pub struct Messages {

@@ -11,8 +11,8 @@ use log_gate::LOG_GATE_MEMORY;
 use log_gate::LOG_GATE_STATE;
 use log_gate::log_gate_reset;
 use log_gate::log_gate_tick;
-use script::output::put_bytes;
-use script::output::put_text;
+use script_lines::output::put_bytes;
+use script_lines::output::put_text;
 
 // Where the variable's high byte stands, and where the second set keeps it.
 const HIGH: usize = 17;

@@ -2,11 +2,11 @@
 ghost use Prim.Native.Nat.{_≤_};
 ghost use lib.ListN.{length};
 use crate::target::CAME;
-use script::output::put;
-use script::output::put_bytes;
-use script::output::put_decimal;
-use script::output::put_hex;
-use script::output::put_text;
+use script_lines::output::put;
+use script_lines::output::put_bytes;
+use script_lines::output::put_decimal;
+use script_lines::output::put_hex;
+use script_lines::output::put_text;
 
 pub fn put_case(number: u64, wire: &[u8], out: &mut [u8; 65536], at: usize) -> usize {
     let numbered = put_decimal(number, out, at);

@@ -7,10 +7,10 @@ use crate::case::show;
 use crate::messages::mark_from;
 use crate::messages::read_messages;
 use log_gate::LOG_GATE_MEMORY;
-use words::operands::ByteRead;
-use words::operands::NumberRead;
-use words::operands::read_byte;
-use words::operands::read_number;
+use script_words::operands::ByteRead;
+use script_words::operands::NumberRead;
+use script_words::operands::read_byte;
+use script_words::operands::read_number;
 
 // The messages of a line, whose first stands from a place on.
 fn show_messages(case: Case, line: &[u8], from: usize, out: &mut [u8; 65536], at: usize) -> usize

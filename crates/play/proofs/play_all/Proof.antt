@@ -3,7 +3,7 @@ use borrow.Author.Needs.{needs}
 use Rattle.play.proofs.play_all.Statement.{statement}
 use Rattle.play.proofs.play_all.Tie as tie
 use Rattle.play.proofs.play.Play.new.Reads as play-Play-new-reads
-use Rattle.script.proofs.input.Input.new.Reads as input-Input-new-reads
+use Rattle.script_lines.proofs.input.Input.new.Reads as input-Input-new-reads
 
 abbrev Inv-loop : tie.InvT-loop
 Inv-loop text₀ bytes₀ state₀ memory₀ reader₀ out₀ run₀ turns₀ text bytes state memory reader out run turns = Unit {0}

@@ -1,0 +1,56 @@
+-- The law of request 2026-03: following 0x11, 0x01 and 0xD4 as source document 000 lists the steps yields each name in the memory.
+use mathlib.Core.Path.{_≡_, refl, ap, _∙_}
+use mathlib.Core.Bool.{true}
+use mathlib.Core.List.{List, [], _∷_, map}
+use Prim.Native.Nat.{ℕ, zero, suc, _+_, _*_, _/_, _<_, _≤_}
+use native.Mathlib.Omega.{arith}
+use lib.ListN.{length, getD, take, drop}
+use lib.Seq.{take-take, getD-drop}
+use Rattle.document.specs.Bytes.{AllBytes}
+use Rattle.document.specs.Areas.{memoryEnd, bytesAt}
+use Rattle.document.specs.Values.{number}
+use Rattle.document.specs.Tables.{Table, mostTables, entrySize, isPlaceGood}
+use Rattle.document.specs.Gate.{Gate}
+use Rattle.document.proofs.Bytes.{each-a-byte}
+use Rattle.document.proofs.Cases.{both}
+use Rattle.laws_names.specs.Names.{nameAt, namesAt, namesOf, namesIn, arePlacesGood}
+use Rattle.laws_names.specs.Steps.{stringRead, namePointer, pieceRead, namesAsked, tableRead, mostLooks, namesRead}
+use Rattle.laws_names.proofs.Asked.{piece-read}
+use Rattle.laws_names.proofs.Strings.{string-read}
+use Rattle.laws_names.proofs.Tables.{Place, place, tables-told}
+
+-- two bytes hold a number of 16 bits
+two-bytes : (l : List ℕ) → ((i : ℕ) → getD l i 0 < 256) → number (take 2 l) < 65536
+two-bytes [] small = omega arith
+two-bytes (a ∷ []) small = omega (arith, small 0)
+two-bytes (a ∷ b ∷ l) small = omega (arith, small 0, small 1)
+
+module _ (g : Gate) (whole : length (g .memory) ≡ memoryEnd) (bytes : AllBytes (g .memory)) where
+  pointer : (entry : ℕ) → number (bytesAt (g .memory) entry 2) < 65536
+  pointer entry =
+      two-bytes (drop entry (g .memory)) (λ i. rw (getD-drop entry (g .memory) i 0) (each-a-byte (g .memory) bytes (entry + i)))
+
+  -- an entry's name
+  name-read : (entry : ℕ) → entry + entrySize ≤ memoryEnd → stringRead g (namePointer (pieceRead g entry 8)) ≡ nameAt (g .memory) entry
+  name-read entry inside =
+      ap (λ (l : List ℕ). stringRead g (namePointer l)) (piece-read g entry 8 (omega arith) (omega arith) inside)
+      ∙ ap (λ (l : List ℕ). stringRead g (number l)) (take-take 2 8 (drop entry (g .memory)) (omega arith))
+      ∙ string-read g whole (number (bytesAt (g .memory) entry 2)) (pointer entry)
+
+  entries-read : (n entry : ℕ) → entry + n * entrySize ≤ memoryEnd → namesAsked g entry n ≡ namesAt (g .memory) entry n
+  entries-read zero entry inside = refl
+  entries-read (suc n) entry inside =
+      λ i. name-read entry (omega arith) i ∷ entries-read n (entry + entrySize) (omega arith) i
+
+  table-read : (t : Table) → Place t → tableRead g t ≡ namesOf (g .memory) t
+  table-read t p = entries-read (t .size / entrySize) (t .address) (omega (arith, p .ends))
+
+  tables-read : (ts : List Table) → arePlacesGood ts ≡ true → map (tableRead g) ts ≡ map (namesOf (g .memory)) ts
+  tables-read [] good = refl
+  tables-read (t ∷ ts) good =
+      let each = both (isPlaceGood t) (arePlacesGood ts) good in
+      λ i. table-read t (place t (each .0)) i ∷ tables-read ts (each .1) i
+
+  pub names-found : length (g .tables) ≤ mostTables → arePlacesGood (g .tables) ≡ true → namesRead g ≡ namesIn (g .memory) (g .tables)
+  unfolding namesRead namesIn
+  names-found few good = ap (map (tableRead g)) (tables-told g few good mostLooks (omega arith)) ∙ tables-read (g .tables) good

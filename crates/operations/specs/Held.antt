@@ -1,9 +1,0 @@
--- What is held of a whole message: what the receiver tells, with the data that stand in the body.
-use mathlib.Core.List.{List}
-use Prim.Native.Nat.{ℕ}
-use lib.ListN.{take}
-use Rattle.link.specs.Report.{Held}
-use Rattle.operations.specs.declared.Whole.{Whole}
-
-abbrev pub heldOf : Whole → List ℕ → Held
-heldOf w body = record { command = w .command; length = w .length; kept = take (w .length) body; sum = w .sum }

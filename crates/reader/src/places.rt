@@ -1,7 +1,0 @@
-// Where the parts of a reader's block begin; docs/STATE.md has the same as a table.
-use codes::MOST_DATA;
-
-// The data of an answer, behind the head.
-pub const BODY: usize = 6;
-
-pub const READER_LENGTH: usize = BODY + MOST_DATA;

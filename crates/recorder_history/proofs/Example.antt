@@ -1,0 +1,53 @@
+-- A run by computation: two places, divider 1, rising through 5, one further set. The plan fits, so the theorems speak of it.
+use mathlib.Core.Path.{_≡_, refl}
+use mathlib.Core.Bool.{false}
+use mathlib.Core.List.{List, [], _∷_}
+use Prim.Native.Nat.{ℕ}
+use native.Mathlib.Omega.{arith}
+use lib.ListN.{replicate, set}
+use Rattle.document.specs.Plan.{Plan}
+use Rattle.document.specs.Trigger.{fires, isBeyond}
+use Rattle.document.specs.Run.{startIndex, ranTick, memoryAfterTick}
+use Rattle.document.specs.Sets.{setsTaken, readRound}
+use Rattle.recorder_history.specs.History.{PlanFits, Event, begun, after, memoriesLeft}
+use Rattle.recorder_history.specs.History.Event.{tick, others}
+
+abbrev plan : Plan
+plan =
+    record {
+      samples = 2;
+      postTrigger = 1;
+      divider = 1;
+      trigger = record { mode = 1; address = 0; size = 1; sign = 0; threshold = 5 };
+      variables = record { address = 0; size = 1 } ∷ record { address = 8; size = 1 } ∷ [];
+    }
+
+abbrev zeros : List ℕ
+zeros = replicate 16384 0
+
+-- byte 0 is 3 at the first set, 4 at the second and 7 from then on; the buffer as the recorder left it
+abbrev events : List Event
+events =
+    others (set (set zeros 0 3) 8 1)
+    ∷ tick ∷ tick
+    ∷ others (set (set (set (set zeros 0 4) 8 2) 12288 3) 12289 1)
+    ∷ tick ∷ tick
+    ∷ others (set (set (set (set (set (set zeros 0 7) 8 9) 12288 3) 12289 1) 12290 4) 12291 2)
+    ∷ tick ∷ tick ∷ tick ∷ tick ∷ tick
+    ∷ []
+
+pub plan-fits : PlanFits plan
+plan-fits = record { samples = omega arith; room = omega arith; variables = refl; trigger = refl }
+
+pub sets-are : setsTaken plan (memoriesLeft zeros events) ≡ (3 ∷ 1 ∷ []) ∷ (4 ∷ 2 ∷ []) ∷ (7 ∷ 9 ∷ []) ∷ (7 ∷ 9 ∷ []) ∷ []
+unfolding setsTaken fires isBeyond
+sets-are = refl
+
+pub ring-reads : readRound plan (after plan (begun zeros) events .memory) (startIndex (after plan (begun zeros) events .run)) 2
+    ≡ (7 ∷ 9 ∷ []) ∷ (7 ∷ 9 ∷ []) ∷ []
+unfolding ranTick memoryAfterTick fires isBeyond
+ring-reads = refl
+
+pub stops-then : after plan (begun zeros) events .run .running ≡ false
+unfolding ranTick memoryAfterTick fires isBeyond
+stops-then = refl

@@ -1,0 +1,124 @@
+// From a block to the state that it is. Who asks has seen that the block is long enough.
+ghost use mathlib.Core.Path.{_≡_};
+ghost use mathlib.Core.Bool.{true};
+ghost use Prim.Native.Nat.{_+_, _≤_};
+ghost use lib.ListN.{length, drop};
+ghost use Rattle.document.specs.Variables.{definitionIn};
+ghost use Rattle.state_block.specs.Layout.{decodedReceiver, decodedDefinitions, decodedVariables, decodedPlan, decodedRun, decodedRecorder};
+ghost use Rattle.state_block.specs.Places.{definitionsLength, variablesLength, stateLength};
+use crate::places::DIVIDER;
+use crate::places::FULL;
+use crate::places::MODE;
+use crate::places::PLACE;
+use crate::places::POST_TRIGGER;
+use crate::places::READY;
+use crate::places::RECORDED;
+use crate::places::RUNNING;
+use crate::places::SAMPLES;
+use crate::places::SIGN;
+use crate::places::THRESHOLD;
+use crate::places::TRIGGER_ADDRESS;
+use crate::places::TRIGGER_SIZE;
+use crate::places::VALUE;
+use crate::places::WAIT;
+use crate::places::WATCH;
+use bytes_fields::long_at;
+use bytes_fields::word_at;
+
+pub fn receiver_in(block: &[u8]) -> line_receiver::Receiver
+    requires { ⌜ stateLength ≤ length (now block) ⌝ }
+    ensures { λ r. ⌜ r ≡ decodedReceiver (now (block .entry)) ⌝ }
+{
+    line_receiver::Receiver {
+        waiting: block[0],
+        phase: block[1],
+        command: block[2],
+        length: block[3],
+        have: block[4],
+        sum: block[5],
+    }
+}
+
+fn definition_at(block: &[u8], at: usize) -> document::Variable
+    requires { ⌜ at + 5 ≤ length (now block) ⌝ }
+    ensures { λ r. ⌜ r ≡ definitionIn true (drop at (now (block .entry))) ⌝ }
+{
+    document::Variable {
+        address: long_at(block, at + 1),
+        size: block[at],
+    }
+}
+
+fn definitions_at(block: &[u8], from: usize) -> [document::Variable; 8]
+    requires { ⌜ from + definitionsLength ≤ length (now block) ⌝ }
+    ensures { λ r. ⌜ r ≡ decodedDefinitions (now (block .entry)) from ⌝ }
+{
+    let mut list = [document::Variable {
+        address: 0,
+        size: 0,
+    }; 8];
+    let mut at = from;
+    let mut k = 0;
+    while k < 8 {
+        list[k] = definition_at(block, at);
+        at += 5;
+        k += 1;
+    }
+    list
+}
+
+fn variables_at(block: &[u8], at: usize) -> variables_list::Variables
+    requires { ⌜ at + variablesLength ≤ length (now block) ⌝ }
+    ensures { λ r. ⌜ r ≡ decodedVariables (now (block .entry)) at ⌝ }
+{
+    let list = definitions_at(block, at + 1);
+    variables_list::Variables {
+        count: block[at],
+        list,
+    }
+}
+
+pub fn plan_in(block: &[u8]) -> recorder_plans::Plan
+    requires { ⌜ stateLength ≤ length (now block) ⌝ }
+    ensures { λ r. ⌜ r ≡ decodedPlan (now (block .entry)) ⌝ }
+{
+    let variables = variables_at(block, RECORDED);
+    recorder_plans::Plan {
+        samples: word_at(block, SAMPLES),
+        post_trigger: word_at(block, POST_TRIGGER),
+        divider: word_at(block, DIVIDER),
+        mode: block[MODE],
+        size: block[TRIGGER_SIZE],
+        sign: block[SIGN],
+        address: long_at(block, TRIGGER_ADDRESS),
+        threshold: long_at(block, THRESHOLD),
+        variables,
+    }
+}
+
+pub fn run_in(block: &[u8]) -> recorder_runs::Run
+    requires { ⌜ stateLength ≤ length (now block) ⌝ }
+    ensures { λ r. ⌜ r ≡ decodedRun (now (block .entry)) ⌝ }
+{
+    recorder_runs::Run {
+        running: block[RUNNING],
+        full: block[FULL],
+        watch: block[WATCH],
+        wait: word_at(block, WAIT),
+        place: word_at(block, PLACE),
+        value: long_at(block, VALUE),
+    }
+}
+
+pub fn recorder_in(block: &[u8]) -> recorder_state::Recorder
+    requires { ⌜ stateLength ≤ length (now block) ⌝ }
+    ensures { λ r. ⌜ r ≡ decodedRecorder (now (block .entry)) ⌝ }
+{
+    let plan = plan_in(block);
+    let run = run_in(block);
+    recorder_state::Recorder {
+        ready: block[READY],
+        plan,
+        run,
+    }
+}

@@ -1,0 +1,104 @@
+-- Ready, numbers, variables and run, one behind the other.
+use mathlib.Core.Path.{_≡_, refl, ap, _∙_}
+use mathlib.Core.Bool.{false}
+use mathlib.Core.List.{List}
+use Prim.Native.Nat.{ℕ, _-_, _≤_}
+use native.Mathlib.Omega.{arith}
+use lib.ListN.{length, set, take, drop, length-drop}
+use lib.Seq.{sets}
+use borrow.Author.Needs.{needs}
+use Rattle.document.specs.Plan.{variablesPart, recordedIn}
+use Rattle.document.specs.Variables.{countIn, variablesIn, lengthGiven}
+use Rattle.variables_list.specs.State.{kept}
+use Rattle.variables_list.proofs.Wrong.{count-right}
+use Rattle.recorder_plans.specs.declared.plan.Plan.{Plan}
+use Rattle.recorder_setups.proofs.SetUps.{Accepted, accepted, tail-part}
+use Rattle.recorder_state.specs.Preparing.{preparedState}
+use Rattle.state_block.specs.Layout.{encodedNumbers, encodedVariables, encodedRun}
+use Rattle.state_block.specs.Places.{recorderPlace, planPlace, recordedPlace, runPlace}
+use Rattle.state_setups.proofs.Joined.{prepared-put}
+use Rattle.state_given.proofs.store_given.Statement.{statement}
+use Rattle.state_given.proofs.store_given.Tie as tie
+
+module _ (s : tie.Start) where
+  abbrev told : List ℕ
+  told = s .args .setup .now
+
+  facts : Accepted false told
+  facts = accepted false told (s .pre .1)
+
+  few : countIn (variablesPart false told) ≤ 8
+  few = count-right (countIn (variablesPart false told)) (facts .count) .1
+
+  -- the variables stand behind the head, and are all of the rest
+  head : 15 ≤ length told
+  head = omega (arith, facts .right)
+
+  whole : lengthGiven false (variablesPart false told) ≤ length (variablesPart false told)
+  whole = rw length-drop (omega (arith, facts .right))
+
+  rest : take (length told - 15) (drop 15 told) ≡ variablesPart false told
+  rest = tail-part false told 15 refl
+
+read-plan-requires : tie.Need-read-plan-requires
+read-plan-requires c κs = head (c .before .before)
+
+abbrev start : tie.After-give-variables-arg → tie.Start
+start c = c .before .before .before .before .before .before .before .before
+
+store-numbers-requires : tie.Need-store-numbers-requires
+store-numbers-requires c κs = search needs
+
+sub-give-variables : tie.Need-sub-give-variables
+sub-give-variables c = head (start c)
+
+part-give-variables-start : tie.Need-part-give-variables-start
+part-give-variables-start c = head (start c)
+
+part-give-variables-end : tie.Need-part-give-variables-end
+part-give-variables-end c = search needs
+
+give-variables-requires : tie.Need-give-variables-requires
+give-variables-requires c κs =
+    let g = c .before in
+    let s = start g in
+    let numbered = g .before .before .before in
+    (rw (rest s) (few s), rw (rest s) (whole s), omega (arith, numbered .store-numbers .kept .0, s .pre .0))
+
+prepare-run-requires : tie.Need-prepare-run-requires
+prepare-run-requires c κs = search needs
+
+same-length : tie.Need-same-length
+same-length c = search needs
+
+returns : tie.Need-returns
+returns c =
+    let run = c .before .before in
+    let given = run .before .before .before .before in
+    let g = given .before .before in
+    let numbered = g .before .before .before in
+    let read = numbered .before .before in
+    let s = start g in
+    let block = s .args .block .now in
+    run .prepare-run .ensures
+    ∙ ap (λ (l : List ℕ). sets l runPlace (encodedRun (preparedState false (told s) .run)))
+    (given .give-variables .ensures
+    ∙ ap (λ (q : List ℕ). sets (numbered .store-numbers .last .0) recordedPlace (encodedVariables (kept (variablesIn false q)))) (rest s)
+    ∙ ap (λ (l : List ℕ). sets l recordedPlace (encodedVariables (kept (recordedIn false (told s)))))
+    (numbered .store-numbers .ensures
+    ∙ ap (λ (p : Plan). sets (set block recorderPlace 1) planPlace (encodedNumbers p)) (read .read-plan .ensures .0)))
+    ∙ prepared-put block (s .pre .0) (λ i. read .before .before .slice-known .given i .fits) false (told s)
+
+pub store-given-spec : {M : Type 1} → statement M
+store-given-spec =
+    tie.close
+    (tie.spec
+    read-plan-requires
+    store-numbers-requires
+    sub-give-variables
+    part-give-variables-start
+    part-give-variables-end
+    give-variables-requires
+    prepare-run-requires
+    same-length
+    returns)

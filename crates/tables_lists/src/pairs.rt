@@ -1,0 +1,40 @@
+// The list: an address and a size for each table, 2 bytes each.
+ghost use mathlib.Core.Path.{_≡_};
+ghost use lib.ListN.{length};
+ghost use Rattle.document.specs.Areas.{memoryEnd};
+ghost use Rattle.document.specs.Tables.{tablesIn, areTablesGood, isListGood};
+use crate::entries::word_at;
+use crate::places::is_table_good;
+use memory_ranges::number_at;
+use tables_state::LIST_LENGTH;
+use tables_state::PAIR;
+
+// Each whole pair.
+fn are_tables_good(memory: &[u8], list: &[u8]) -> bool
+    requires { ⌜ length (now memory) ≡ memoryEnd ⌝ }
+    ensures { λ r. ⌜ r ≡ areTablesGood (now (memory .entry)) (tablesIn (now (list .entry))) ⌝ }
+{
+    let mut at = 0;
+    while list.len() - at >= PAIR {
+        let address = number_at(list, at, 2);
+        if !is_table_good(memory, address, word_at(list, at + 2)) {
+            return false;
+        }
+        at += PAIR;
+    }
+    true
+}
+
+// A list of any length; it is not good with more than 16 tables, nor with half a pair.
+pub fn is_list_good(memory: &[u8], list: &[u8]) -> bool
+    requires { ⌜ length (now memory) ≡ memoryEnd ⌝ }
+    ensures { λ r. ⌜ r ≡ isListGood (now (memory .entry)) (now (list .entry)) ⌝ }
+{
+    if list.len() > LIST_LENGTH {
+        return false;
+    }
+    if list.len() % PAIR != 0 {
+        return false;
+    }
+    are_tables_good(memory, list)
+}

@@ -1,0 +1,59 @@
+-- A survey of definitions, one after the other.
+use mathlib.Core.Path.{_≡_, refl}
+use mathlib.Core.Bool.{Bool, true, false, _&&_, _||_}
+use mathlib.Core.List.{List, [], _∷_}
+use Prim.Native.Nat.{ℕ, _+_}
+use native.Mathlib.Nat.{add-zero, zero-add}
+use native.Mathlib.Omega.{arith}
+use lib.Dec.{eqb}
+use Rattle.document.specs.declared.Variable.{Variable}
+use Rattle.document.specs.Variables.{anySizeZero, allMay, setSize}
+use Rattle.variables_list.specs.State.{upTo}
+use Rattle.variables_definitions.specs.declared.surveys.Surveyed.{Surveyed}
+use Rattle.variables_definitions.specs.Survey.{surveyed, lookedAt}
+
+-- what was seen of some, with those that are left
+abbrev pub joined : ℕ → Surveyed → List Variable → Surveyed
+joined limit seen vs =
+    record {
+      zero = seen .zero || anySizeZero vs;
+      within = seen .within && allMay (upTo limit) vs;
+      size = seen .size + setSize vs;
+    }
+
+or-or : (a b c : Bool) → (a || b) || c ≡ a || (b || c)
+or-or true b c = refl
+or-or false b c = refl
+
+and-and : (a b c : Bool) → (a && b) && c ≡ a && (b && c)
+and-and true b c = refl
+and-and false b c = refl
+
+or-none : (a : Bool) → a || false ≡ a
+or-none true = refl
+or-none false = refl
+
+and-all : (a : Bool) → a && true ≡ a
+and-all true = refl
+and-all false = refl
+
+-- nothing is seen before the first
+pub joined-first : (limit : ℕ) (vs : List Variable) → joined limit (surveyed limit []) vs ≡ surveyed limit vs
+joined-first limit vs =
+    λ i. record { zero = anySizeZero vs; within = allMay (upTo limit) vs; size = zero-add (setSize vs) i }
+
+module _ (limit : ℕ) (seen : Surveyed) where
+  -- the first of those that are left is looked at
+  pub joined-next : (v : Variable) (vs : List Variable) → joined limit (lookedAt limit seen v) vs ≡ joined limit seen (v ∷ vs)
+  joined-next v vs =
+      let more : (seen .size + v .size) + setSize vs ≡ seen .size + (v .size + setSize vs) = omega arith in
+      λ i.
+      record {
+        zero = or-or (seen .zero) (eqb (v .size) 0) (anySizeZero vs) i;
+        within = and-and (seen .within) (upTo limit (v .address) (v .size)) (allMay (upTo limit) vs) i;
+        size = more i;
+      }
+
+  pub joined-none : joined limit seen [] ≡ seen
+  joined-none =
+      λ i. record { zero = or-none (seen .zero) i; within = and-all (seen .within) i; size = add-zero (seen .size) i }
