@@ -1,6 +1,7 @@
 /*
  * The second port's cases with libmodbus, whose transport is cut off: a frame is looked at as its receiver does, answered by
- * modbus_reply, and the answer kept instead of sent. It is built with libmodbus's own sources, and counted as count.c is.
+ * modbus_reply, and the answer kept instead of sent. It is built with libmodbus's own sources, and counted as the cases of
+ * benchmark/count/ are.
  *
  *     libmodbus run CASE N      repeats it N times
  */

@@ -7,9 +7,9 @@
 #include "../gate/gate.h"
 #include "../gate/map.h"
 #include "../gate/memory.h"
+#include "expect.h"
 
 #include <stdio.h>
-#include <stdlib.h>
 
 /* Milliseconds until a nail has come for sure, and from the alarm until it is well under a coil. */
 enum { A_MINUTE = 60000, WELL_UNDER = 10 };
@@ -17,14 +17,6 @@ enum { A_MINUTE = 60000, WELL_UNDER = 10 };
 enum { RISING = 1, FALLING = 2, STATION = 1 };
 
 static struct gate gate;
-
-static void expect(int holds, const char *what)
-{
-    if (holds)
-        return;
-    printf("gate_test: not so: %s\n", what);
-    exit(1);
-}
 
 static uint8_t status_of(uint8_t command, const uint8_t *data, size_t length)
 {

@@ -15,4 +15,5 @@ $NM_X86 --defined-only -g "$archive" | awk 'NF == 3 { print $3 }' | sort >$built
 cmp $built/declared $built/defined || fail "the archive's calls are not the header's"
 [ "$($NM_X86 -u "$archive" | awk '$1 == "U" { print $2 }' | sort -u | xargs)" = "memset" ] || fail "the archive needs other than memset"
 [ "$($SIZE_X86 "$archive" | awk 'NR > 1 { writable += $2 + $3 } END { print writable }')" = 0 ] || fail "the archive has writable data"
+sed -n 's/^CALL(\([a-z_]*\),.*/log_gate_\1/p' tests/reachable.h | sort | cmp - $built/declared || fail "tests/reachable.h lists other calls than the header"
 echo "header: six dialects; the archive has its $(wc -l <$built/declared) calls, needs memset alone, and has nothing writable"

@@ -8,9 +8,9 @@
 #include "../gate/gate.h"
 #include "../gate/map.h"
 #include "../gate/tools/line.h"
+#include "expect.h"
 
 #include <stdio.h>
-#include <stdlib.h>
 #include <string.h>
 #include <time.h>
 #include <unistd.h>
@@ -19,14 +19,6 @@ enum { TRIES = 2000 /* of ten milliseconds each, for the scene */ };
 
 static struct line line;
 static const uint8_t *const data = line.data;
-
-static void expect(int holds, const char *what)
-{
-    if (holds)
-        return;
-    printf("port_test: not so: %s\n", what);
-    exit(1);
-}
 
 static void pause_a_little(void)
 {

@@ -6,20 +6,12 @@
 #include "../gate/memory.h"
 #include "../gate/scene.h"
 #include "../gate/self_test.h"
+#include "expect.h"
 
 #include <stdio.h>
-#include <stdlib.h>
 #include <string.h>
 
 enum { SIZE = 64, TICKS = 60000 };
-
-static void expect(int holds, const char *what)
-{
-    if (holds)
-        return;
-    printf("scene_test: not so: %s\n", what);
-    exit(1);
-}
 
 /* A minute of a scene; what is in the memory then. */
 static void play(uint64_t seed, uint32_t threshold, uint8_t *memory)

@@ -1,8 +1,8 @@
 # Scripts, played by the independent implementation, by the proved player, and over the C calls through the proved archive and through
 # the plain C of the benchmark: the outputs must be the same.
 need cargo cargo
-build play tests/play.c "$archive"
-build play-plain tests/play.c benchmark/plain/log_gate.c
+build play tests/play/*.c "$archive"
+build play-plain tests/play/*.c benchmark/plain/log_gate.c
 cargo build --quiet --release --offline --manifest-path second/Cargo.toml
 second=second/target/release/second
 

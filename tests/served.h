@@ -1,17 +1,15 @@
-/* Every command that is served, by the header's names, in the order of their codes. */
+/* Every command that is served, in the order of their codes. */
 #ifndef SERVED_H
 #define SERVED_H
 
 #include "../include/log_gate.h"
 
 static const uint8_t served[] = {
-    LOG_GATE_READ_BYTES, LOG_GATE_WRITE_BYTES, LOG_GATE_WRITE_BYTES_MASKED, LOG_GATE_READ_BYTES_EX, LOG_GATE_WRITE_BYTES_EX,
-    LOG_GATE_WRITE_BYTES_MASKED_EX, LOG_GATE_SET_UP_SCOPE, LOG_GATE_SET_UP_RECORDER, LOG_GATE_SET_UP_SCOPE_EX,
-    LOG_GATE_SET_UP_RECORDER_EX, LOG_GATE_SEND_COMMAND, LOG_GATE_QUERY_TABLE, LOG_GATE_DESCRIBE, LOG_GATE_START_RECORDER,
-    LOG_GATE_STOP_RECORDER, LOG_GATE_RECORDER_STATUS, LOG_GATE_QUERY_BUFFER, LOG_GATE_READ_SCOPE, LOG_GATE_COMMAND_RESULT,
-    LOG_GATE_DESCRIBE_BRIEFLY, LOG_GATE_QUERY_BUFFER_EX, LOG_GATE_READ_1, LOG_GATE_READ_2, LOG_GATE_READ_4,
-    LOG_GATE_STRING_LENGTH, LOG_GATE_READ_1_EX, LOG_GATE_READ_2_EX, LOG_GATE_READ_4_EX, LOG_GATE_WRITE_1, LOG_GATE_WRITE_2,
-    LOG_GATE_WRITE_1_MASKED, LOG_GATE_STRING_LENGTH_EX, LOG_GATE_WRITE_4, LOG_GATE_WRITE_2_MASKED,
+#define COMMAND(code, name, statuses) code,
+#include "reachable.h"
 };
+
+#define COMMAND(code, name, statuses) _Static_assert(LOG_GATE_##name == code, "the header has another code");
+#include "reachable.h"
 
 #endif

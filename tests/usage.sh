@@ -23,6 +23,11 @@ refuses ./bench one two
 refuses tests/run.sh
 refuses ./test fly
 refuses ./test long times
+refuses ./test times fly
+refuses ./test times line fly
+refuses ./test times 'l.ne'
+refuses ./test times ""
+refuses ./test times long
 for word in 'names ' 'names PATH ' 'play FILE '; do
     ./run --help | grep -q "^\./run $word" || fail "./run --help does not list what it can do"
 done

@@ -67,7 +67,7 @@ impl Counts {
 
 impl Watch for Counts {
     fn answered(&mut self, command: u8, status: u8) {
-        let name = rows::command_name(command);
+        let name = rows::command_name(&self.commands, command);
         count(&mut self.commands, &name, usize::from(status));
     }
 
@@ -87,12 +87,13 @@ impl Watch for Counts {
         let status = usize::from(status);
         count(&mut self.panel, &rows::panel_name(panel, standing), status);
         if in_message {
-            count(&mut self.panel, &rows::in_message_name(panel), status);
+            let name = rows::in_message_name(panel.letter());
+            count(&mut self.panel, &name, status);
         }
     }
 
     fn frame_answered(&mut self, function: u8, exception: u8) {
-        let name = rows::function_name(function);
+        let name = rows::function_name(&self.functions, function);
         count(&mut self.functions, &name, usize::from(exception));
     }
 

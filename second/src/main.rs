@@ -37,7 +37,11 @@ mod order_test;
 #[cfg(test)]
 mod panel_test;
 #[cfg(test)]
+mod play_test;
+#[cfg(test)]
 mod recorder_test;
+#[cfg(test)]
+mod script_test;
 #[cfg(test)]
 mod staples_test;
 #[cfg(test)]

@@ -20,9 +20,10 @@ mod scope;
 mod served;
 mod strings;
 mod tables;
-mod wire;
+pub mod wire;
 
 use crate::areas::{BUFFER, BUFFER_LENGTH};
+use crate::reachable;
 use crate::rng::Rng;
 use plan::Plan;
 
@@ -31,6 +32,8 @@ const SHOWN: usize = 256;
 
 pub struct Maker {
     rng: Rng,
+    /// The commands served, in their order.
+    served: Vec<u8>,
     lines: Vec<String>,
     /// The data length the reader of the script expects.
     expected: usize,
@@ -87,6 +90,7 @@ const STEPS: [(u64, Step); 37] = [
 pub fn script(seed: u64, operations: usize) -> String {
     let mut maker = Maker {
         rng: Rng::new(seed),
+        served: reachable::commands().into_iter().map(|row| row.0).collect(),
         lines: vec![format!("# seed {seed}")],
         expected: 0,
         plan: None,

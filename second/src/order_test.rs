@@ -1,20 +1,9 @@
 //! "the first that applies in this order": messages that two or more rows of
 //! the refusals' table fit.
 
-use crate::line::{stuffed, sum_byte};
-use crate::message::fast_length;
+use crate::line::stuffed;
+use crate::make::wire::literals;
 use crate::target::Target;
-
-/// The literals of a message with its right sum.
-fn literals(command: u8, data: &[u8]) -> Vec<u8> {
-    let mut literals = vec![command];
-    if fast_length(command).is_none() {
-        literals.push(data.len() as u8);
-    }
-    literals.extend_from_slice(data);
-    literals.push(sum_byte(&literals));
-    literals
-}
 
 /// The status of the only answer to the literals.
 fn status(target: &mut Target, literals: &[u8]) -> u8 {

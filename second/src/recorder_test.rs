@@ -137,16 +137,20 @@ fn check(derived: &Recorder, told: &Told, memory: &[u8], other: &[u8]) {
     assert_eq!(u64::from(derived.start_index()), index);
 }
 
+/// A recorder that runs without a trigger and takes a set at every tick.
+fn running_on(samples: u16) -> Recorder {
+    let mut setup = any_setup(&mut Rng::new(u64::from(samples)));
+    setup.mode = 0;
+    setup.samples = samples;
+    setup.divider = 0;
+    started(setup)
+}
+
 /// Set numbers do not wrap at 65,536, nor anywhere.
 #[test]
 fn long_runs() {
-    let mut rng = Rng::new(1);
-    let mut setup = any_setup(&mut rng);
-    setup.mode = 0;
-    setup.samples = 7;
-    setup.divider = 0;
     let mut memory = vec![0; MEMORY];
-    let mut recorder = started(setup);
+    let mut recorder = running_on(7);
     recorder.ticks(65_540, &mut memory);
     assert_eq!(recorder.start_index(), (65_540 % 7) as u16);
     recorder.ticks(u64::MAX, &mut memory);
@@ -158,13 +162,8 @@ fn long_runs() {
 /// A stop, then a start: the run before is forgotten, the buffer stays.
 #[test]
 fn starts_afresh() {
-    let mut rng = Rng::new(2);
-    let mut setup = any_setup(&mut rng);
-    setup.mode = 0;
-    setup.samples = 2;
-    setup.divider = 0;
     let mut memory = vec![0x55; MEMORY];
-    let mut recorder = started(setup);
+    let mut recorder = running_on(2);
     recorder.ticks(3, &mut memory);
     assert_eq!(recorder.start_index(), 1);
     recorder.stop();

@@ -4,7 +4,7 @@
 //!
 //! A name is one of
 //! - `document.Pairing.paired`: a declaration of specs/ or proofs/ of a crate; `document.Pairing` is a file of them;
-//! - `link::Receiver::take`: a function, a type or a constant of a crate's src/;
+//! - `line_receiver::Receiver::take`: a function, a type or a constant of a crate's src/;
 //! - `document/must-fail/signs_swapped`: a must-fail edit.
 
 use std::fs;

@@ -139,10 +139,11 @@ fn table(seen: &BTreeMap<Key, Work>) -> String {
     let mut rows: Vec<(&str, Spent)> = crates.into_iter().collect();
     rows.sort_by_key(|(_, spent)| std::cmp::Reverse(spent.proofs + spent.edits));
     rows.push(("all", all));
-    let mut text = String::from("| CPU seconds  | proofs | edits | number |\n|--------------|-------:|------:|-------:|\n");
+    let width = rows.iter().map(|(name, _)| name.len()).fold(12, usize::max);
+    let mut text = format!("| {:width$} | proofs | edits | number |\n|-{:-<width$}-|-------:|------:|-------:|\n", "CPU seconds", "");
     for (name, spent) in rows {
         let seconds = |ticks: u64| ticks / TICKS_A_SECOND;
-        text += &format!("| {name:12} | {:6} | {:5} | {:6} |\n", seconds(spent.proofs), seconds(spent.edits), spent.number);
+        text += &format!("| {name:width$} | {:6} | {:5} | {:6} |\n", seconds(spent.proofs), seconds(spent.edits), spent.number);
     }
     text
 }

@@ -8,7 +8,7 @@ use lib.Seq.{sets, getD-take}
 use Rattle.document.specs.Numbers.{mostData}
 use Rattle.document.specs.Areas.{bytesAt}
 use Rattle.memory_ranges.proofs.Copies.{stored-append}
-use Rattle.recorder_history.proofs.Bytes.{take-sets}
+use Rattle.memory_ranges.proofs.Stored.{take-sets}
 use Rattle.bytes_fields.proofs.Ranges.{bytes-length, bytes-append, bytes-cons}
 use Rattle.state_block.specs.Places.{bodyPlace, commandPlace, stateLength}
 

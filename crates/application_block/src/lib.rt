@@ -15,13 +15,13 @@ use application_state::COLLECTED;
 use application_state::ENDED;
 use application_state::WAITING;
 use bytes_fields::put_byte;
+use bytes_widths::usize_of_u8;
+use memory_ranges::copy_in;
 use state_block::APPLICATION;
 use state_block::BODY;
 use state_block::COMMAND;
 use state_block::COUNT;
 use state_block::RESULT;
-use memory_ranges::copy_in;
-use bytes_widths::usize_of_u8;
 
 pub fn is_pending(state: &[u8]) -> bool
     requires { ⌜ stateLength ≤ length (now state) ⌝ }

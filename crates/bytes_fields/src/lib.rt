@@ -1,13 +1,18 @@
 // The fields of a block of bytes: numbers lowest byte first, at a width that is known, read and written without a loop.
 ghost use mathlib.Core.Path.{_≡_};
+ghost use mathlib.Core.Bool.{true};
 ghost use mathlib.Core.List.{[], _∷_};
 ghost use Prim.Native.Nat.{_+_, _≤_, _<_};
 ghost use lib.ListN.{length, set, replicate};
 ghost use lib.Seq.{sets};
 ghost use Rattle.document.specs.Areas.{bytesAt};
 ghost use Rattle.document.specs.Values.{number, littleEndian};
+ghost use Rattle.document.specs.Variables.{definitionWidth};
 use bytes_widths::u16_of_u8;
 use bytes_widths::u32_of_u8;
+
+// A stored definition: its size, and its address in four bytes, as an EX setup's data part has them.
+pub const DEFINITION_WIDTH: usize = 5;
 
 pub fn word_at(block: &[u8], at: usize) -> u16
     requires { ⌜ at + 2 ≤ length (now block) ⌝ }
@@ -49,6 +54,15 @@ pub fn put_long(block: &mut [u8], at: usize, x: u32)
     block[at + 1] = (x / 256 % 256) as u8;
     block[at + 2] = (x / 256 / 256 % 256) as u8;
     block[at + 3] = (x / 256 / 256 / 256 % 256) as u8;
+}
+
+// A definition, where it is stored.
+pub fn put_definition(block: &mut [u8], at: usize, size: u8, address: u32)
+    requires { ⌜ at + definitionWidth true ≤ length (now block) ⌝ }
+    ensures { λ _. ⌜ now (block .exit) ≡ sets (now (block .entry)) at (size ∷ littleEndian 4 address) ⌝ }
+{
+    block[at] = size;
+    put_long(block, at + 1, address);
 }
 
 // The six bytes with which both a target's block and a reader's begin.

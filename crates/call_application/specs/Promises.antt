@@ -9,20 +9,15 @@ use lib.ListN.{length}
 use lib.Seq.{sets}
 use Rattle.document.specs.Numbers.{taken}
 use Rattle.document.specs.Application.{newCommand, collectBuffer}
-use Rattle.line_wire.specs.declared.Written.{Written}
 use Rattle.application_state.specs.State.{Command, applicationOf, collectedCommand, endedCommand}
-use Rattle.state_parts.specs.State.{Target, withApplication}
+use Rattle.state_parts.specs.State.{withInstruments, Target, withApplication}
 use Rattle.state_block.specs.Layout.{decodedApplication, decoded, encoded}
 use Rattle.call_checks.specs.Promises.{collectNumber, reportNumber}
+use Rattle.call_application.specs.declared.Collected.{Collected}
 
 -- the link, the scope and the recorder know nothing of the gate's own program
 abbrev pub withCommand : Target → Command → Target
-withCommand t c =
-    record {
-      receiver = t .receiver;
-      body = t .body;
-      instruments = withApplication (t .instruments) c;
-    }
+withCommand t c = withInstruments t (withApplication (t .instruments) c)
 
 abbrev pub collectedTarget : Target → Target
 collectedTarget t = withCommand t (collectedCommand (t .instruments .application))
@@ -30,7 +25,7 @@ collectedTarget t = withCommand t (collectedCommand (t .instruments .application
 abbrev pub reportedTarget : ℕ → Target → Target
 reportedTarget result t = withCommand t (endedCommand result (t .instruments .application))
 
-pub record CollectDone (block buffer : List ℕ) (r : Written) (after told : List ℕ) : Type 0 where
+pub record CollectDone (block buffer : List ℕ) (r : Collected) (after told : List ℕ) : Type 0 where
   pub result :
       r
       ≡ cond (eqb (collectNumber block buffer) taken)

@@ -3,17 +3,23 @@ ghost use Rattle.call_application.specs.Promises.{CollectDone, ReportDon
 use call_checks::collect_refusal;
 use call_checks::report_refusal;
 use codes_table::TAKEN;
-use line_wire::Written;
 
-pub fn collect(state: &mut [u8], out: &mut [u8]) -> Written
+// What a collection gave: its number, and how many bytes the command has; 0 where none waits.
+#[repr(C)]
+pub struct Collected {
+    pub refusal: u8,
+    pub length: usize,
+}
+
+pub fn collect(state: &mut [u8], out: &mut [u8]) -> Collected
     ensures { λ r. ⌜ CollectDone (now (state .entry)) (now (out .entry)) r (now (state .exit)) (now (out .exit)) ⌝ }
 {
     let refusal = collect_refusal(state, out);
     if refusal != TAKEN {
-        return Written { refusal, length: 0 };
+        return Collected { refusal, length: 0 };
     }
     let length = application_block::collect(state, out);
-    Written {
+    Collected {
         refusal: TAKEN,
         length,
     }

@@ -14,7 +14,7 @@ use Rattle.state_block.specs.Places.{stateLength}
 use Rattle.state_block.specs.Layout.{decoded, encoded}
 use Rattle.call_byte.proofs.Stores.{target-over}
 use Rattle.call_block.specs.declared.Going.{Going}
-use Rattle.call_block.specs.Going.{walkAt, walk, Further, Gone}
+use Rattle.call_block.specs.Going.{walkAt, walk, TookNext, Gone}
 
 -- ---- a turn
 

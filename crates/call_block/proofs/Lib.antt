@@ -1,4 +1,4 @@
 -- The laws, lowest first.
-pub mod Further
+pub mod TookNext
 pub mod Ends
 pub mod Promised

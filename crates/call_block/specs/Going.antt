@@ -15,7 +15,7 @@ walkAt taken written block memory buffer =
     record { taken = taken; written = written; next = decoded block; memory = memory; buffer = buffer }
 
 -- bytes from a place on are taken: the walk goes on to the same end
-pub record Further (bytes : List ℕ) (from at : ℕ) (r : Going) (block memory buffer after left told : List ℕ) : Type 0 where
+pub record TookNext (bytes : List ℕ) (from at : ℕ) (r : Going) (block memory buffer after left told : List ℕ) : Type 0 where
   pub goes :
       walked (walkAt from at block memory buffer) (drop from bytes)
       ≡ walked (walkAt (r .taken) (r .written) after left told) (drop (r .taken) bytes)

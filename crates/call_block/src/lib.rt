@@ -6,15 +6,15 @@ ghost use Rattle.document.specs.Numbers.{answerRoom};
 ghost use Rattle.state_parts.specs.Within.{Within};
 ghost use Rattle.state_block.specs.Places.{stateLength};
 ghost use Rattle.state_block.specs.Layout.{decoded};
-ghost use Rattle.call_block.specs.Going.{Further, Gone};
+ghost use Rattle.call_block.specs.Going.{TookNext, Gone};
 ghost use Rattle.call_block.specs.Promises.{BlockDone};
 use call_byte::Heard;
 use call_byte::hear;
 use call_checks::byte_refusal;
+use call_quiet::pass_over;
 use codes_table::ANSWER_ROOM;
 use codes_table::TAKEN;
 use serve_message::respond;
-use call_quiet::pass_over;
 
 // The number with which a block is refused, or 0; how many of its bytes were taken, and how many bytes of answers were written.
 #[repr(C)]
@@ -31,7 +31,7 @@ struct Going {
 }
 
 // The bytes from a place on that only count, or do nothing, and behind them one more, whose answer stands behind those before it.
-fn go_on(
+fn take_next(
     state: &mut [u8],
     bytes: &[u8],
     from: usize,
@@ -40,7 +40,7 @@ fn go_on(
     at: usize,
 ) -> Going
     requires { ⌜ (stateLength ≤ length (now state)) × Within (decoded (now state)) (now memory) × (from < length (now bytes)) × (at + answerRoom ≤ length (now answers)) ⌝ }
-    ensures { λ r. ⌜ Further (now (bytes .entry)) from at r (now (state .entry)) (now (memory .entry)) (now (answers .entry)) (now (state .exit)) (now (memory .exit)) (now (answers .exit)) ⌝ }
+    ensures { λ r. ⌜ TookNext (now (bytes .entry)) from at r (now (state .entry)) (now (memory .entry)) (now (answers .entry)) (now (state .exit)) (now (memory .exit)) (now (answers .exit)) ⌝ }
 {
     let next = pass_over(state, bytes, from);
     if next == bytes.len() {
@@ -66,14 +66,14 @@ fn go_on(
 }
 
 // "It takes bytes while 132 bytes of room are left, and no longer"
-fn go_through(state: &mut [u8], bytes: &[u8], memory: &mut [u8], answers: &mut [u8]) -> Going
+fn take_while_room(state: &mut [u8], bytes: &[u8], memory: &mut [u8], answers: &mut [u8]) -> Going
     requires { ⌜ (stateLength ≤ length (now state)) × Within (decoded (now state)) (now memory) ⌝ }
     ensures { λ r. ⌜ Gone (now (bytes .entry)) r (now (state .entry)) (now (memory .entry)) (now (answers .entry)) (now (state .exit)) (now (memory .exit)) (now (answers .exit)) ⌝ }
 {
     let mut taken = 0;
     let mut written = 0;
     while taken < bytes.len() && ANSWER_ROOM <= answers.len() - written {
-        let going = go_on(state, bytes, taken, memory, answers, written);
+        let going = take_next(state, bytes, taken, memory, answers, written);
         taken = going.taken;
         written = going.written;
     }
@@ -91,7 +91,7 @@ pub fn block(state: &mut [u8], bytes: &[u8], memory: &mut [u8], answers: &mut [u
             written: 0,
         };
     }
-    let going = go_through(state, bytes, memory, answers);
+    let going = take_while_room(state, bytes, memory, answers);
     BlockTaken {
         refusal: TAKEN,
         taken: going.taken,

@@ -10,10 +10,10 @@ use Rattle.document.specs.Numbers.{mostData, taken}
 use Rattle.document.specs.Gate.{Outcome}
 use Rattle.bytes_fields.proofs.Ranges.{sets-same}
 use Rattle.line_receiver.specs.declared.Receiver.{Receiver}
-use Rattle.line_receiver.specs.declared.Taken.{Taken as StepTaken}
+use Rattle.line_receiver.specs.declared.Reaction.{Reaction}
 use Rattle.line_receiver.specs.declared.Event.{Event}
 use Rattle.line_receiver.specs.declared.Event.the-variants.{Nothing, Keep, Whole}
-use Rattle.line_receiver.specs.Report.{Held}
+use Rattle.line_receiver.specs.Report.{HeldMessage}
 use Rattle.line_receiver.specs.Step.{stepped}
 use Rattle.line_receiver.proofs.Places.{kept-in-body}
 use Rattle.state_parts.specs.State.{Target, gateOf}
@@ -27,16 +27,15 @@ use Rattle.state_block.specs.Places.{bodyPlace, stateLength}
 use Rattle.state_block.proofs.Kept.{encoded-decoded}
 use Rattle.state_block.proofs.Stored.{quiet-stored, keep-stored, instruments-stored}
 use Rattle.call_checks.specs.Promises.{byteNumber}
-use Rattle.call_byte.specs.declared.Taken.{Taken}
 use Rattle.call_byte.specs.Heard.{heardOf, answeredBy}
 use Rattle.call_byte.specs.Promises.{Turned, ByteTaken}
 use Rattle.call_byte.proofs.Stores.{target-over}
 
 -- ---- a byte is heard
 
-module _ (block : List ℕ) (b : ℕ) (long : stateLength ≤ length block) (small : (i : ℕ) → getD block i 0 < 256) (step : StepTaken) (is-step : step ≡ stepped (decodedReceiver block) b) where
+module _ (block : List ℕ) (b : ℕ) (long : stateLength ≤ length block) (small : (i : ℕ) → getD block i 0 < 256) (step : Reaction) (is-step : step ≡ stepped (decodedReceiver block) b) where
   pub event-of : (e : Event) → step .event ≡ e → stepped (decodedReceiver block) b .event ≡ e
-  event-of e h = ap (λ (s : StepTaken). s .event) (sym is-step) ∙ h
+  event-of e h = ap (λ (s : Reaction). s .event) (sym is-step) ∙ h
 
   -- what is kept, by the event
   by-kept : (e : Event) → step .event ≡ e → sets block 0 (encoded (keptBy (withReceiver (decoded block) (stepped (decodedReceiver block) b .next)) e)) ≡ sets block 0 (encoded (hearing (decoded block) b))
@@ -45,7 +44,7 @@ module _ (block : List ℕ) (b : ℕ) (long : stateLength ≤ length block) (sma
   headed : (after : List ℕ) → after ≡ sets block 0 (encodedReceiver (step .next)) → after ≡ sets block 0 (encoded (withReceiver (decoded block) (stepped (decodedReceiver block) b .next)))
   headed after e =
       e
-      ∙ ap (λ (s : StepTaken). sets block 0 (encodedReceiver (s .next))) is-step
+      ∙ ap (λ (s : Reaction). sets block 0 (encodedReceiver (s .next))) is-step
       ∙ quiet-stored block long small (stepped (decodedReceiver block) b .next)
 
   pub nothing-heard : (after : List ℕ) → step .event ≡ Nothing → after ≡ sets block 0 (encodedReceiver (step .next)) → after ≡ sets block 0 (encoded (hearing (decoded block) b))
@@ -61,7 +60,7 @@ module _ (block : List ℕ) (b : ℕ) (long : stateLength ≤ length block) (sma
       → after ≡ sets block 0 (encoded (hearing (decoded block) b))
   keep-heard after at byte h e =
       e
-      ∙ ap (λ (s : StepTaken). set (sets block 0 (encodedReceiver (s .next))) (bodyPlace + at) byte) is-step
+      ∙ ap (λ (s : Reaction). set (sets block 0 (encodedReceiver (s .next))) (bodyPlace + at) byte) is-step
       ∙ keep-stored block long small (stepped (decodedReceiver block) b .next) at byte (place-in-body at byte h)
       ∙ by-kept (Keep at byte) h
 

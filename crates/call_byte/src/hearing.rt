@@ -1,20 +1,15 @@
 // A byte of the line in the block: the receiver takes it.
-ghost use mathlib.Core.Path.{_≡_};
 ghost use Prim.Native.Nat.{_≤_};
 ghost use lib.ListN.{length};
-ghost use lib.Seq.{sets};
-ghost use Rattle.line_receiver.specs.Step.{stepped};
 ghost use Rattle.state_block.specs.Places.{stateLength};
-ghost use Rattle.state_block.specs.Layout.{decoded, decodedReceiver, encoded};
-ghost use Rattle.state_byte.specs.Turn.{hearing};
-ghost use Rattle.call_byte.specs.Heard.{heardOf};
+ghost use Rattle.call_byte.specs.Heard.{Hears};
 use bytes_fields::put_byte;
+use bytes_widths::usize_of_u8;
+use line_receiver::Event;
+use serve_message::Whole;
 use state_block::BODY;
 use state_block::put_receiver;
 use state_block::receiver_in;
-use line_receiver::Event;
-use serve_message::Whole;
-use bytes_widths::usize_of_u8;
 
 // What a byte brought: nothing to answer, or a whole message.
 pub enum Heard {
@@ -25,7 +20,7 @@ pub enum Heard {
 // The receiver is stored, and at most one byte of the body.
 pub fn hear(state: &mut [u8], byte: u8) -> Heard
     requires { ⌜ stateLength ≤ length (now state) ⌝ }
-    ensures { λ r. ⌜ (r ≡ heardOf (stepped (decodedReceiver (now (state .entry))) byte .event)) × (now (state .exit) ≡ sets (now (state .entry)) 0 (encoded (hearing (decoded (now (state .entry))) byte))) ⌝ }
+    ensures { λ r. ⌜ Hears (now (state .entry)) byte r (now (state .exit)) ⌝ }
 {
     let receiver = receiver_in(state);
     let taken = receiver.step(byte);

@@ -2,9 +2,8 @@
 ghost use mathlib.Core.Path.{_≡_};
 ghost use Rattle.document.specs.Calls.{byteRefusal, tickRefusal};
 ghost use Rattle.call_checks.specs.Promises.{blockSound, ResetDone, Checked, collectNumber, reportNumber};
-use application_state::MOST_RESULT;
 use application_block::is_collected;
-use state_block::STATE_LENGTH;
+use application_state::MOST_RESULT;
 use codes_table::ANSWER_ROOM;
 use codes_table::MEMORY_REFUSED;
 use codes_table::MOST_DATA;
@@ -13,11 +12,12 @@ use codes_table::ROOM_REFUSED;
 use codes_table::STATE_REFUSED;
 use codes_table::TAKEN;
 use memory_ranges::MEMORY_END;
+use state_block::is_long_enough;
 
 pub fn reset(state: &mut [u8]) -> u8
     ensures { λ r. ⌜ ResetDone (now (state .entry)) r (now (state .exit)) ⌝ }
 {
-    if state.len() < STATE_LENGTH {
+    if !is_long_enough(state) {
         return STATE_REFUSED;
     }
     state_block::reset(state);
@@ -27,7 +27,7 @@ pub fn reset(state: &mut [u8]) -> u8
 fn is_sound(state: &[u8]) -> bool
     ensures { λ r. ⌜ r ≡ blockSound (now (state .entry)) ⌝ }
 {
-    if state.len() < STATE_LENGTH {
+    if !is_long_enough(state) {
         return false;
     }
     state_bounds::is_sound(state)

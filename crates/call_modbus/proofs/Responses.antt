@@ -10,7 +10,7 @@ use lib.Seq.{length-sets}
 use Rattle.document.specs.Numbers.{done}
 use Rattle.document.specs.Areas.{bytesAt}
 use Rattle.document.specs.Frames.{stationIn, functionByte, firstIn, quantityIn}
-use Rattle.document.specs.Modbus.{functionIn, exceptionTo, carriedOut, told, answerTo, modbusRoom}
+use Rattle.document.specs.Modbus.{functionIn, exceptionTo, carriedOut, functionData, answerTo, modbusRoom}
 use Rattle.document.specs.declared.Function.{Function}
 use Rattle.document.specs.declared.Function.the-variants.{ReadRegisters, WriteRegister, WriteRegisters, MaskRegister, Other}
 use Rattle.document.proofs.Cases.{split}
@@ -33,11 +33,11 @@ module _ (frame memory out : List ℕ) {function : Function} (asked : function �
         memory-left = rw (← expected, ne-eqb exception done some);
       }
 
-  pub served : (after left : List ℕ) → exception ≡ done → Put (stationIn frame ∷ functionByte frame ∷ told function frame memory) out r after → left ≡ carriedOut function frame memory
+  pub served : (after left : List ℕ) → exception ≡ done → Put (stationIn frame ∷ functionByte frame ∷ functionData function frame memory) out r after → left ≡ carriedOut function frame memory
       → Responded frame memory out r left after
   served after left none p l =
       record {
-        answer = rw (← expected, eq-eqb exception done none) (subst (λ (f : Function). Put (stationIn frame ∷ functionByte frame ∷ told f frame memory) out r after) asked p);
+        answer = rw (← expected, eq-eqb exception done none) (subst (λ (f : Function). Put (stationIn frame ∷ functionByte frame ∷ functionData f frame memory) out r after) asked p);
         memory-left = rw (← expected, eq-eqb exception done none) (l ∙ ap (λ (f : Function). carriedOut f frame memory) asked);
       }
 
@@ -46,7 +46,7 @@ module _ (frame memory out : List ℕ) {function : Function} (asked : function �
 range-short : (l : List ℕ) (at n : ℕ) → length (bytesAt l at n) ≤ n
 range-short l at n = omega (arith, length-take n (drop at l))
 
-told-short : (f : Function) (frame memory : List ℕ) → exceptionTo f frame memory ≡ done → length (told f frame memory) ≤ 251
+told-short : (f : Function) (frame memory : List ℕ) → exceptionTo f frame memory ≡ done → length (functionData f frame memory) ≤ 251
 told-short ReadRegisters frame memory none =
     let part : List ℕ = bytesAt memory (2 * firstIn frame) (2 * quantityIn frame) in
     omega (arith, reading-right frame (accepted ReadRegisters frame memory none .value), turned-short part, range-short memory (2 * firstIn frame) (2 * quantityIn frame))

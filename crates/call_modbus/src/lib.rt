@@ -14,14 +14,14 @@ use codes_table::MEMORY_REFUSED;
 use codes_table::ROOM_REFUSED;
 use codes_table::STATION_REFUSED;
 use codes_table::TAKEN;
+use line_wire::Written;
+use memory_ranges::MEMORY_END;
 use modbus_frames::exception_to;
 use modbus_frames::function_of;
 use modbus_frames::is_silenced;
 use modbus_functions::carry_out;
 use modbus_functions::tell;
 use modbus_functions::tell_exception;
-use line_wire::Written;
-use memory_ranges::MEMORY_END;
 use sealing::seal;
 
 pub const ROOM: usize = 256;

@@ -7,7 +7,7 @@ use borrow.Author.Tests.{eqb-true}
 use lib.Dec.{eqb}
 use Rattle.document.specs.Numbers.{done}
 use Rattle.document.specs.Bytes.{AllBytes}
-use Rattle.document.specs.Recorder.{Recorder, recorderStarted}
+use Rattle.document.specs.Recorder.{Recorder, isRunning, recorderStarted}
 use Rattle.document.specs.Recorder.Recorder.{absent, planned}
 use Rattle.document.specs.Gate.{Gate, withRecorder}
 use Rattle.document.specs.Panel.{panelPrepares, panelStarts}
@@ -35,7 +35,7 @@ module _ (g : Gate) (r : RecorderState) (is : g .recorder ≡ recorderOf r) wher
   unfolding panelPrepares prepareStatus
   prepare-means setup =
       split (eqb (givenStatus (recorderOf r) setup) done)
-      (λ none. rw (is, none) (ap (withRecorder g) (sym (prepared-means r false setup (given-taken r setup (eqb-true _ _ none))))))
+      (λ none. rw (is, none) (ap (withRecorder g) (sym (prepared-means (isRunning (recorderOf r)) false setup (given-taken r setup (eqb-true _ _ none))))))
       (λ some. rw (is, some) refl)
 
   pub start-means : panelStarts g .gate ≡ withRecorder g (recorderOf (startedState r))
@@ -44,5 +44,5 @@ module _ (g : Gate) (r : RecorderState) (is : g .recorder ≡ recorderOf r) wher
 pub given-within : (r : RecorderState) (setup : List ℕ) → AllBytes setup → RecorderWithin r → RecorderWithin (givenNext r setup)
 given-within r setup all w =
     split (eqb (givenStatus (recorderOf r) setup) done)
-    (λ none. rw none (recorder-prepared false setup all r (given-taken r setup (eqb-true _ _ none))))
+    (λ none. rw none (recorder-prepared false setup all (isRunning (recorderOf r)) (given-taken r setup (eqb-true _ _ none))))
     (λ some. rw some w)

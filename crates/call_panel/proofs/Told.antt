@@ -8,6 +8,7 @@ use lib.Dec.{ltb}
 use lib.ListN.{length}
 use Rattle.document.specs.Numbers.{mostData, done, messageTooLong}
 use Rattle.document.specs.Answer.{Answer}
+use Rattle.document.specs.Recorder.{isRunning}
 use Rattle.document.specs.Gate.{Gate}
 use Rattle.document.specs.Commands.{served, prepare}
 use Rattle.document.specs.Panel.{prepareLines, panelPrepares, panelStarts}
@@ -31,7 +32,8 @@ unfolding served panelStarts
 start-said g s body = refl
 
 -- accepted, the data part is
-pub given-taken : (r : RecorderState) (setup : List ℕ) → givenStatus (recorderOf r) setup ≡ done → prepareStatus (recorderOf r) false setup ≡ done
+pub given-taken : (r : RecorderState) (setup : List ℕ) → givenStatus (recorderOf r) setup ≡ done
+    → prepareStatus (isRunning (recorderOf r)) false setup ≡ done
 given-taken r setup fine =
     split (ltb mostData (length setup))
     (λ long. let e : _≡_ {A = ℕ} messageTooLong done = rw long at fine in let z : ⊥ = omega arith in absurd z)

@@ -8,14 +8,15 @@ use lib.Dec.{eqb, ltb}
 use lib.ListN.{length}
 use lib.Seq.{sets}
 use Rattle.document.specs.Numbers.{mostData, done, messageTooLong, taken}
-use Rattle.document.specs.Recorder.{Recorder}
+use Rattle.document.specs.Recorder.{Recorder, isRunning}
 use Rattle.document.specs.Panel.{panelPrepares, panelStarts}
 use Rattle.recorder_state.specs.declared.state.Recorder.{Recorder as RecorderState}
 use Rattle.recorder_state.specs.State.{recorderOf}
 use Rattle.recorder_state.specs.Calls.{startedState}
 use Rattle.recorder_state.specs.Preparing.{prepareStatus, preparedState}
-use Rattle.state_parts.specs.State.{Target, gateOf, withRecorder}
-use Rattle.state_block.specs.Layout.{decoded, encoded}
+use Rattle.state_parts.specs.State.{withInstruments, Target, gateOf, withRecorder}
+use Rattle.state_block.specs.Layout.{decodedRecorder, decoded, encoded}
+use Rattle.state_block.specs.Changes.{blockWithRecorder}
 use Rattle.call_checks.specs.Promises.{panelNumber}
 use Rattle.call_panel.specs.declared.Said.{Said}
 
@@ -23,19 +24,19 @@ use Rattle.call_panel.specs.declared.Said.{Said}
 
 -- "above 64 bytes 0x83", before all that a setup is answered with
 abbrev pub givenStatus : Recorder → List ℕ → ℕ
-givenStatus r setup = cond (ltb mostData (length setup)) messageTooLong (prepareStatus r false setup)
+givenStatus r setup = cond (ltb mostData (length setup)) messageTooLong (prepareStatus (isRunning r) false setup)
 
 abbrev pub givenNext : RecorderState → List ℕ → RecorderState
 givenNext r setup = cond (eqb (givenStatus (recorderOf r) setup) done) (preparedState false setup) r
 
+-- what a preparing that nothing refuses says, and the block behind it
+pub record Prepared (block setup : List ℕ) (status : ℕ) (after : List ℕ) : Type 0 where
+  pub said : status ≡ givenStatus (recorderOf (decodedRecorder block)) setup
+  pub state : after ≡ blockWithRecorder block (givenNext (decodedRecorder block) setup)
+
 -- the link, the scope, the application command and the tables know nothing of the panel
 abbrev pub recorderChanged : Target → RecorderState → Target
-recorderChanged t r =
-    record {
-      receiver = t .receiver;
-      body = t .body;
-      instruments = withRecorder (t .instruments) r;
-    }
+recorderChanged t r = withInstruments t (withRecorder (t .instruments) r)
 
 abbrev pub preparedTarget : List ℕ → Target → Target
 preparedTarget setup t = recorderChanged t (givenNext (t .instruments .recorder) setup)

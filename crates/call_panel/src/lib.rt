@@ -2,18 +2,17 @@
 ghost use mathlib.Core.Path.{_≡_};
 ghost use Prim.Native.Nat.{_≤_};
 ghost use lib.ListN.{length};
-ghost use lib.Seq.{sets};
 ghost use Rattle.recorder_state.specs.State.{recorderOf};
-ghost use Rattle.state_parts.specs.State.{withRecorder};
-ghost use Rattle.state_block.specs.Places.{scopePlace, stateLength};
-ghost use Rattle.state_block.specs.Layout.{decodedRecorder, decodedInstruments, encodedInstruments};
-ghost use Rattle.call_panel.specs.Promises.{givenStatus, givenNext, PrepareDone, StartDone};
-use state_block::recorder_in;
+ghost use Rattle.state_block.specs.Places.{stateLength};
+ghost use Rattle.state_block.specs.Layout.{decodedRecorder};
+ghost use Rattle.call_panel.specs.Promises.{givenStatus, Prepared, PrepareDone, StartDone};
 use call_checks::check;
 use codes_table::DONE;
 use codes_table::MESSAGE_TOO_LONG;
 use codes_table::MOST_DATA;
 use codes_table::TAKEN;
+use recorder_state::prepare_status;
+use state_block::recorder_runs;
 use state_given::store_given;
 
 // Whether the call refused, and what the panel is told; 0 where it refused.
@@ -30,13 +29,13 @@ fn given_status(state: &[u8], setup: &[u8]) -> u8
     if setup.len() > MOST_DATA {
         return MESSAGE_TOO_LONG;
     }
-    recorder_in(state).prepare_status(false, setup)
+    prepare_status(recorder_runs(state), false, setup)
 }
 
 // A state within its bounds. What is answered with an error stores nothing.
 fn prepare_within(state: &mut [u8], setup: &[u8]) -> u8
     requires { ⌜ stateLength ≤ length (now state) ⌝ }
-    ensures { λ r. ⌜ (r ≡ givenStatus (recorderOf (decodedRecorder (now (state .entry)))) (now (setup .entry))) × (now (state .exit) ≡ sets (now (state .entry)) scopePlace (encodedInstruments (withRecorder (decodedInstruments (now (state .entry))) (givenNext (decodedRecorder (now (state .entry))) (now (setup .entry)))))) ⌝ }
+    ensures { λ r. ⌜ Prepared (now (state .entry)) (now (setup .entry)) r (now (state .exit)) ⌝ }
 {
     let status = given_status(state, setup);
     if status != DONE {

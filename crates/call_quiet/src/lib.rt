@@ -4,19 +4,20 @@ ghost use Prim.Native.Nat.{_+_, _-_, _%_, _<_, _≤_};
 ghost use lib.ListN.{length, drop};
 ghost use lib.Seq.{sets};
 ghost use Rattle.document.specs.Sum.{total};
-ghost use Rattle.state_byte.specs.Quiet.{plainAhead, passedReceiver, lastKept, dataAhead, passedOver, passedBy};
+ghost use Rattle.state_byte.specs.Quiet.{plainAhead, lastKept, dataAhead};
 ghost use Rattle.state_block.specs.Places.{stateLength};
-ghost use Rattle.state_block.specs.Layout.{decodedBody, decodedInstruments, decoded, encoded};
+ghost use Rattle.state_block.specs.Layout.{decoded, encoded};
+ghost use Rattle.call_quiet.specs.Passed.{keptRun, Passed};
+use bytes_widths::usize_of_u8;
+use codes_table::MOST_DATA;
+use line_receiver::DATA_NEXT;
+use line_receiver::IDLE;
+use line_wire::doubling::PLUS;
+use line_wire::sum::added;
+use memory_ranges::copy_in;
 use state_block::BODY;
 use state_block::put_receiver;
 use state_block::receiver_in;
-use codes_table::MOST_DATA;
-use line_wire::doubling::PLUS;
-use line_wire::sum::added;
-use line_receiver::DATA_NEXT;
-use line_receiver::IDLE;
-use memory_ranges::copy_in;
-use bytes_widths::usize_of_u8;
 
 // Behind the bytes, up to a place, that come before a 0x2B.
 fn plain_end(bytes: &[u8], from: usize, end: usize) -> usize
@@ -48,7 +49,7 @@ fn summed(sum: u8, bytes: &[u8]) -> u8
 // A run of data bytes goes into the body, counted and summed. The last that is kept is behind it, so the phase stays.
 fn keep_run(state: &mut [u8], head: line_receiver::Receiver, run: &[u8])
     requires { ⌜ (stateLength ≤ length (now state)) × (head .have + length (now run) ≤ 63) ⌝ }
-    ensures { λ _. ⌜ now (state .exit) ≡ sets (now (state .entry)) 0 (encoded (record { receiver = passedReceiver head (now (run .entry)); body = sets (decodedBody (now (state .entry))) (head .have) (now (run .entry)); instruments = decodedInstruments (now (state .entry)) })) ⌝ }
+    ensures { λ _. ⌜ now (state .exit) ≡ sets (now (state .entry)) 0 (encoded (keptRun (decoded (now (state .entry))) head (now (run .entry)))) ⌝ }
 {
     let counted = head.have + run.len() as u8;
     let sum = summed(head.sum, run);
@@ -96,7 +97,7 @@ fn data_ahead(head: line_receiver::Receiver, left: usize) -> usize
 // Behind the bytes from a place on that only count, or do nothing.
 pub fn pass_over(state: &mut [u8], bytes: &[u8], from: usize) -> usize
     requires { ⌜ (stateLength ≤ length (now state)) × (from ≤ length (now bytes)) ⌝ }
-    ensures { λ r. ⌜ (r ≡ from + passedOver (decoded (now (state .entry))) (drop from (now (bytes .entry)))) × (now (state .exit) ≡ sets (now (state .entry)) 0 (encoded (passedBy (decoded (now (state .entry))) (drop from (now (bytes .entry)))))) ⌝ }
+    ensures { λ r. ⌜ Passed (now (state .entry)) (now (bytes .entry)) from r (now (state .exit)) ⌝ }
 {
     let head = receiver_in(state);
     if head.waiting != 0 {

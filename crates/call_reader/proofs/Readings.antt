@@ -12,7 +12,7 @@ use Rattle.document.specs.Numbers.{mostData, taken, stateRefused, roomRefused, 
 use Rattle.document.specs.Areas.{bytesAt}
 use Rattle.document.specs.AnswerReader.{readBuffer, readRoomRefusal}
 use Rattle.document.proofs.Cases.{split}
-use Rattle.recorder_history.proofs.Bytes.{bytes-behind}
+use Rattle.memory_ranges.proofs.Stored.{bytes-behind}
 use Rattle.line_reader.specs.declared.head.Asked.{Asked}
 use Rattle.line_reader.specs.declared.head.Head.{Head}
 use Rattle.line_reader.specs.declared.head.Stepped.{Stepped}

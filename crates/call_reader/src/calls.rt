@@ -13,6 +13,7 @@ use crate::head::put_reader_head;
 use crate::places::BODY;
 use crate::places::READER_LENGTH;
 use bytes_fields::put_byte;
+use bytes_widths::usize_of_u8;
 use codes_table::EXPECTED_REFUSED;
 use codes_table::MOST_DATA;
 use codes_table::ROOM_REFUSED;
@@ -21,7 +22,6 @@ use codes_table::SUM_REFUSED;
 use codes_table::TAKEN;
 use line_reader::Asked;
 use memory_ranges::copy_in;
-use bytes_widths::usize_of_u8;
 
 // What a byte brought: with `whole` 1, an answer's status and how many data stand in the lent buffer.
 #[repr(C)]

@@ -10,22 +10,23 @@ ghost use Rattle.state_block.specs.Layout.{encoded};
 ghost use Rattle.call_register.specs.Promises.{registerNumber, RegisterDone};
 use bytes_fields::clear;
 use bytes_fields::put_byte;
-use state_block::LIST;
-use state_block::STATE_LENGTH;
-use state_block::TABLES;
 use codes_table::LIST_REFUSED;
 use codes_table::MEMORY_REFUSED;
 use codes_table::STATE_REFUSED;
 use codes_table::TAKEN;
-use tables_lists::is_list_good;
 use memory_ranges::MEMORY_END;
 use memory_ranges::copy_in;
+use state_block::LIST;
+use state_block::STATE_LENGTH;
+use state_block::TABLES;
+use state_block::is_long_enough;
+use tables_lists::is_list_good;
 use tables_state::PAIR;
 
 fn register_refusal(state: &[u8], memory: &[u8], list: &[u8]) -> u8
     ensures { λ r. ⌜ r ≡ registerNumber (now (state .entry)) (now (memory .entry)) (now (list .entry)) ⌝ }
 {
-    if state.len() < STATE_LENGTH {
+    if !is_long_enough(state) {
         return STATE_REFUSED;
     }
     if memory.len() != MEMORY_END {

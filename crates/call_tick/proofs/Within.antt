@@ -6,18 +6,18 @@ use Prim.Native.Nat.{ℕ, _-_, _<_, _≤_}
 use native.Mathlib.Omega.{arith}
 use lib.ListN.{length, getD, set}
 use lib.Seq.{sets, length-sets, set-getD}
-use Rattle.document.specs.Areas.{bytesAt}
+use Rattle.document.specs.Areas.{memoryEnd, bytesAt}
 use Rattle.document.specs.Values.{number, littleEndian}
 use Rattle.document.specs.Stores.{stored}
 use Rattle.document.specs.Run.{placeBegins, setOf, setTaken}
 use Rattle.document.specs.Recorder.{tickedMemory}
-use Rattle.recorder_history.proofs.Bytes.{bytes-behind}
+use Rattle.memory_ranges.proofs.Stored.{bytes-behind}
 use Rattle.bytes_fields.proofs.Ranges.{bytes-append, sets-same}
 use Rattle.bytes_fields.proofs.Numbers.{number-kept}
 use Rattle.recorder_plans.specs.State.{planOf}
 use Rattle.recorder_plans.specs.Bounds.{planSound}
 use Rattle.recorder_runs.specs.declared.run.Run.{Run}
-use Rattle.recorder_runs.specs.State.{runOf, runKept}
+use Rattle.recorder_runs.specs.State.{runOf, runKept, withWait}
 use Rattle.recorder_runs.specs.Bounds.{runSound}
 use Rattle.recorder_state.specs.declared.state.Recorder.{Recorder}
 use Rattle.recorder_state.specs.State.{recorderOf}
@@ -32,14 +32,9 @@ use Rattle.state_block.specs.Layout.{decodedPlan, decodedRun, decodedRecorder, 
 use Rattle.state_block.proofs.Parts.{sets-two}
 use Rattle.state_block.proofs.Stored.{same-instruments, run-stored, instruments-stored}
 use Rattle.call_tick.specs.Promises.{tickedTarget}
+use Rattle.call_tick.specs.Parts.{Due, Took, Ticked}
 
 module _ (block memory : List ℕ) where
-  -- the block and the memory behind a tick
-  abbrev pub Ticked : List ℕ → List ℕ → Type 0
-  Ticked after left =
-      (after ≡ sets block 0 (encoded (tickedTarget (decoded block) memory)))
-      × (left ≡ tickedMemory (recorderOf (decodedRecorder block)) memory)
-
   module _ (long : stateLength ≤ length block) (small : (i : ℕ) → getD block i 0 < 256) where
     recorder-left : (next : Recorder) → tickedState (decodedRecorder block) memory ≡ next
         → sets block scopePlace (encodedInstruments (withRecorder (decodedInstruments block) next))
@@ -48,13 +43,18 @@ module _ (block memory : List ℕ) where
         ap (λ (r : Recorder). sets block scopePlace (encodedInstruments (withRecorder (decodedInstruments block) r))) (sym e)
         ∙ instruments-stored block long small (withRecorder (decodedInstruments block) (tickedState (decodedRecorder block) memory))
 
-    nothing-left : Leaves (decodedRecorder block) memory (decodedRecorder block) memory → Ticked block memory
-    nothing-left l = (sym (same-instruments block long small) ∙ recorder-left (decodedRecorder block) (l .0), sym (l .1))
+    nothing-left : Leaves (decodedRecorder block) memory (decodedRecorder block) memory → Ticked block memory block memory
+    nothing-left l =
+        record {
+          state = sym (same-instruments block long small) ∙ recorder-left (decodedRecorder block) (l .0);
+          memory-left = sym (l .1);
+        }
 
     run-left : (run : Run) (after left : List ℕ) → after ≡ sets block runPlace (encodedRun run)
         → Leaves (decodedRecorder block) memory (record { ready = decodedRecorder block .ready; plan = decodedRecorder block .plan; run = run }) left
-        → Ticked after left
-    run-left run after left e l = (e ∙ run-stored block long small run ∙ recorder-left _ (l .0), sym (l .1))
+        → Ticked block memory after left
+    run-left run after left e l =
+        record { state = e ∙ run-stored block long small run ∙ recorder-left _ (l .0); memory-left = sym (l .1) }
 
     -- ---- the wait alone
 
@@ -74,15 +74,7 @@ module _ (block memory : List ℕ) where
     wait-stored : (wait : ℕ)
         → sets block waitPlace (littleEndian 2 wait)
         ≡ sets block runPlace
-        (encodedRun
-        (record {
-          running = decodedRun block .running;
-          full = decodedRun block .full;
-          watch = decodedRun block .watch;
-          wait = wait;
-          place = decodedRun block .place;
-          value = decodedRun block .value;
-        }))
+        (encodedRun (withWait (decodedRun block) wait))
     unfolding encodedRun
     wait-stored wait =
         let behind = littleEndian 2 (number (bytesAt block placePlace 2)) ++ littleEndian 4 (number (bytesAt block valuePlace 4)) in
@@ -95,7 +87,7 @@ module _ (block memory : List ℕ) where
 
     -- ---- the cases, by what is read
 
-    pub absent-ticked : getD block recorderPlace 0 ≡ 0 → Ticked block memory
+    pub absent-ticked : getD block recorderPlace 0 ≡ 0 → Ticked block memory block memory
     unfolding decodedRecorder
     absent-ticked e = nothing-left (absent-leaves (decodedRecorder block) memory e)
 
@@ -103,7 +95,7 @@ module _ (block memory : List ℕ) where
       recorder-sound : recorder.sound (decodedRecorder block) ≡ true
       recorder-sound = parts-of (decoded block) s .recorder-part
 
-      pub stopped-ticked : run .running ≡ 0 → Ticked block memory
+      pub stopped-ticked : run .running ≡ 0 → Ticked block memory block memory
       unfolding decodedRecorder
       stopped-ticked z =
           nothing-left (stopped-leaves (decodedRecorder block) memory recorder-sound n (ap (λ (r : Run). r .running) (sym e) ∙ z))
@@ -112,7 +104,7 @@ module _ (block memory : List ℕ) where
         goes : decodedRun block .running ≡ 0 → ⊥
         goes z = g (ap (λ (r : Run). r .running) e ∙ z)
 
-        pub waiting-ticked : 0 < run .wait → (after : List ℕ) → after ≡ sets block waitPlace (littleEndian 2 (run .wait - 1)) → Ticked after memory
+        pub waiting-ticked : 0 < run .wait → (after : List ℕ) → after ≡ sets block waitPlace (littleEndian 2 (run .wait - 1)) → Ticked block memory after memory
         unfolding decodedRecorder
         waiting-ticked w after stored-there =
             let same : run .wait ≡ decodedRun block .wait = ap (λ (r : Run). r .wait) e in
@@ -121,23 +113,25 @@ module _ (block memory : List ℕ) where
             (waiting-leaves (decodedRecorder block) memory recorder-sound n goes (omega arith))
 
         -- what a set that is due asks for
-        pub due-sound : (planSound (decodedPlan block) ≡ true) × (runSound (decodedPlan block) run ≡ true) × (run .running ≡ 1)
+        pub due-lent : length memory ≡ memoryEnd → Due block run memory
         unfolding decodedRecorder
-        due-sound =
-            let p = parts (decodedRecorder block) memory recorder-sound n in (
-              p .plan,
-              ap (runSound (decodedPlan block)) e ∙ p .run,
-              ap (λ (r : Run). r .running) e ∙ runs (decodedRecorder block) memory recorder-sound n goes,
-            )
+        due-lent whole =
+            let p = parts (decodedRecorder block) memory recorder-sound n in
+            record {
+              long = long;
+              plan-sound = p .plan;
+              run-sound = ap (runSound (decodedPlan block)) e ∙ p .run;
+              runs = ap (λ (r : Run). r .running) e ∙ runs (decodedRecorder block) memory recorder-sound n goes;
+              memory-whole = whole;
+            }
 
-        pub due-ticked : run .wait ≤ 0 → (next : Run) (after left : List ℕ) → next ≡ runKept (setTaken (planOf (decodedPlan block)) (runOf run) memory)
-            → after ≡ sets block runPlace (encodedRun next)
-            → left ≡ stored memory (placeBegins (planOf (decodedPlan block)) (run .place)) (setOf (planOf (decodedPlan block)) memory) → Ticked after left
+        pub due-ticked : run .wait ≤ 0 → (next : Run) (after left : List ℕ) → Took block run memory next left
+            → after ≡ sets block runPlace (encodedRun next) → Ticked block memory after left
         unfolding decodedRecorder
-        due-ticked z next after left q a l =
+        due-ticked z next after left took a =
             let d = due-leaves (decodedRecorder block) memory recorder-sound n goes (sym (ap (λ (r : Run). r .wait) e) ∙ omega arith) in
             let same : next ≡ runKept (setTaken (planOf (decodedPlan block)) (runOf (decodedRun block)) memory) =
-            q ∙ ap (λ (r : Run). runKept (setTaken (planOf (decodedPlan block)) (runOf r) memory)) e in
-            let there = l ∙ ap (λ (r : Run). stored memory (placeBegins (planOf (decodedPlan block)) (r .place)) (setOf (planOf (decodedPlan block)) memory)) e in
+            took .run-after ∙ ap (λ (r : Run). runKept (setTaken (planOf (decodedPlan block)) (runOf r) memory)) e in
+            let there = took .memory-left ∙ ap (λ (r : Run). stored memory (placeBegins (planOf (decodedPlan block)) (r .place)) (setOf (planOf (decodedPlan block)) memory)) e in
             let t = run-left (runKept (setTaken (planOf (decodedPlan block)) (runOf (decodedRun block)) memory)) after _ (a ∙ ap (λ (r : Run). sets block runPlace (encodedRun r)) same) d in
-            (t .0, there ∙ t .1)
+            record { state = t .state; memory-left = there ∙ t .memory-left }

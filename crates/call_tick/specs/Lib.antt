@@ -1,2 +1,3 @@
--- What a tick promises.
+-- What a tick promises, and what its parts do.
 pub mod Promises
+pub mod Parts

@@ -10,18 +10,13 @@ use Rattle.document.specs.Numbers.{taken}
 use Rattle.document.specs.Recorder.{tickedMemory}
 use Rattle.recorder_state.specs.State.{recorderOf}
 use Rattle.recorder_taking.specs.Tick.{tickedState}
-use Rattle.state_parts.specs.State.{Target, withRecorder}
+use Rattle.state_parts.specs.State.{withInstruments, Target, withRecorder}
 use Rattle.state_block.specs.Layout.{decoded, encoded}
 use Rattle.call_checks.specs.Promises.{tickNumber}
 
 -- the link and the scope know nothing of a tick
 abbrev pub tickedTarget : Target → List ℕ → Target
-tickedTarget t memory =
-    record {
-      receiver = t .receiver;
-      body = t .body;
-      instruments = withRecorder (t .instruments) (tickedState (t .instruments .recorder) memory);
-    }
+tickedTarget t memory = withInstruments t (withRecorder (t .instruments) (tickedState (t .instruments .recorder) memory))
 
 pub record TickTaken (block memory : List ℕ) (r : ℕ) (after left : List ℕ) : Type 0 where
   pub result : r ≡ tickNumber block memory

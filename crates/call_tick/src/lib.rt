@@ -3,21 +3,19 @@ ghost use mathlib.Core.Path.{_≡_};
 ghost use mathlib.Core.Bool.{true};
 ghost use Prim.Native.Nat.{_≤_};
 ghost use lib.ListN.{length};
-ghost use lib.Seq.{sets};
 ghost use Rattle.document.specs.Areas.{memoryEnd};
-ghost use Rattle.document.specs.Stores.{stored};
-ghost use Rattle.document.specs.Run.{placeBegins, setOf, setTaken};
-ghost use Rattle.document.specs.Recorder.{tickedMemory};
-ghost use Rattle.recorder_plans.specs.State.{planOf};
-ghost use Rattle.recorder_plans.specs.Bounds.{planSound};
-ghost use Rattle.recorder_runs.specs.State.{runOf, runKept};
-ghost use Rattle.recorder_runs.specs.Bounds.{runSound};
-ghost use Rattle.recorder_state.specs.State.{recorderOf};
 ghost use Rattle.state_parts.specs.Bounds.{sound};
 ghost use Rattle.state_block.specs.Places.{stateLength};
-ghost use Rattle.state_block.specs.Layout.{decoded, encoded, decodedPlan, decodedRecorder};
-ghost use Rattle.call_tick.specs.Promises.{tickedTarget, TickTaken};
+ghost use Rattle.state_block.specs.Layout.{decoded};
+ghost use Rattle.call_tick.specs.Promises.{TickTaken};
+ghost use Rattle.call_tick.specs.Parts.{Due, Took, Ticked};
 use bytes_fields::put_word;
+use bytes_widths::usize_of_u8;
+use call_checks::tick_refusal;
+use codes_table::TAKEN;
+use recorder_runs::Run;
+use recorder_taking::take_set;
+use recorder_taking::trigger_value;
 use state_block::READY;
 use state_block::RECORDED;
 use state_block::RECORDED_DEFINITIONS;
@@ -25,17 +23,11 @@ use state_block::WAIT;
 use state_block::plan_in;
 use state_block::put_run;
 use state_block::run_in;
-use call_checks::tick_refusal;
-use codes_table::TAKEN;
-use recorder_runs::Run;
-use recorder_taking::take_set;
-use recorder_taking::trigger_value;
-use bytes_widths::usize_of_u8;
 
 // A set that is due goes to its place of the ring, by the plan and the definitions in the block. The result is the run after it.
 fn take(state: &[u8], memory: &mut [u8], run: Run) -> Run
-    requires { ⌜ (stateLength ≤ length (now state)) × (planSound (decodedPlan (now state)) ≡ true) × (runSound (decodedPlan (now state)) run ≡ true) × (run .running ≡ 1) × (length (now memory) ≡ memoryEnd) ⌝ }
-    ensures { λ r. ⌜ (r ≡ runKept (setTaken (planOf (decodedPlan (now (state .entry)))) (runOf run) (now (memory .entry)))) × (now (memory .exit) ≡ stored (now (memory .entry)) (placeBegins (planOf (decodedPlan (now (state .entry)))) (run .place)) (setOf (planOf (decodedPlan (now (state .entry)))) (now (memory .entry)))) ⌝ }
+    requires { ⌜ Due (now state) run (now memory) ⌝ }
+    ensures { λ r. ⌜ Took (now (state .entry)) run (now (memory .entry)) r (now (memory .exit)) ⌝ }
 {
     let plan = plan_in(state);
     let value = trigger_value(plan, memory);
@@ -47,7 +39,7 @@ fn take(state: &[u8], memory: &mut [u8], run: Run) -> Run
 // A tick that nothing refuses: only the recorder's run changes, and while it waits only the wait.
 fn tick_within(state: &mut [u8], memory: &mut [u8])
     requires { ⌜ (stateLength ≤ length (now state)) × (sound (decoded (now state)) ≡ true) × (length (now memory) ≡ memoryEnd) ⌝ }
-    ensures { λ _. ⌜ (now (state .exit) ≡ sets (now (state .entry)) 0 (encoded (tickedTarget (decoded (now (state .entry))) (now (memory .entry))))) × (now (memory .exit) ≡ tickedMemory (recorderOf (decodedRecorder (now (state .entry)))) (now (memory .entry))) ⌝ }
+    ensures { λ _. ⌜ Ticked (now (state .entry)) (now (memory .entry)) (now (state .exit)) (now (memory .exit)) ⌝ }
 {
     if state[READY] == 0 {
         return;

@@ -5,8 +5,9 @@ use Prim.Native.Nat.{ℕ, _<_}
 use Rattle.document.specs.Services.{serviceOf}
 use Rattle.document.specs.Kinds.{kindOf}
 use Rattle.codes_table.specs.declared.reading.Length.the-variants.{Told}
-use Rattle.codes_table.specs.Table.{lengthOf, entryOf, lengthIn, serviceIn}
-use Rattle.codes_table.specs.Rows.{rowAt, rowNumber}
+use Rattle.codes_table.specs.Table.{lengthOf, lengthIn, serviceIn}
+use Rattle.codes_rows.specs.Rule.{entryOf}
+use Rattle.codes_rows.specs.Rows.{rowAt, rowNumber}
 use Rattle.codes_table.proofs.Entries.{same-rule}
 
 pub row-at : (c : ℕ) → c < 256 → rowAt (rowNumber c) ≡ entryOf c

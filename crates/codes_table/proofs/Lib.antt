@@ -1,5 +1,4 @@
 -- What follows from the definitions: the table is its rule, and its columns say what the rule put into them.
 pub mod Entries
-pub mod Matches
 pub mod Commands
 pub mod Numbering

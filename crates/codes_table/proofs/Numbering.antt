@@ -4,7 +4,7 @@ use Prim.Native.Nat.{ℕ, _<_}
 use lib.ListN.{length}
 use Rattle.document.specs.declared.Operation.{Operation}
 use Rattle.document.specs.declared.Operation.the-variants.{Unserved, Describe, DescribeBriefly, Read, Write, WriteMasked, SetUpScope, ReadScope, PrepareAndStart, Start, Stop, Status, QueryBuffer, SendCommand, CommandResult, TellTable, MeasureString}
-use Rattle.codes_table.specs.Numbering.{operations, numberOf, operationNumbered}
+use Rattle.codes_rows.specs.Numbering.{operations, numberOf, operationNumbered}
 use Rattle.codes_table.proofs.Entries.{same-rule}
 
 pub operation-of-number : (o : Operation) → (o ≡ Unserved → ⊥) → operationNumbered (numberOf o) ≡ o

@@ -1,10 +1,8 @@
 // The numbers of the protocol: what is known of each of the 256 commands, the statuses, the numbers with which calls refuse, and the
 // limits of a message and its answer.
 mod calls;
-mod columns;
 mod limits;
 mod reading;
-mod rows;
 mod statuses;
 mod table;
 

@@ -1,9 +1,8 @@
 -- A message behind whatever happened since reset, answered as a fresh link would; and nothing by half. `Demands` quotes the demand.
 use mathlib.Core.Path.{_≡_, sym, ap, _∙_}
-use mathlib.Core.Bool.{true, false}
 use mathlib.Core.List.{List, [], _∷_, _++_}
 use Prim.Native.Nat.{ℕ}
-use Rattle.document.specs.Message.{Message, wellFormed, onWire}
+use Rattle.document.specs.Message.{Message}
 use Rattle.document.specs.Answer.{Answer, answerOnWire}
 use Rattle.document.specs.Gate.{Gate}
 use Rattle.document.specs.Commands.{answered}
@@ -11,23 +10,22 @@ use Rattle.document.specs.Happenings.{Happening, Since, after, afterAll}
 use Rattle.document.specs.Happenings.Happening.{byte}
 use Rattle.document.specs.Blocks.{answersOnWire}
 use Rattle.laws_happenings.proofs.Blocks.{wire-one}
-use Rattle.line_receiver.specs.Runs.{oddRun}
-use Rattle.laws_happenings.specs.Bytes.{Bytes, bytesOf, besideBytes}
+use Rattle.laws_happenings.specs.Bytes.{Bytes, besideBytes}
 use Rattle.laws_happenings.specs.Resync.{Resynchronised, ByHalf}
-use Rattle.laws_happenings.proofs.Resync.{resync-even, resync-next, nothing-by-half}
-use Rattle.demands.specs.House.{House}
-use Rattle.demands.specs.Stands.{Stands}
+use Rattle.laws_happenings.proofs.Resync.{nothing-by-half}
+use Rattle.demands.specs.Board.{Board}
+use Rattle.demands.specs.AsDefined.{AsDefined}
 use Rattle.demands.specs.Fresh.{AnsweredFresh, NothingByHalf}
 use Rattle.demands.specs.Fresh.NothingByHalf.{nothing, whole}
 
--- an answer more, in a house that stands for the definition
+-- an answer more, in a board that stands for the definition
 one-more : (s : Since) (now : List ℕ) → now ≡ answersOnWire (s .answers) → (a b : Answer) → a ≡ b
     → answersOnWire (s .answers ++ (a ∷ [])) ≡ now ++ answerOnWire b
 one-more s now stands a b e = wire-one (s .answers) a ∙ (λ j. sym stands j ++ answerOnWire (e j))
 
--- a message behind a house that stands for the definition
-module _ (start before last : House) (s : Since) (hs : List Happening) (b : ℕ) (m : Message) (now : Stands start s)
-    (then : Stands before (afterAll s hs)) (end : Stands last (after (afterAll s hs) (byte b))) where
+-- a message behind a board that stands for the definition
+module _ (start before last : Board) (s : Since) (hs : List Happening) (b : ℕ) (m : Message) (now : AsDefined start s)
+    (then : AsDefined before (afterAll s hs)) (end : AsDefined last (after (afterAll s hs) (byte b))) where
   pub answered-fresh : Resynchronised s hs b m → AnsweredFresh start before last (afterAll s (besideBytes hs) .gate) m
   answered-fresh resync =
       record {
@@ -41,7 +39,7 @@ module _ (start before last : House) (s : Since) (hs : List Happening) (b : ℕ)
       }
 
 -- "A command is never carried out unless its whole message, with a right sum, stands in the bytes since one start byte."
-module _ (h last : House) (s : Since) (b : ℕ) (now : Stands h s) (end : Stands last (after s (byte b))) where
+module _ (h last : Board) (s : Since) (b : ℕ) (now : AsDefined h s) (end : AsDefined last (after s (byte b))) where
   pub by-half : Bytes (s .bytes ++ (b ∷ [])) → NothingByHalf h last (s .bytes ++ (b ∷ []))
   by-half bytes = by (nothing-by-half s b bytes)
     where

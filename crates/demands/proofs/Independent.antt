@@ -1,6 +1,6 @@
 -- Two runs since reset: each port depends on the other only through the bytes of the memory that both share.
 use mathlib.Core.Path.{_≡_, refl, sym, ap, subst, _∙_}
-use mathlib.Core.List.{List, []}
+use mathlib.Core.List.{List}
 use Prim.Native.Nat.{ℕ}
 use lib.ListN.{drop}
 use Rattle.document.specs.Areas.{variablesEnd}
@@ -14,30 +14,29 @@ use Rattle.laws_happenings.specs.Ports.{modbusOf, withoutFrames, found, SameBey
 use Rattle.laws_happenings.specs.Ports as definition
 use Rattle.laws_happenings.proofs.ServicePort.{service-same, commands-same}
 use Rattle.laws_happenings.proofs.ModbusPort.{modbus-same}
-use Rattle.demands.specs.House.{House, gateIn}
-use Rattle.demands.specs.Stands.{blank, Stands}
+use Rattle.demands.specs.Board.{Board, gateIn, begun}
+use Rattle.demands.specs.AsDefined.{blank, AsDefined}
 use Rattle.demands.specs.Ports.{SinceReset, SameService}
-use Rattle.demands.proofs.Runs.{Reached, reached-begun}
+use Rattle.demands.proofs.Reached.{Reached, reached-begun}
+use Rattle.demands.proofs.Runs.{run-hands, run-answers}
 use Rattle.demands.proofs.Blocks.{singly, reached-run}
-use Rattle.demands.proofs.Applying.{run-hands}
-use Rattle.demands.proofs.Ports.{run-answers}
 
-module _ (tables : List Table) (memory : List ℕ) (hs : List Happening) (h : House) (r : SinceReset tables memory hs h) where
-  begun : Reached (record { block = r .after; memory = memory; answers = []; commands = []; modbus-answers = [] }) (since (gate tables memory))
-  begun = reached-begun (r .block) memory (r .long) (r .lent) tables (r .after) (r .reset)
+module _ (tables : List Table) (memory : List ℕ) (hs : List Happening) (h : Board) (r : SinceReset tables memory hs h) where
+  start : Reached (begun (r .after) memory) (since (gate tables memory))
+  start = reached-begun (r .block) memory (r .long) (r .lent) tables (r .after) (r .reset)
 
-  run-stands : Stands h (afterAll (since (gate tables memory)) hs)
-  run-stands = reached-run _ h hs (r .run) (since (gate tables memory)) (r .are) begun .stands
+  run-stands : AsDefined h (afterAll (since (gate tables memory)) hs)
+  run-stands = reached-run _ h hs (r .run) (since (gate tables memory)) (r .are) start .stands
 
   run-commands : h .commands ≡ handedOut (since (gate tables memory)) hs
   run-commands =
-      run-hands _ h hs (singly _ h hs (r .run) (since (gate tables memory)) (r .are) begun) (since (gate tables memory)) (r .are) begun
+      run-hands _ h hs (singly _ h hs (r .run) (since (gate tables memory)) (r .are) start) (since (gate tables memory)) (r .are) start
 
   run-modbus : h .modbus-answers ≡ modbusOf (since (gate tables memory)) hs
   run-modbus =
-      run-answers _ h hs (singly _ h hs (r .run) (since (gate tables memory)) (r .are) begun) (since (gate tables memory)) (r .are) begun
+      run-answers _ h hs (singly _ h hs (r .run) (since (gate tables memory)) (r .are) start) (since (gate tables memory)) (r .are) start
 
-module _ (tables : List Table) (memory memory′ : List ℕ) (hs ks : List Happening) (h k : House)
+module _ (tables : List Table) (memory memory′ : List ℕ) (hs ks : List Happening) (h k : Board)
     (one : SinceReset tables memory hs h) (other : SinceReset tables memory′ ks k) where
   pub service-runs : drop variablesEnd memory ≡ drop variablesEnd memory′ → withoutFrames hs ≡ withoutFrames ks
       → found (since (gate tables memory)) hs ≡ found (since (gate tables memory′)) ks → SameService h k

@@ -1,19 +1,17 @@
--- The laws and theorems, lowest first.
-pub mod Goes
-pub mod Outcomes
-pub mod Refused
-pub mod EndsRefused
-pub mod Lends
-pub mod Served
-pub mod Turns
+-- The laws, lowest first; `Demands` says what they come to.
+pub mod Wire
+pub mod Pieces
+pub mod Calls
+pub mod Bytes
+pub mod Reached
+pub mod Besides
 pub mod Runs
 pub mod Walks
+pub mod Blocks
 pub mod Fresh
 pub mod Recorded
 pub mod Recorder
 pub mod Applying
-pub mod Blocks
 pub mod Ports
 pub mod Independent
-pub mod Readings
 pub mod Demands

@@ -1,79 +1,57 @@
--- The second port: what a call leaves of its buffer, and what was answered along a run.
+-- The second port: what a call leaves of its buffer, and of the board.
 use mathlib.Core.Path.{_≡_, sym, ap, subst, _∙_}
-use mathlib.Core.List.{List, [], _++_, append-nil}
+use mathlib.Core.List.{List}
 use Prim.Native.Nat.{ℕ, _≤_}
 use native.Mathlib.Omega.{arith}
 use borrow.Author.Tests.{eqb-true, eqb-false}
 use lib.Dec.{eqb}
 use lib.ListN.{length, drop}
-use lib.Seq.{sets}
+use Rattle.document.specs.Areas.{variablesEnd}
 use Rattle.document.specs.Numbers.{taken}
-use Rattle.document.specs.Gate.{Gate}
-use Rattle.document.specs.Modbus.{modbusAnswer, modbusRoom, modbusRefusal}
-use Rattle.document.specs.Asides.{Aside}
-use Rattle.document.specs.Asides.Aside.{tick, writes, collects, reports, prepares, starts, frames}
-use Rattle.document.specs.Happenings.{Happening, Since}
-use Rattle.document.specs.Happenings.Happening.{byte, aside}
+use Rattle.document.specs.Modbus.{modbusAnswer, modbusRoom}
+use Rattle.document.specs.Asides.Aside.{frames}
 use Rattle.document.proofs.Cases.{split}
-use Rattle.line_wire.specs.declared.Written.{Written}
 use Rattle.line_wire.proofs.Left.{sets-behind}
-use Rattle.call_modbus.specs.Promises.{ModbusDone}
 use Rattle.call_modbus.proofs.Answers.{lent-right}
-use Rattle.laws_happenings.specs.Bytes.{IsBytes, AreBytes}
-use Rattle.laws_happenings.specs.Applying.{ifAny}
-use Rattle.laws_happenings.specs.Ports.{answeredBeside, modbusAt, modbusOf}
-use Rattle.demands.specs.House.{House}
-use Rattle.demands.specs.Run.{Step, Singly}
-use Rattle.demands.specs.Sent.{Sent}
-use Rattle.demands.proofs.Goes.{goes, stays}
-use Rattle.demands.proofs.Served.{servedBeside, modbus-fits, step-byte, step-beside}
-use Rattle.demands.proofs.Runs.{Reached, run-grows}
+use Rattle.laws_modbus.proofs.Kept.{frame-keeps-rest}
+use Rattle.laws_calls.specs.Calls.{Call, Lent, Left, lengthOf, Outcome}
+use Rattle.laws_calls.specs.Promised.{Promised}
+use Rattle.laws_calls.proofs.Settled.{taken-leaves, call-refused}
+use Rattle.laws_calls.proofs.Sends.{modbus-fits}
+use Rattle.demands.specs.Board.{Board}
+use Rattle.demands.specs.Run.{Beside}
+use Rattle.demands.specs.Buffers.{BehindKept}
+use Rattle.demands.specs.Ports.{OnlyVariables}
+use Rattle.demands.proofs.Calls.{next-is}
 
--- ---- refused or not, what lies behind the answer is as it was
+-- refused or not, what lies behind the answer is as it was
+module _ (l : Lent) (station : ℕ) (bytes : List ℕ) (o : Outcome) (p : Promised l (Call.frame station bytes) o) where
+  abbrev c : Call
+  c = Call.frame station bytes
 
-module _ (station : ℕ) (frame memory buffer : List ℕ) (r : Written) (left told : List ℕ) (promised : ModbusDone station frame memory buffer r left told) where
-  pub modbus-sent : Sent modbusRoom buffer (r .length) told
-  modbus-sent =
-      let n : ℕ = modbusRefusal station memory buffer in
-      let answer : List ℕ = modbusAnswer station frame memory in
-      let given : Written = record { refusal = taken; length = length answer } in
-      let kept : Written = record { refusal = n; length = 0 } in
-      let short : length answer ≤ modbusRoom = modbus-fits station frame memory in
-      split (eqb n taken)
+  -- what is left is this
+  behind-kept : (x : Left) → o .left ≡ x → drop (lengthOf x) (x .buffer) ≡ drop (lengthOf x) (l .buffer) → lengthOf x ≤ modbusRoom
+      → BehindKept modbusRoom (l .buffer) (lengthOf (o .left)) (o .left .buffer)
+  behind-kept x is behind fits = subst (λ (k : Left). BehindKept modbusRoom (l .buffer) (lengthOf k) (k .buffer)) (sym is) (record { behind = behind; fits = fits })
+
+  pub modbus-behind : BehindKept modbusRoom (l .buffer) (lengthOf (o .left)) (o .left .buffer)
+  modbus-behind =
+      let known = call-refused l c o p in
+      let answer : List ℕ = modbusAnswer station bytes (l .memory) in
+      let short : length answer ≤ modbusRoom = modbus-fits station bytes (l .memory) in
+      split (eqb (o .number) taken)
       (λ t.
-      let fine : n ≡ taken = eqb-true n taken t in
-      let long : r .length ≡ length answer = ap (λ (w : Written). w .length) (goes n r given kept fine (promised .result)) in
-      let put : told ≡ sets buffer 0 answer = goes n told (sets buffer 0 answer) buffer fine (promised .buffer-told) in
-      let room : length answer ≤ length buffer = omega (arith, short, lent-right station memory buffer fine .room) in
-      record {
-        behind = (λ j. drop (long j) (put j)) ∙ sets-behind answer buffer room ∙ ap (λ (k : ℕ). drop k buffer) (sym long);
-        fits = subst (λ (k : ℕ). k ≤ modbusRoom) (sym long) short;
-      })
-      (λ f.
-      let no : n ≡ taken → ⊥ = eqb-false n taken f in
-      let none : r .length ≡ 0 = ap (λ (w : Written). w .length) (stays n r given kept no (promised .result)) in
-      record {
-        behind = ap (drop (r .length)) (stays n told (sets buffer 0 answer) buffer no (promised .buffer-told));
-        fits = subst (λ (k : ℕ). k ≤ modbusRoom) (sym none) (omega arith);
-      })
+      let fine : o .number ≡ taken = eqb-true (o .number) taken t in
+      let room = lent-right station (l .memory) (l .buffer) (sym (known .number) ∙ fine) .room in
+      behind-kept _ (taken-leaves l c o p fine) (sets-behind answer (l .buffer) (omega (arith, short, room))) short)
+      (λ f. behind-kept _ (known .unchanged (eqb-false (o .number) taken f)) (λ j. l .buffer) (omega arith))
 
--- ---- along a run
-
-module _ (h : House) (s : Since) (r : Reached h s) where
-  served-answers : (a : Aside) → servedBeside h a .modbus-answers ≡ h .modbus-answers ++ answeredBeside (s .gate) a
-  served-answers tick = sym (append-nil (h .modbus-answers))
-  served-answers (writes address bytes) = sym (append-nil (h .modbus-answers))
-  served-answers collects = sym (append-nil (h .modbus-answers))
-  served-answers (reports reported) = sym (append-nil (h .modbus-answers))
-  served-answers (prepares setup) = sym (append-nil (h .modbus-answers))
-  served-answers starts = sym (append-nil (h .modbus-answers))
-  served-answers (frames station frame) = ap (λ (g : Gate). h .modbus-answers ++ ifAny (modbusAnswer station frame (g .memory))) (r .stands .gate)
-
-  step-answers : (e : Happening) (next : House) → IsBytes e → Step h e next → next .modbus-answers ≡ h .modbus-answers ++ modbusAt s e
-  step-answers (byte b) next small step =
-      ap (λ (q : House). q .modbus-answers) (step-byte h (r .long) (r .within) b small next (step .0) (step .1) (step .2)) ∙ sym (append-nil (h .modbus-answers))
-  step-answers (aside a) next are step = ap (λ (q : House). q .modbus-answers) (step-beside h (r .long) (r .within) a next step) ∙ served-answers a
-
-pub run-answers : (h last : House) (hs : List Happening) → Singly h hs last → (s : Since) → AreBytes hs → Reached h s
-    → last .modbus-answers ≡ h .modbus-answers ++ modbusOf s hs
-run-answers = run-grows (λ (q : House). q .modbus-answers) modbusAt step-answers
+-- a frame touches nothing else
+pub frame-only : (station : ℕ) (bytes : List ℕ) (h next : Board) → Beside h (frames station bytes) next → OnlyVariables station bytes h next
+frame-only station bytes h next step =
+    let is = next-is (Call.frame station bytes) h next step in
+    record {
+      block = ap (λ (q : Board). q .block) is;
+      memory = ap (λ (q : Board). q .memory) is;
+      beyond = ap (λ (q : Board). drop variablesEnd (q .memory)) is ∙ frame-keeps-rest station bytes (h .memory);
+    }

@@ -1,4 +1,4 @@
--- The recorder's history of a house: from its start on it goes through the events among what happens, so its buffer holds the
+-- The recorder's history of a board: from its start on it goes through the events among what happens, so its buffer holds the
 -- last sets of them.
 use mathlib.Core.Path.{_≡_, sym, ap, _∙_}
 use mathlib.Core.List.{List}
@@ -15,11 +15,11 @@ use Rattle.recorder_history.specs.History.{PlanFits, begun, after, memoriesLeft
 use Rattle.recorder_history.proofs.History.{history, next-place}
 use Rattle.laws_happenings.specs.Recording.{events, AllUndisturbed}
 use Rattle.laws_happenings.proofs.Follows.{Followed, followed-all, unstarted}
-use Rattle.demands.specs.House.{House, gateIn}
-use Rattle.demands.specs.Stands.{Stands}
+use Rattle.demands.specs.Board.{Board, gateIn}
+use Rattle.demands.specs.AsDefined.{AsDefined}
 use Rattle.demands.specs.Recorded.{Recorded}
 
-module _ (h last : House) (s : Since) (hs : List Happening) (now : Stands h s) (end : Stands last (afterAll s hs)) (size : length (h .memory) ≡ memoryEnd) (p : Plan)
+module _ (h last : Board) (s : Since) (hs : List Happening) (now : AsDefined h s) (end : AsDefined last (afterAll s hs)) (size : length (h .memory) ≡ memoryEnd) (p : Plan)
     (fits : PlanFits p) (just : gateIn h .recorder ≡ planned p started) (quiet : AllUndisturbed s hs) where
   same-memory : s .gate .memory ≡ h .memory
   same-memory = ap (λ (g : Gate). g .memory) (sym (now .gate))

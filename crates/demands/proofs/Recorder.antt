@@ -1,4 +1,4 @@
--- The recorder of a house along a run: an accepted start, a tick, and the ticks behind a trigger.
+-- The recorder of a board along a run: an accepted start, a tick, and the ticks behind a trigger.
 use mathlib.Core.Path.{_≡_, sym, ap, _∙_, subst}
 use mathlib.Core.Bool.{true, false}
 use mathlib.Core.List.{List, [], _∷_, _++_}
@@ -16,38 +16,40 @@ use Rattle.document.specs.Gate.{Gate}
 use Rattle.document.specs.Commands.{answered}
 use Rattle.document.specs.Panel.{panelPrepares, panelStarts}
 use Rattle.document.specs.Asides.{beside}
-use Rattle.document.specs.Asides.Aside.{tick, prepares, starts as starting}
-use Rattle.document.specs.Happenings.{Happening, Since, told, after, afterAll}
+use Rattle.document.specs.Asides.Aside.{tick, prepares, starts}
+use Rattle.document.specs.Happenings.{Happening, Since, afterMessages, after, afterAll}
 use Rattle.document.specs.Happenings.Happening.{byte, aside}
 use Rattle.recorder_history.specs.History as history
 use Rattle.recorder_history.specs.History.{PlanFits, Recording, begun, takesNext, beyondIn, NoneBeyond, TriggersNext, Unstopped}
 use Rattle.recorder_history.proofs.Ticks.{tick-before, tick-behind}
 use Rattle.recorder_history.proofs.Stop.{stops}
 use Rattle.recorder_history.proofs.Beyond.{trigger-at-first, first-triggers}
-use Rattle.document_outcomes.specs.Starts.{starts}
+use Rattle.document_outcomes.specs.Starts.{isStart}
 use Rattle.document_outcomes.proofs.Recording.{start-begins}
-use Rattle.laws_happenings.specs.Recording.{events, ticksOf, preparesAnew, startsAnew, AllUnstarted}
+use Rattle.laws_happenings.specs.Bytes.{withByte}
+use Rattle.laws_happenings.specs.Asides.{preparesAnew, startsAnew}
+use Rattle.laws_happenings.specs.Recording.{events, ticksOf, AllUnstarted}
 use Rattle.laws_happenings.proofs.Panel.{prepare-anew, start-anew}
 use Rattle.laws_happenings.proofs.Ticks.{ticks-counted}
 use Rattle.laws_happenings.proofs.Follows.{followed-all}
-use Rattle.demands.specs.House.{House, gateIn}
-use Rattle.demands.specs.Stands.{Stands}
-use Rattle.demands.specs.Recorder.{Begun, Goes, FiresAtFirst, OnlyItsPlace}
+use Rattle.demands.specs.Board.{Board, gateIn}
+use Rattle.demands.specs.AsDefined.{AsDefined}
+use Rattle.demands.specs.Recorder.{Begun, RunsOn, FiresAtFirst, OnlyItsPlace}
 
-module _ (h last : House) (s : Since) (now : Stands h s) where
+module _ (h last : Board) (s : Since) (now : AsDefined h s) where
   -- the byte that finishes an accepted start
-  pub start-begun : (b : ℕ) → Stands last (after s (byte b)) → (m : Message) (more : List Message) → finishedBy (s .bytes) b ≡ m ∷ more
-      → starts (gateIn h) m ≡ true → Begun last
+  pub start-begun : (b : ℕ) → AsDefined last (after s (byte b)) → (m : Message) (more : List Message) → finishedBy (s .bytes) b ≡ m ∷ more
+      → isStart (gateIn h) m ≡ true → Begun last
   start-begun b end m more finished start =
       let begins = start-begins (gateIn h) m start in
       let gate : gateIn last ≡ answered (gateIn h) m .gate =
       end .gate
-      ∙ ap (λ (ms : List Message). told (record { bytes = s .bytes ++ (b ∷ []); gate = s .gate; answers = s .answers }) ms .gate) finished
+      ∙ ap (λ (ms : List Message). afterMessages (withByte s b) ms .gate) finished
       ∙ ap (λ (g : Gate). answered g m .gate) (sym (now .gate)) in
       record { plan = begins .plan; recorder = ap (λ (g : Gate). g .recorder) gate ∙ begins .recorder }
 
   -- the panel's start, where it starts the recorder anew (2026-06)
-  pub panel-begun : Stands last (after s (aside starting)) → startsAnew (gateIn h) ≡ true → Begun last
+  pub panel-begun : AsDefined last (after s (aside starts)) → startsAnew (gateIn h) ≡ true → Begun last
   unfolding beside
   panel-begun end start =
       let begins = start-anew (gateIn h) start in
@@ -55,14 +57,14 @@ module _ (h last : House) (s : Since) (now : Stands h s) where
       record { plan = begins .0; recorder = ap (λ (g : Gate). g .recorder) gate ∙ begins .1 }
 
   -- and its preparing, where it is accepted
-  pub panel-prepared : (setup : List ℕ) → Stands last (after s (aside (prepares setup))) → preparesAnew (gateIn h) setup ≡ true
+  pub panel-prepared : (setup : List ℕ) → AsDefined last (after s (aside (prepares setup))) → preparesAnew (gateIn h) setup ≡ true
       → gateIn last .recorder ≡ recorderPrepared false setup
   unfolding beside
   panel-prepared setup end accepted =
       ap (λ (g : Gate). g .recorder) (end .gate ∙ ap (λ (g : Gate). panelPrepares g setup .gate) (sym (now .gate))) ∙ prepare-anew (gateIn h) setup accepted
 
   module _ (p : Plan) (r : DocumentRun) (has : gateIn h .recorder ≡ planned p r) where
-    pub tick-touches : PlanFits p → length (h .memory) ≡ memoryEnd → Stands last (after s (aside tick)) → OnlyItsPlace p r h last
+    pub tick-touches : PlanFits p → length (h .memory) ≡ memoryEnd → AsDefined last (after s (aside tick)) → OnlyItsPlace p r h last
     unfolding beside
     tick-touches fits size end =
         let same : gateIn last ≡ beside (gateIn h) tick = end .gate ∙ ap (λ (g : Gate). beside g tick) (sym (now .gate)) in
@@ -79,7 +81,7 @@ module _ (h last : House) (s : Since) (now : Stands h s) where
         }
 
     -- since an accepted start the trigger comes at the first set at or beyond the threshold
-    module _ (size : length (h .memory) ≡ memoryEnd) (hs : List Happening) (quiet : AllUnstarted s hs) (end : Stands last (afterAll s hs)) where
+    module _ (size : length (h .memory) ≡ memoryEnd) (hs : List Happening) (quiet : AllUnstarted s hs) (end : AsDefined last (afterAll s hs)) where
       pub run-fires : r ≡ started → FiresAtFirst p (h .memory) (events s hs) last
       run-fires begins =
           let same-memory : s .gate .memory ≡ h .memory = ap (λ (q : Gate). q .memory) (sym (now .gate)) in
@@ -108,9 +110,9 @@ module _ (h last : House) (s : Since) (now : Stands h s) where
           }
 
     -- the trigger comes at the next tick, and behind that tick these happen
-    module _ (size : length (h .memory) ≡ memoryEnd) (hs : List Happening) (quiet : AllUnstarted s (aside tick ∷ hs)) (end : Stands last (afterAll s (aside tick ∷ hs))) where
+    module _ (size : length (h .memory) ≡ memoryEnd) (hs : List Happening) (quiet : AllUnstarted s (aside tick ∷ hs)) (end : AsDefined last (afterAll s (aside tick ∷ hs))) where
       pub run-stops : TriggersNext p (record { run = r; memory = h .memory }) → Unstopped (events (after s (aside tick)) hs)
-          → Goes p last (ltb (ticksOf hs) (p .postTrigger * suc (p .divider)))
+          → RunsOn p last (ltb (ticksOf hs) (p .postTrigger * suc (p .divider)))
       run-stops triggers unstopped =
           let g : Recording = record { run = r; memory = h .memory } in
           let same-memory : s .gate .memory ≡ h .memory = ap (λ (q : Gate). q .memory) (sym (now .gate)) in

@@ -1,4 +1,4 @@
--- A walk over a block, as houses: from each to the next a byte comes by a call of its own.
+-- A walk over a block, as boards: from each to the next a byte comes by a call of its own.
 use mathlib.Core.Path.{_≡_, refl, sym, ap, subst, _∙_}
 use mathlib.Core.List.{List, [], _∷_, _++_, append-nil, append-assoc}
 use Prim.Native.Nat.{ℕ, suc, _+_, _-_, _<_, _≤_}
@@ -7,7 +7,7 @@ use native.Mathlib.Omega.{arith}
 use borrow.Author.Tests.{ltb-true, ltb-false}
 use lib.Dec.{ltb}
 use lib.ListN.{length, take, drop, length-append, length-take, length-drop}
-use lib.Seq.{sets, length-sets, take-length, drop-drop}
+use lib.Seq.{sets, drop-drop}
 use Rattle.document.specs.Numbers.{answerRoom, taken}
 use Rattle.document.specs.Bytes.{AllBytes}
 use Rattle.document.specs.Message.{finishedBy}
@@ -27,71 +27,43 @@ use Rattle.state_byte.proofs.Walks.{walked-all, walked-short, walked-on}
 use Rattle.state_block.specs.Places.{stateLength}
 use Rattle.state_block.specs.Layout.{decoded, encoded}
 use Rattle.state_block.proofs.Back.{stored-decoded}
-use Rattle.call_byte.specs.Promises.{ByteTaken}
 use Rattle.call_byte.proofs.Stores.{target-over}
 use Rattle.call_byte.proofs.Turns.{byte-taken}
-use Rattle.demands.specs.House.{House}
-use Rattle.demands.specs.Lent.{Piece, lends}
-use Rattle.demands.specs.Stands.{linkIn}
-use Rattle.demands.specs.Run.{Step, Singly, came}
+use Rattle.laws_calls.specs.Calls.{Call, leaves}
+use Rattle.laws_calls.specs.Promised.Promised.{by-byte}
+use Rattle.demands.specs.Board.{Board}
+use Rattle.demands.specs.AsDefined.{linkIn}
+use Rattle.demands.specs.Run.{wholly, Step, Singly, came}
 use Rattle.demands.specs.Run.Singly.{ends, happens}
-use Rattle.demands.proofs.Lends.{whole-back}
-use Rattle.demands.proofs.Served.{servedByte, ready}
-use Rattle.demands.proofs.Turns.{TurnStands, turn-stands}
-use Rattle.demands.proofs.Runs.{Reached, reached-byte}
+use Rattle.demands.proofs.Calls.{served, ready}
+use Rattle.demands.proofs.Bytes.{TurnMeans, turn-means}
+use Rattle.demands.proofs.Reached.{Reached, reached-byte}
 
 -- ---- a byte can be given singly
 
-abbrev whole : List ℕ → Piece
-whole l = record { size = length l; behind = [] }
-
-lends-all : (l : List ℕ) → lends l (whole l) ≡ l
-lends-all l = ap (take (length l)) (append-nil l) ∙ take-length l
-
-module _ (h : House) (s : Since) (r : Reached h s) (b : ℕ) (small : b < 256) (buffer : List ℕ) (room : answerRoom ≤ length buffer) where
+module _ (h : Board) (s : Since) (r : Reached h s) (b : ℕ) (buffer : List ℕ) (room : answerRoom ≤ length buffer) where
   abbrev u : Turn
   u = turn (decoded (h .block)) b (h .memory) buffer
 
-  promised : ByteTaken (h .block) b (h .memory) buffer (record { refusal = taken; length = u .length }) (sets (h .block) 0 (encoded (u .next))) (u .memory) (u .buffer)
-  promised =
-      byte-taken (h .block) b (h .memory) buffer (u .length) (sets (h .block) 0 (encoded (u .next))) (u .memory) (u .buffer) (ready h (r .long) (r .within) .byte-taken buffer room)
-      (record { length = refl; state = refl; memory-left = refl; buffer-told = refl })
+  pub single : Step h (byte b) (served (Call.byte b) h buffer)
+  single =
+      record {
+        buffer = buffer;
+        outcome = record { number = taken; left = leaves (Call.byte b) (wholly h buffer) };
+        promised =
+            by-byte b (record { refusal = taken; length = u .length }) (sets (h .block) 0 (encoded (u .next))) (u .memory) (u .buffer)
+            (byte-taken (h .block) b (h .memory) buffer (u .length) (sets (h .block) 0 (encoded (u .next))) (u .memory) (u .buffer)
+            (ready h (r .long) (r .within) (Call.byte b) buffer room refl)
+            (record { length = refl; state = refl; memory-left = refl; buffer-told = refl }));
+        fine = refl;
+        board = refl;
+      }
 
-  memory-size : length (u .memory) ≡ length (h .memory)
-  memory-size = byte-keeps (decoded (h .block)) (h .memory) buffer (r .within) b small .memory-part .size ∙ sym (r .within .memory-part .size)
+-- ---- a walk, as boards
 
-  pub single : Step h (byte b) (servedByte h b buffer)
-  single = (
-    record {
-      state = whole (h .block);
-      memory = whole (h .memory);
-      buffer = buffer;
-      result = record { refusal = taken; length = u .length };
-      after = sets (h .block) 0 (encoded (u .next));
-      left = u .memory;
-      told = u .buffer;
-      promised =
-          subst (λ (l : List ℕ). ByteTaken l b (lends (h .memory) (whole (h .memory))) buffer (record { refusal = taken; length = u .length }) (sets (h .block) 0 (encoded (u .next))) (u .memory) (u .buffer)) (sym (lends-all (h .block)))
-          (subst (λ (l : List ℕ). ByteTaken (h .block) b l buffer (record { refusal = taken; length = u .length }) (sets (h .block) 0 (encoded (u .next))) (u .memory) (u .buffer)) (sym (lends-all (h .memory))) promised);
-      house =
-          λ j.
-          record {
-            block = sym (whole-back (h .block) (whole (h .block)) (sets (h .block) 0 (encoded (u .next))) (ap length (lends-all (h .block))) (length-sets (h .block) 0 (encoded (u .next)))) j;
-            memory = sym (whole-back (h .memory) (whole (h .memory)) (u .memory) (ap length (lends-all (h .memory))) memory-size) j;
-            answers = h .answers ++ take (u .length) (u .buffer);
-            commands = h .commands;
-            modbus-answers = h .modbus-answers;
-          };
-    },
-    refl,
-    lends-all (h .block),
-  )
-
--- ---- a walk, as houses
-
--- a walk that began at a house has come to this one
-abbrev pub houseAt : House → Walk → House
-houseAt first w =
+-- a walk that began at a board has come to this one
+abbrev pub boardAt : Board → Walk → Board
+boardAt first w =
     record {
       block = sets (first .block) 0 (encoded (w .next));
       memory = w .memory;
@@ -112,15 +84,15 @@ beyond [] ys n = ap (λ (k : ℕ). drop k ys) (zero-add n)
 beyond (x ∷ xs) ys n = ap (λ (k : ℕ). drop k (x ∷ (xs ++ ys))) (longer xs n) ∙ beyond xs ys n
 
 -- a walk has gone from w to its end over some of these bytes, as the document's block does
-pub record Goes (first : House) (w end : Walk) (bytes : List ℕ) (b : Block) : Type 0 where
-  pub singly : Singly (houseAt first w) (came (b .taken) bytes) (houseAt first end)
+pub record Walks (first : Board) (w end : Walk) (bytes : List ℕ) (b : Block) : Type 0 where
+  pub singly : Singly (boardAt first w) (came (b .taken) bytes) (boardAt first end)
   pub taken : end .taken ≡ w .taken + b .taken
   pub written : end .written ≡ w .written + length (b .written)
   pub told : take (end .written) (end .buffer) ≡ take (w .written) (w .buffer) ++ b .written
   pub behind : drop (end .written) (end .buffer) ≡ drop (end .written) (w .buffer)
   pub size : length (end .buffer) ≡ length (w .buffer)
 
-module _ (first : House) (w : Walk) (long : stateLength ≤ length (first .block)) (within : Within (w .next) (w .memory)) (before : w .written ≤ length (w .buffer)) where
+module _ (first : Board) (w : Walk) (long : stateLength ≤ length (first .block)) (within : Within (w .next) (w .memory)) (before : w .written ≤ length (w .buffer)) where
   front-size : length (take (w .written) (w .buffer)) ≡ w .written
   front-size = simp length-take (omega (arith, before))
 
@@ -137,35 +109,35 @@ module _ (first : House) (w : Walk) (long : stateLength ≤ length (first .block
     keeps : Within (byteTurn w b .next) (byteTurn w b .memory)
     keeps = byte-keeps (w .next) (w .memory) rest within b small
 
-    -- a byte, singly, leaves the house that the walk comes to
-    served-onward : servedByte (houseAt first w) b (drop (w .written) (w .buffer)) ≡ houseAt first (onward w (byteTurn w b))
+    -- a byte, singly, leaves the board that the walk comes to
+    served-onward : served (Call.byte b) (boardAt first w) (drop (w .written) (w .buffer)) ≡ boardAt first (onward w (byteTurn w b))
     served-onward =
-        let block : sets (sets (first .block) 0 (encoded (w .next))) 0 (encoded (turn (decoded (houseAt first w .block)) b (w .memory) rest .next)) ≡ sets (first .block) 0 (encoded (v .next)) =
+        let block : sets (sets (first .block) 0 (encoded (w .next))) 0 (encoded (turn (decoded (boardAt first w .block)) b (w .memory) rest .next)) ≡ sets (first .block) 0 (encoded (v .next)) =
         ap (λ (t : Target). sets (sets (first .block) 0 (encoded (w .next))) 0 (encoded (turn t b (w .memory) rest .next))) there
         ∙ target-over (first .block) (w .next) (v .next) long (within-fits (w .next) (w .memory) within) (within-fits (v .next) (v .memory) keeps) in
         let sent : take (w .written + v .length) (take (w .written) (w .buffer) ++ v .buffer) ≡ take (w .written) (w .buffer) ++ take (v .length) (v .buffer) =
         ap (λ (n : ℕ). take (n + v .length) (take (w .written) (w .buffer) ++ v .buffer)) (sym front-size) ∙ seam (take (w .written) (w .buffer)) (v .buffer) (v .length) in
-        let answers : (first .answers ++ take (w .written) (w .buffer)) ++ take (turn (decoded (houseAt first w .block)) b (w .memory) rest .length) (turn (decoded (houseAt first w .block)) b (w .memory) rest .buffer) ≡ first .answers ++ take (w .written + v .length) (take (w .written) (w .buffer) ++ v .buffer) =
+        let answers : (first .answers ++ take (w .written) (w .buffer)) ++ take (turn (decoded (boardAt first w .block)) b (w .memory) rest .length) (turn (decoded (boardAt first w .block)) b (w .memory) rest .buffer) ≡ first .answers ++ take (w .written + v .length) (take (w .written) (w .buffer) ++ v .buffer) =
         ap (λ (t : Target). (first .answers ++ take (w .written) (w .buffer)) ++ take (turn t b (w .memory) rest .length) (turn t b (w .memory) rest .buffer)) there
         ∙ append-assoc (first .answers) (take (w .written) (w .buffer)) (take (v .length) (v .buffer))
         ∙ ap (λ (l : List ℕ). first .answers ++ l) (sym sent) in
-        λ j. record { block = block j; memory = turn (there j) b (w .memory) rest .memory; answers = answers j; commands = first .commands; modbus-answers = first .modbus-answers }
+        λ j. record { block = block j; memory = turn (there j) b (w .memory) rest .memory; answers = answers j; commands = append-nil (first .commands) j; modbus-answers = append-nil (first .modbus-answers) j }
 
-    module _ (s : Since) (r : Reached (houseAt first w) s) (enough : answerRoom ≤ room w) where
+    module _ (s : Since) (r : Reached (boardAt first w) s) (enough : answerRoom ≤ room w) where
       rest-size : answerRoom ≤ length (drop (w .written) (w .buffer))
       rest-size = omega (arith, length-drop (w .written) (w .buffer), enough)
 
-      onward-reached : Reached (houseAt first (onward w (byteTurn w b))) (after s (byte b))
+      onward-reached : Reached (boardAt first (onward w (byteTurn w b))) (after s (byte b))
       onward-reached =
-          subst (λ (h : House). Reached h (after s (byte b))) served-onward (reached-byte (houseAt first w) s r b small rest rest-size)
+          subst (λ (h : Board). Reached h (after s (byte b))) served-onward (reached-byte (boardAt first w) s r b small rest rest-size)
 
-      onward-step : Step (houseAt first w) (byte b) (houseAt first (onward w (byteTurn w b)))
-      onward-step = subst (λ (h : House). Step (houseAt first w) (byte b) h) served-onward (single (houseAt first w) s r b small rest rest-size)
+      onward-step : Step (boardAt first w) (byte b) (boardAt first (onward w (byteTurn w b)))
+      onward-step = subst (λ (h : Board). Step (boardAt first w) (byte b) h) served-onward (single (boardAt first w) s r b rest rest-size)
 
       -- what it brings to the wire
-      stood : TurnStands (byteTurn w b) (drop (w .written) (w .buffer)) (s .gate) (s .bytes ++ (b ∷ [])) (finishedBy (s .bytes) b)
+      stood : TurnMeans (byteTurn w b) (drop (w .written) (w .buffer)) (s .gate) (s .bytes ++ (b ∷ [])) (finishedBy (s .bytes) b)
       stood =
-          turn-stands (w .next) b (w .memory) rest rest-size s
+          turn-means (w .next) b (w .memory) rest rest-size s
           (sym (ap (λ (t : Target). gateOf (t .instruments) (w .memory)) there) ∙ r .stands .gate)
           (sym (ap linkIn there) ∙ r .stands .link-part)
 
@@ -202,14 +174,14 @@ module _ (first : House) (w : Walk) (long : stateLength ≤ length (first .block
           ∙ ap (λ (i : ℕ). drop i (w .buffer)) (sym again)
 
       -- and so do the bytes behind it
-      goes-on : (end : Walk) (bs : List ℕ) (more : Block) → Goes first (onward w (byteTurn w b)) end bs more → Goes first w end (b ∷ bs) (behind (broughtBy s b) more)
+      goes-on : (end : Walk) (bs : List ℕ) (more : Block) → Walks first (onward w (byteTurn w b)) end bs more → Walks first w end (b ∷ bs) (behind (broughtBy s b) more)
       goes-on end bs more goes =
           let front : take (w .written + v .length) (take (w .written) (w .buffer) ++ v .buffer) ≡ take (w .written) (w .buffer) ++ broughtBy s b =
           ap (λ (n : ℕ). take (n + v .length) (take (w .written) (w .buffer) ++ v .buffer)) (sym front-size)
           ∙ seam (take (w .written) (w .buffer)) (v .buffer) (v .length)
           ∙ ap (λ (l : List ℕ). take (w .written) (w .buffer) ++ l) sends in
           record {
-            singly = happens (houseAt first w) (houseAt first (onward w v)) (houseAt first end) (byte b) (came (more .taken) bs) onward-step (goes .singly);
+            singly = happens (boardAt first w) (boardAt first (onward w v)) (boardAt first end) (byte b) (came (more .taken) bs) onward-step (goes .singly);
             taken = omega (arith, goes .taken);
             written = omega (arith, goes .written, brings, length-append (broughtBy s b) (more .written));
             told =
@@ -221,10 +193,10 @@ module _ (first : House) (w : Walk) (long : stateLength ≤ length (first .block
           }
 
 -- nothing is taken
-none-taken : (first : House) (w : Walk) (bs : List ℕ) (s : Since) → Goes first w w bs (stops s)
+none-taken : (first : Board) (w : Walk) (bs : List ℕ) (s : Since) → Walks first w w bs (stops s)
 none-taken first w bs s =
     record {
-      singly = ends (houseAt first w);
+      singly = ends (boardAt first w);
       taken = sym (add-zero (w .taken));
       written = sym (add-zero (w .written));
       told = sym (append-nil (take (w .written) (w .buffer)));
@@ -233,20 +205,20 @@ none-taken first w bs s =
     }
 
 -- whatever the block and the room
-pub walk-goes : (first : House) → stateLength ≤ length (first .block) → (bs : List ℕ) (w : Walk) (s : Since) → AllBytes bs → Within (w .next) (w .memory) → w .written ≤ length (w .buffer)
-    → Reached (houseAt first w) s → Goes first w (walked w bs) bs (blockAfter s (room w) bs)
-walk-goes first long [] w s all within before r = subst (λ (end : Walk). Goes first w end [] (stops s)) (sym (walked-all w)) (none-taken first w [] s)
+pub walk-goes : (first : Board) → stateLength ≤ length (first .block) → (bs : List ℕ) (w : Walk) (s : Since) → AllBytes bs → Within (w .next) (w .memory) → w .written ≤ length (w .buffer)
+    → Reached (boardAt first w) s → Walks first w (walked w bs) bs (blockAfter s (room w) bs)
+walk-goes first long [] w s all within before r = subst (λ (end : Walk). Walks first w end [] (stops s)) (sym (walked-all w)) (none-taken first w [] s)
 walk-goes first long (b ∷ bs) w s all within before r =
     split (ltb (room w) answerRoom)
     (λ short.
     rw short
-    (subst (λ (end : Walk). Goes first w end (b ∷ bs) (stops s)) (sym (walked-short w b bs (ltb-true (room w) answerRoom short))) (none-taken first w (b ∷ bs) s)))
+    (subst (λ (end : Walk). Walks first w end (b ∷ bs) (stops s)) (sym (walked-short w b bs (ltb-true (room w) answerRoom short))) (none-taken first w (b ∷ bs) s)))
     (λ enough.
     let left : answerRoom ≤ room w = ltb-false (room w) answerRoom enough in
     let next : Walk = onward w (byteTurn w b) in
     rw enough
-    (subst (λ (end : Walk). Goes first w end (b ∷ bs) (behind (broughtBy s b) (blockAfter (after s (byte b)) (room w - length (broughtBy s b)) bs))) (sym (walked-on w b bs left (byteTurn w b) refl))
+    (subst (λ (end : Walk). Walks first w end (b ∷ bs) (behind (broughtBy s b) (blockAfter (after s (byte b)) (room w - length (broughtBy s b)) bs))) (sym (walked-on w b bs left (byteTurn w b) refl))
     (goes-on first w long within before b (all .0) s r left (walked next bs) bs _
-    (subst (λ (n : ℕ). Goes first next (walked next bs) bs (blockAfter (after s (byte b)) n bs)) (room-left first w long within before b (all .0) s r left)
+    (subst (λ (n : ℕ). Walks first next (walked next bs) bs (blockAfter (after s (byte b)) n bs)) (room-left first w long within before b (all .0) s r left)
     (walk-goes first long bs next (after s (byte b)) (all .1) (keeps first w long within before b (all .0)) (onward-before first w long within before b (all .0) s r left)
     (onward-reached first w long within before b (all .0) s r left))))))

@@ -1,13 +1,13 @@
--- The words of the demands: a gate as its firmware has it, a run of the calls, and what is said of it.
-pub mod House
-pub mod Lent
+-- The words of the demands: a gate as its firmware has it, runs of its calls, and what is said of them.
+pub mod Board
+pub mod Pieces
 pub mod Run
+pub mod AsDefined
+pub mod Touches
 pub mod Refused
-pub mod Stands
-pub mod Sent
+pub mod Buffers
 pub mod Fresh
 pub mod Recorded
 pub mod Recorder
 pub mod Applying
 pub mod Ports
-pub mod Readings

@@ -1,4 +1,4 @@
--- The recorder's history, as a house shows it.
+-- The recorder's history, as a board shows it.
 use mathlib.Core.Path.{_≡_}
 use mathlib.Core.List.{List}
 use Prim.Native.Nat.{ℕ, min, _%_}
@@ -7,11 +7,11 @@ use Rattle.document.specs.Plan.{Plan}
 use Rattle.document.specs.Run.{Run, startIndex}
 use Rattle.document.specs.Recorder.Recorder.{planned}
 use Rattle.document.specs.Sets.{readRound, lastOf}
-use Rattle.demands.specs.House.{House, gateIn}
+use Rattle.demands.specs.Board.{Board, gateIn}
 
 -- "reading round from it as many places as sets were taken since the start, at most 'samples', gives the last sets of
 -- that history, oldest first"
-pub record Recorded (p : Plan) (h : House) (sets : List (List ℕ)) : Type 0 where
+pub record Recorded (p : Plan) (h : Board) (sets : List (List ℕ)) : Type 0 where
   pub run : Run
   pub recorder : gateIn h .recorder ≡ planned p run
   pub reading : readRound p (h .memory) (startIndex run) (min (length sets) (p .samples)) ≡ lastOf (p .samples) sets

@@ -9,34 +9,22 @@ use Rattle.document.specs.Plan.{Plan}
 use Rattle.document.specs.Run.{Run, started, placeBegins}
 use Rattle.document.specs.Recorder.Recorder.{planned}
 use Rattle.recorder_history.specs.History.{Event, begun, takesNext, beyondIn, NoneBeyond, TriggersNext}
-use Rattle.state_block.specs.Layout.{decoded}
-use Rattle.demands.specs.House.{House, gateIn}
-use Rattle.demands.specs.Stands.{linkIn}
+use Rattle.demands.specs.Board.{Board, gateIn}
 
 -- an accepted start leaves a recorder with its plan, at its start
-pub record Begun (h : House) : Type 0 where
+pub record Begun (h : Board) : Type 0 where
   pub plan : Plan
   pub recorder : gateIn h .recorder ≡ planned plan started
 
--- the recorder may have changed, and nothing else has: not the link, in the midst of a message or not (2026-06)
-pub record OnlyRecorder (h next : House) : Type 0 where
-  pub link-part : linkIn (decoded (next .block)) ≡ linkIn (decoded (h .block))
-  pub scope : decoded (next .block) .instruments .scope ≡ decoded (h .block) .instruments .scope
-  pub application : decoded (next .block) .instruments .application ≡ decoded (h .block) .instruments .application
-  pub tables : decoded (next .block) .instruments .tables ≡ decoded (h .block) .instruments .tables
-  pub memory : next .memory ≡ h .memory
-  pub answers : next .answers ≡ h .answers
-  pub modbus-answers : next .modbus-answers ≡ h .modbus-answers
-
 -- a recorder with this plan, which goes on or not
-pub record Goes (p : Plan) (h : House) (on : Bool) : Type 0 where
+pub record RunsOn (p : Plan) (h : Board) (on : Bool) : Type 0 where
   pub run : Run
   pub recorder : gateIn h .recorder ≡ planned p run
   pub is : run .running ≡ on
 
 -- the trigger comes at the next tick exactly where it takes the first set, since a start over this memory, that is at or beyond
 -- the threshold
-pub record FiresAtFirst (p : Plan) (memory : List ℕ) (es : List Event) (h : House) : Type 0 where
+pub record FiresAtFirst (p : Plan) (memory : List ℕ) (es : List Event) (h : Board) : Type 0 where
   pub run : Run
   pub recorder : gateIn h .recorder ≡ planned p run
   pub only-there :
@@ -49,7 +37,7 @@ pub record FiresAtFirst (p : Plan) (memory : List ℕ) (es : List Event) (h : Ho
       → TriggersNext p (record { run = run; memory = h .memory })
 
 -- "A tick changes only that place.": the memory before and behind it stays, and so do scope, application, tables and answers
-pub record OnlyItsPlace (p : Plan) (r : Run) (h next : House) : Type 0 where
+pub record OnlyItsPlace (p : Plan) (r : Run) (h next : Board) : Type 0 where
   pub before : take (placeBegins p (r .place)) (next .memory) ≡ take (placeBegins p (r .place)) (h .memory)
   pub behind :
       drop (placeBegins p (r .place) + setSize (p .variables)) (next .memory)

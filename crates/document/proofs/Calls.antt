@@ -20,11 +20,12 @@ use Rattle.document.specs.CallRows.{Line, callRows, answerRows, commandR
 use Rattle.document.specs.ReaderRows.{readerRows}
 use Rattle.document.specs.ApplicationRows.{collectRows}
 use Rattle.document.specs.BaseTypes.{sizeOfCode}
+use Rattle.document.specs.TableRows.{entryRows, listRows, tableRows, tablesByStep}
 use Rattle.document.specs.Tables.{isListGood}
-use Rattle.document.specs.TableRows.{entryRows, listRows}
+use Rattle.document.specs.Rows.{saidBy}
 use Rattle.document.specs.BlockRows.{blockRows}
 use Rattle.document.specs.PanelRows.{panelLines}
-use Rattle.document.specs.SetRows.{plainPlan, exPlan, plainPlanNoTrigger, plansIn, bufferAnswers, histories, taken, written, lasts, rounds}
+use Rattle.document.specs.SetRows.{plainPlan, exPlan, plainPlanNoTrigger, plansIn, bufferAnswers, histories, taken, written, lasts, copied}
 use Rattle.document.proofs.Rows.{holds-eq, lists-eq}
 
 abbrev pub lines : List Line
@@ -35,9 +36,14 @@ pub lines-hold : map (λ (l : Line). l .gives) lines ≡ map (λ (l : Line). l .
 unfolding callRows answerRows commandRows statusRows readerRows collectRows wellFormed onWire answerOnWire answersHeard answerFinishedBy answerRefusal answerWritten answerBuffer commandRefusal commandWritten commandBuffer readRoomRefusal brought
 lines-hold = lists-eq (map (λ (l : Line). l .gives) lines) (map (λ (l : Line). l .says) lines) refl
 
-pub lists-hold : map (λ (l : Line). l .gives) listRows ≡ map (λ (l : Line). l .says) listRows
+-- over no memory at all, in which every entry is good
+pub lists-hold : map (λ (l : Line). l .gives) (listRows []) ≡ map (λ (l : Line). l .says) (listRows [])
 unfolding listRows sizeOfCode isListGood
-lists-hold = lists-eq (map (λ (l : Line). l .gives) listRows) (map (λ (l : Line). l .says) listRows) refl
+lists-hold = lists-eq (map (λ (l : Line). l .gives) (listRows [])) (map (λ (l : Line). l .says) (listRows [])) refl
+
+pub tables-hold : map (tablesByStep []) tableRows ≡ map saidBy tableRows
+unfolding tableRows answerOnWire heard serviceOf refusal answered
+tables-hold = holds-eq (map (tablesByStep []) tableRows) (map saidBy tableRows) refl
 
 pub entries-hold : map (λ (l : Line). l .gives) entryRows ≡ map (λ (l : Line). l .says) entryRows
 unfolding entryRows sizeOfCode
@@ -65,5 +71,5 @@ histories-hold = holds-eq (map taken histories) (map written histories) refl
 pub lasts-hold : lasts ≡ (hex "20" ∷ hex "30" ∷ [])
 lasts-hold = lists-eq lasts (hex "20" ∷ hex "30" ∷ []) refl
 
-pub rounds-hold : rounds ≡ (hex "20" ∷ hex "10" ∷ hex "20" ∷ [])
-rounds-hold = lists-eq rounds (hex "20" ∷ hex "10" ∷ hex "20" ∷ []) refl
+pub copied-holds : copied ≡ (hex "20 30 10" ∷ [])
+copied-holds = lists-eq copied (hex "20 30 10" ∷ []) refl

@@ -10,6 +10,4 @@ pub mod Panel
 pub mod Places
 pub mod Refused
 pub mod Rows
-pub mod Staples
 pub mod Values
-pub mod Table

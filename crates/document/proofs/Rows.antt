@@ -1,5 +1,5 @@
--- The rows hold of the definitions: all of them by one computation. It is a test of numbers, which is fast where the
--- comparison of two terms is not, and the test's truth is their equality.
+-- The rows hold of the definitions, over a short memory: all of them by one computation. It is a test of numbers, which is fast where
+-- the comparison of two terms is not, and the test's truth is their equality.
 use mathlib.Core.Path.{_≡_, refl}
 use mathlib.Core.Bool.{Bool, true, false, cond, _&&_}
 use mathlib.Core.List.{List, [], _∷_, _++_, map, cons≢nil}
@@ -18,10 +18,10 @@ use Rattle.document.specs.Panel.{panelPrepares, panelStarts}
 use Rattle.document.specs.Asides.{beside}
 use Rattle.document.specs.Strings.{beforeZero, hasZero}
 use Rattle.document.specs.ApplicationRows.{applicationRows}
-use Rattle.document.specs.TableRows.{tableRows, namesByStep}
 use Rattle.document.specs.PanelRows.{panelRows, midstRows}
-use Rattle.document.specs.Rows.{Row, saidBy, byteByByte, stepByStep}
-use Rattle.document.specs.LineRows.{lineRows, pairedBytes, tokens}
+use Rattle.document.specs.Rows.{Row, saidBy, byteByByte}
+use Rattle.document.specs.QuickRows.{saidQuick, stepByStepQuick}
+use Rattle.document.specs.LineRows.{lineRows, longLineRows, pairedBytes, tokens}
 use Rattle.document.specs.ReadRows.{readRows}
 use Rattle.document.specs.WriteRows.{writeRows}
 use Rattle.document.specs.ScopeRows.{scopeRows}
@@ -89,21 +89,22 @@ holds-eq given said e = none-differs (same (same eqb)) (same-eq (same eqb) (same
 
 -- ---- the table
 
-abbrev rows : List Row
-unfolding readRows writeRows scopeRows setupRows recorderRows triggerRows applicationRows panelRows
-rows = readRows ++ writeRows ++ scopeRows ++ setupRows ++ recorderRows ++ triggerRows ++ applicationRows ++ panelRows
+abbrev pub rows : List Row
+unfolding longLineRows readRows writeRows scopeRows setupRows recorderRows triggerRows applicationRows panelRows
+rows = longLineRows ++ readRows ++ writeRows ++ scopeRows ++ setupRows ++ recorderRows ++ triggerRows ++ applicationRows ++ panelRows
 
+-- those of the line byte by byte, the others over a short memory
 abbrev pub given : List (List (List ℕ))
-unfolding lineRows readRows writeRows scopeRows setupRows recorderRows triggerRows applicationRows panelRows midstRows tableRows
-given = map byteByByte lineRows ++ map byteByByte midstRows ++ map stepByStep rows ++ map namesByStep tableRows
+unfolding lineRows longLineRows readRows writeRows scopeRows setupRows recorderRows triggerRows applicationRows panelRows midstRows
+given = map byteByByte lineRows ++ map byteByByte midstRows ++ map stepByStepQuick rows
 
 abbrev pub said : List (List (List ℕ))
-unfolding lineRows readRows writeRows scopeRows setupRows recorderRows triggerRows applicationRows panelRows midstRows tableRows
-said = map saidBy lineRows ++ map saidBy midstRows ++ map saidBy rows ++ map saidBy tableRows
+unfolding lineRows longLineRows readRows writeRows scopeRows setupRows recorderRows triggerRows applicationRows panelRows midstRows
+said = map saidBy lineRows ++ map saidBy midstRows ++ map saidQuick rows
 
-pub rows-hold : given ≡ said
-unfolding lineRows readRows writeRows scopeRows setupRows recorderRows triggerRows applicationRows panelRows midstRows tableRows panelPrepares panelStarts answerOnWire heard finishedBy serviceOf mayBeWritten refusal answered planIn fires isBeyond ranTick memoryAfterTick beside beforeZero hasZero
-rows-hold = holds-eq given said refl
+pub quick-rows-hold : given ≡ said
+unfolding lineRows longLineRows readRows writeRows scopeRows setupRows recorderRows triggerRows applicationRows panelRows midstRows panelPrepares panelStarts answerOnWire heard finishedBy serviceOf mayBeWritten refusal answered planIn fires isBeyond ranTick memoryAfterTick beside beforeZero hasZero
+quick-rows-hold = holds-eq given said refl
 
 pub edges-hold : map firesAt edges ≡ map (λ (e : Edge). e .fires) edges
 unfolding edges fires

@@ -8,7 +8,7 @@ use Rattle.document.specs.Gate.{registered}
 use Rattle.document.specs.Happenings.{Since, fromReset, afterAll}
 use Rattle.document.specs.Happenings.Happening.{aside}
 use Rattle.document.specs.Asides.Aside.{writes}
-use Rattle.document.specs.Staples.{zeros}
+use Rattle.document.specs.Rows.{zeros}
 use Rattle.document.specs.Blocks.{Block, blockAfter}
 use Rattle.document.specs.CallRows.{Line, line}
 

@@ -26,9 +26,7 @@ lent n = replicate n 0xAA
 -- ---- "1 a state outside the bounds", "2 memory of another length", "3 a lent output buffer too short"; "Lowest number first"
 unfoldable pub callRows : List Line
 callRows =
-    line (tickRefusal true (lent 16384) ∷ tickRefusal true (lent 16385) ∷ tickRefusal false [] ∷ []) (hex "00 02 01")
-    ∷ line (byteRefusal true (lent 16384) (lent 132) ∷ byteRefusal true (lent 16384) (lent 131) ∷ []) (hex "00 03")
-    ∷ line (byteRefusal true (lent 16383) [] ∷ byteRefusal false [] [] ∷ byteRefusal true (lent 16384) (lent 133) ∷ []) (hex "02 01 00")
+    line (tickRefusal false [] ∷ tickRefusal true [] ∷ byteRefusal true [] [] ∷ byteRefusal false [] [] ∷ []) (hex "01 02 02 01")
     -- "Bytes of it behind the answer keep their values; without an answer, all do."
     ∷ line (answerBufferAfter [] (lent 6)) (hex "AA AA AA AA AA AA")
     ∷ line (answerBufferAfter (record { status = 0; body = 0x7F ∷ [] } ∷ record { status = 0x81; body = [] } ∷ []) (lent 6)) (hex "2B 00 7F 81 AA AA")
@@ -64,7 +62,7 @@ answerRows =
 
 -- ---- the command writer: a command and its data, the room, and the same
 
-abbrev commandLine : ℕ → List ℕ → ℕ → ℕ → ℕ → List ℕ → Line
+abbrev pub commandLine : ℕ → List ℕ → ℕ → ℕ → ℕ → List ℕ → Line
 commandLine c body room refusal written front =
     line
     (commandRefusal c body (lent room) ∷ commandWritten c body (lent room) ∷ commandBuffer c body (lent room))
@@ -85,8 +83,6 @@ commandRows =
     ∷ commandLine 0xC8 (hex "00") 9 4 0 (lent 9)
     ∷ commandLine 0xD0 (hex "10") 0 4 0 []
     ∷ commandLine 0xFF (hex "010203040506") 9 0 9 (hex "2B FF 010203040506 EC")
-    ∷ commandLine 0x01 (replicate 255 0) 259 0 259 (hex "2B 01 FF" ++ replicate 256 0)
-    ∷ commandLine 0x01 (replicate 256 0) 300 4 0 (lent 300)
     ∷ []
 
 -- ---- "00 to 02 and 81 to 89"; "A status with its top bit set"
@@ -95,7 +91,7 @@ abbrev pub below : ℕ → List ℕ
 below zero = []
 below (suc n) = below n ++ (n ∷ [])
 
-abbrev statuses : List ℕ → List ℕ
+abbrev pub statuses : List ℕ → List ℕ
 statuses [] = []
 statuses (s ∷ ss) = cond (isStatus s) (s ∷ statuses ss) (statuses ss)
 
@@ -105,6 +101,6 @@ errors (s ∷ ss) = cond (isError s) (s ∷ errors ss) (errors ss)
 
 unfoldable pub statusRows : List Line
 statusRows =
-    line (statuses (below 256)) (hex "00 01 02 81 82 83 84 85 86 87 88 89")
+    line (statuses (hex "00 01 02 03 7F 80 81 88 89 8A FF")) (hex "00 01 02 81 88 89")
     ∷ line (errors (hex "00 02 7F 80 81 89 FF")) (hex "80 81 89 FF")
     ∷ []

@@ -18,9 +18,9 @@ pub record Since : Type 0 where
   pub answers : List Answer
 
 -- "The answer comes with the sum byte's last wire byte, once."
-abbrev pub told : Since → List Message → Since
-told s [] = s
-told s (m ∷ ms) =
+abbrev pub afterMessages : Since → List Message → Since
+afterMessages s [] = s
+afterMessages s (m ∷ ms) =
     record {
       bytes = s .bytes;
       gate = answered (s .gate) m .gate;
@@ -29,7 +29,7 @@ told s (m ∷ ms) =
 
 abbrev pub after : Since → Happening → Since
 after s (byte b) =
-    told
+    afterMessages
     (record { bytes = s .bytes ++ (b ∷ []); gate = s .gate; answers = s .answers })
     (finishedBy (s .bytes) b)
 after s (aside a) = record { bytes = s .bytes; gate = beside (s .gate) a; answers = s .answers }

@@ -42,16 +42,15 @@ pub mod CheckSum
 pub mod Frames
 pub mod Registers
 pub mod Modbus
--- since reset, and "Staples to try"
+-- since reset
 pub mod Panel
 pub mod Asides
 pub mod Happenings
 pub mod Blocks
-pub mod Staples
-pub mod Further
--- the rows behind the staples: how they are written, then by subject
+-- rows that are quick to compute: how they are written, then by subject. crates/document_worked has the staples and what wants a whole memory.
 pub mod Hex
 pub mod Rows
+pub mod QuickRows
 pub mod LineRows
 pub mod RefusalPairs
 pub mod CallRows

@@ -77,19 +77,19 @@ carriedOut MaskRegister frame memory = registerMasked memory (firstIn frame) (wo
 carriedOut Other frame memory = memory
 
 -- the registers behind the count of their bytes; a write is told by the fields that it began with
-abbrev pub told : Function → List ℕ → List ℕ → List ℕ
-told ReadRegisters frame memory = 2 * quantityIn frame ∷ registersAt memory (firstIn frame) (quantityIn frame)
-told WriteRegister frame memory = bytesAt frame 2 4
-told WriteRegisters frame memory = bytesAt frame 2 4
-told MaskRegister frame memory = bytesAt frame 2 6
-told Other frame memory = []
+abbrev pub functionData : Function → List ℕ → List ℕ → List ℕ
+functionData ReadRegisters frame memory = 2 * quantityIn frame ∷ registersAt memory (firstIn frame) (quantityIn frame)
+functionData WriteRegister frame memory = bytesAt frame 2 4
+functionData WriteRegisters frame memory = bytesAt frame 2 4
+functionData MaskRegister frame memory = bytesAt frame 2 6
+functionData Other frame memory = []
 
 -- ---- a frame
 
 -- an exception has the top bit of the function byte set
 abbrev pub answerTo : ℕ → List ℕ → List ℕ → List ℕ
 answerTo exception frame memory =
-    cond (eqb exception done) (functionByte frame ∷ told (functionIn frame) frame memory)
+    cond (eqb exception done) (functionByte frame ∷ functionData (functionIn frame) frame memory)
     ((128 + functionByte frame) ∷ exception ∷ [])
 
 -- no bytes are silence

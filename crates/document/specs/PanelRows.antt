@@ -7,8 +7,7 @@ use Rattle.document.specs.Hex.{hex}
 use Rattle.document.specs.Gate.{Gate, fresh}
 use Rattle.document.specs.Happenings.{fromReset}
 use Rattle.document.specs.Panel.{panelPrepares, panelStarts, panelRefusal}
-use Rattle.document.specs.Staples.{zeros}
-use Rattle.document.specs.Rows.{Row, Step, asks, sends, hears, passes, preparing, starting, afterSteps}
+use Rattle.document.specs.Rows.{zeros, Row, Step, asks, sends, hears, passes, preparing, starting, afterSteps}
 use Rattle.document.specs.CallRows.{Line, line}
 
 -- "0x09's data part": 2 places of a byte each, the time divider 0 or 2; one without samples
@@ -57,8 +56,8 @@ midstRows =
 abbrev gateAfter : Row → Gate
 gateAfter row = afterSteps (fromReset (fresh zeros)) row .gate
 
-abbrev told : Row → List ℕ → ℕ
-told row setup = panelPrepares (gateAfter row) setup .answer .status
+abbrev preparedStatus : Row → List ℕ → ℕ
+preparedStatus row setup = panelPrepares (gateAfter row) setup .answer .status
 
 abbrev toldStart : Row → ℕ
 toldStart row = panelStarts (gateAfter row) .answer .status
@@ -66,11 +65,11 @@ toldStart row = panelStarts (gateAfter row) .answer .status
 unfoldable pub panelLines : List Line
 panelLines =
     -- "above 64 bytes 0x83", also while the recorder runs; 64 bytes are looked at
-    line (told [] (replicate 65 0) ∷ told (recording ∷ []) (replicate 65 0) ∷ told [] (replicate 64 0) ∷ []) (hex "83 83 85")
+    line (preparedStatus [] (replicate 65 0) ∷ preparedStatus (recording ∷ []) (replicate 65 0) ∷ preparedStatus [] (replicate 64 0) ∷ []) (hex "83 83 85")
     -- "the same statuses, in 01's order": no data while it runs; no data; 0 samples of a variable in the buffer; that variable
-    ∷ line (told (recording ∷ []) [] ∷ told [] [] ∷ []) (hex "87 85")
-    ∷ line (told [] (hex "00 0000 0000 0000 0000 00 00 00000000 01 01 0030") ∷ told [] (hex "00 0200 0000 0000 0000 00 00 00000000 01 01 0030") ∷ []) (hex "86 89")
-    ∷ line (told [] twoPlaces ∷ told (preparing twoPlaces ∷ []) twoPlaces ∷ told traced twoPlaces ∷ []) (hex "00 00 00")
+    ∷ line (preparedStatus (recording ∷ []) [] ∷ preparedStatus [] [] ∷ []) (hex "87 85")
+    ∷ line (preparedStatus [] (hex "00 0000 0000 0000 0000 00 00 00000000 01 01 0030") ∷ preparedStatus [] (hex "00 0200 0000 0000 0000 00 00 00000000 01 01 0030") ∷ []) (hex "86 89")
+    ∷ line (preparedStatus [] twoPlaces ∷ preparedStatus (preparing twoPlaces ∷ []) twoPlaces ∷ preparedStatus traced twoPlaces ∷ []) (hex "00 00 00")
     -- as 0xC1
     ∷ line (toldStart [] ∷ toldStart (recording ∷ []) ∷ toldStart (preparing twoPlaces ∷ []) ∷ toldStart traced ∷ []) (hex "88 01 00 00")
     ∷ line (panelRefusal true ∷ panelRefusal false ∷ []) (hex "00 01")

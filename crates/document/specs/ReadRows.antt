@@ -30,4 +30,6 @@ readRows =
     ∷ (asks "04 03 01 1000" "85" ∷ asks "04 04 01 100000" "85" ∷ asks "04 06 01 10000000 00" "85" ∷ asks "04 05 00 10000000" "86" ∷ [])
     -- no tables are registered, and a string ends with memory's last byte (2026-03)
     ∷ (asks "11 02 0000" "00 0000 0000 0000" ∷ asks "D4 FF3F" "00 0000" ∷ asks "E6 FF3F0000" "00 0000" ∷ [])
+    -- and a string is counted without its zero
+    ∷ (puts 16 "41 42 43" ∷ asks "D4 1000" "00 0300" ∷ asks "E6 11000000" "00 0200" ∷ [])
     ∷ []

@@ -9,8 +9,7 @@ use Rattle.document.specs.Message.{Message, heard}
 use Rattle.document.specs.Refusals.{Refusal, table}
 use Rattle.document.specs.Gate.{Gate, fresh}
 use Rattle.document.specs.Happenings.{fromReset}
-use Rattle.document.specs.Rows.{Row, Step, hears, asks, framed, wire, afterSteps}
-use Rattle.document.specs.Staples.{zeros}
+use Rattle.document.specs.Rows.{zeros, Row, Step, hears, asks, framed, wire, afterSteps}
 
 -- a message after some steps, and all refusals that apply to it, in the table's order
 pub record Faulty : Type 0 where

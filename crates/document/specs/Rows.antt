@@ -9,11 +9,14 @@ use Rattle.document.specs.Hex.{hex}
 use Rattle.document.specs.Message.{Message, heard}
 use Rattle.document.specs.Answer.{answerOnWire}
 use Rattle.document.specs.Gate.{fresh}
-use Rattle.document.specs.Happenings.{Happening, Since, told, afterAll, fromReset}
+use Rattle.document.specs.Happenings.{Happening, Since, afterMessages, afterAll, fromReset}
 use Rattle.document.specs.Happenings.Happening.{byte, aside}
 use Rattle.document.specs.Asides.{Aside}
 use Rattle.document.specs.Asides.Aside.{tick, writes, collects, reports, prepares, starts}
-use Rattle.document.specs.Staples.{zeros}
+
+-- a whole memory
+abbrev pub zeros : List ℕ
+zeros = replicate 16384 0
 
 pub record Step : Type 0 where
   pub bytes : List ℕ
@@ -108,11 +111,14 @@ byteByByte row = map answerOnWire (afterAll (fromReset (fresh zeros)) (happening
 
 abbrev toldEach : Since → List Message → Since
 toldEach s [] = s
-toldEach s (m ∷ ms) = toldEach (told s (m ∷ [])) ms
+toldEach s (m ∷ ms) = toldEach (afterMessages s (m ∷ [])) ms
 
 abbrev pub afterSteps : Since → Row → Since
 afterSteps s [] = s
 afterSteps s (t ∷ ts) = afterSteps (afterAll (toldEach s (heard (t .bytes))) (map aside (t .asides))) ts
 
+abbrev pub stepByStepOver : List ℕ → Row → List (List ℕ)
+stepByStepOver memory row = map answerOnWire (afterSteps (fromReset (fresh memory)) row .answers)
+
 abbrev pub stepByStep : Row → List (List ℕ)
-stepByStep row = map answerOnWire (afterSteps (fromReset (fresh zeros)) row .answers)
+stepByStep row = stepByStepOver zeros row

@@ -8,8 +8,9 @@ use Rattle.document.specs.Hex.{hex}
 use Rattle.document.specs.Plan.{Plan, noTrigger, planIn}
 use Rattle.document.specs.Recorder.{bufferAnswer}
 use Rattle.document.specs.Recorder.Recorder.{planned}
+use Rattle.document.specs.Run.{setOf}
 use Rattle.document.specs.Run.Watch.{unprimed}
-use Rattle.document.specs.Sets.{setsTaken, readRound, lastOf}
+use Rattle.document.specs.Sets.{setsTaken, lastOf}
 
 -- ---- every field at its full width: "samples 2, post-trigger 2, time divider 2", "threshold 4"
 
@@ -60,7 +61,7 @@ pub record History : Type 0 where
   pub ticks : List ℕ
   pub sets : List ℕ
 
-abbrev history : ℕ → ℕ → String → String → History
+abbrev pub history : ℕ → ℕ → String → String → History
 history postTrigger divider ticks sets = record { postTrigger = postTrigger; divider = divider; ticks = hex ticks; sets = hex sets }
 
 unfoldable pub histories : List History
@@ -77,7 +78,7 @@ histories =
     ∷ history 1 2 "10 11 12 90 91 92 93 94 95 96" "10 90 93"
     ∷ []
 
-abbrev planOf : History → Plan
+abbrev pub planOf : History → Plan
 planOf h =
     record {
       samples = 2;
@@ -100,6 +101,16 @@ written h = map single (h .sets)
 abbrev pub lasts : List (List ℕ)
 lasts = lastOf 2 (map single (hex "10 20 30"))
 
--- "reading round from it": from place 1 of 2
-abbrev pub rounds : List (List ℕ)
-rounds = readRound (planOf (history 0 0 "" "")) (replicate 12288 0 ++ hex "10 20 30") 1 3
+-- "bytes copied in the order of the definitions": one of two bytes, and one before it
+abbrev pub copied : List (List ℕ)
+copied = setOf twoAndOne (hex "10 20 30") ∷ []
+  where
+    twoAndOne : Plan
+    twoAndOne =
+        record {
+          samples = 1;
+          postTrigger = 0;
+          divider = 0;
+          trigger = noTrigger;
+          variables = record { size = 2; address = 1 } ∷ record { size = 1; address = 0 } ∷ [];
+        }

@@ -92,10 +92,10 @@ registerRefusal memory list =
 -- ---- what a technician is told
 
 -- "0x11 answers flags 2, size and address, 2 bytes each, or six zero bytes for an index beyond the last"
-abbrev pub told : Table → List ℕ
-told t = littleEndian 2 2 ++ littleEndian 2 (t .size) ++ littleEndian 2 (t .address)
+abbrev pub tableData : Table → List ℕ
+tableData t = littleEndian 2 2 ++ littleEndian 2 (t .size) ++ littleEndian 2 (t .address)
 
 abbrev pub tableAnswer : List Table → ℕ → List ℕ
 tableAnswer [] index = replicate 6 0
-tableAnswer (t ∷ ts) zero = told t
+tableAnswer (t ∷ ts) zero = tableData t
 tableAnswer (t ∷ ts) (suc index) = tableAnswer ts index

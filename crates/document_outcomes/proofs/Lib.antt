@@ -5,3 +5,4 @@ pub mod Carried
 pub mod Served
 pub mod Answered
 pub mod Recording
+pub mod Sending

@@ -19,7 +19,7 @@ use Rattle.document.specs.declared.Service.{Service}
 use Rattle.document.proofs.Cases.{split, neither, both}
 use Rattle.document_outcomes.specs.Changes.{Change, changeOf, changed, Accepted}
 use Rattle.document_outcomes.specs.Changes.Change.{nothing, store, maskedStore, scopeSetUp, recorderPrepareAndStart, recorderStart, recorderStop, commandSent}
-use Rattle.document_outcomes.specs.Starts.{begins, halts, starts, stops, Begins}
+use Rattle.document_outcomes.specs.Starts.{begins, halts, isStart, isStop, Begins}
 use Rattle.document_outcomes.proofs.Answered.{accepted-gate, accepted, refused-gate}
 
 -- "running answers 0x01": it goes on as it was
@@ -74,7 +74,7 @@ module _ (g : Gate) (m : Message) where
   abbrev change : Change
   change = changeOf (service .operation)
 
-  pub start-begins : starts g m ≡ true → Begins g m
+  pub start-begins : isStart g m ≡ true → Begins g m
   start-begins start =
       let t = both (eqb (refusal g m) done) (begins change (isRunning (g .recorder))) start in
       let none = eqb-true (refusal g m) done (t .0) in
@@ -82,14 +82,14 @@ module _ (g : Gate) (m : Message) where
       record { plan = b .0; recorder = ap (λ (q : Gate). q .recorder) (accepted-gate g m none) ∙ b .1 }
 
   module _ (p : Plan) (r : Run) (has : g .recorder ≡ planned p r) where
-    pub stop-stops : stops g m ≡ true → (answered g m .gate .recorder ≡ planned p (stopped r)) × (answered g m .gate .memory ≡ g .memory)
+    pub stop-stops : isStop g m ≡ true → (answered g m .gate .recorder ≡ planned p (stopped r)) × (answered g m .gate .memory ≡ g .memory)
     stop-stops stop =
         let t = both (eqb (refusal g m) done) (halts change) stop in
         let gate : answered g m .gate ≡ changed recorderStop g service (m .body) =
         accepted-gate g m (eqb-true (refusal g m) done (t .0)) ∙ stopping g service (m .body) change (t .1) in
         (ap (λ (q : Gate). q .recorder) gate ∙ ap recorderHalted has, ap (λ (q : Gate). q .memory) gate)
 
-    pub others-pass : starts g m ≡ false → stops g m ≡ false → answered g m .gate .recorder ≡ planned p r
+    pub others-pass : isStart g m ≡ false → isStop g m ≡ false → answered g m .gate .recorder ≡ planned p r
     others-pass no-start no-stop =
         split (eqb (refusal g m) done)
         (λ none. ap (λ (q : Gate). q .recorder) (accepted-gate g m (eqb-true _ _ none))

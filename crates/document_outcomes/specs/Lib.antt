@@ -2,3 +2,4 @@
 pub mod Known
 pub mod Changes
 pub mod Starts
+pub mod Sending

@@ -37,12 +37,12 @@ halts recorderStop = true
 halts commandSent = false
 
 -- an accepted start
-abbrev pub starts : Gate → Message → Bool
-starts g m = eqb (refusal g m) done && begins (changeOf (serviceOf (m .command) .operation)) (isRunning (g .recorder))
+abbrev pub isStart : Gate → Message → Bool
+isStart g m = eqb (refusal g m) done && begins (changeOf (serviceOf (m .command) .operation)) (isRunning (g .recorder))
 
 -- an accepted stop
-abbrev pub stops : Gate → Message → Bool
-stops g m = eqb (refusal g m) done && halts (changeOf (serviceOf (m .command) .operation))
+abbrev pub isStop : Gate → Message → Bool
+isStop g m = eqb (refusal g m) done && halts (changeOf (serviceOf (m .command) .operation))
 
 -- what an accepted start leaves: a recorder with its plan, at its start
 pub record Begins (g : Gate) (m : Message) : Type 0 where

@@ -12,10 +12,11 @@ use Rattle.document.specs.Message.{Message, finishedBy}
 use Rattle.document.specs.Answer.{Answer, answerOnWire}
 use Rattle.document.specs.Gate.{Gate}
 use Rattle.document.specs.Commands.{answered}
-use Rattle.document.specs.Happenings.{Since, told, after, afterAll}
+use Rattle.document.specs.Happenings.{Since, afterMessages, after, afterAll}
 use Rattle.document.specs.Happenings.Happening.{byte}
 use Rattle.document.specs.Blocks.{answersOnWire, broughtBy, blockAfter}
 use Rattle.document.proofs.Cases.{split}
+use Rattle.laws_happenings.specs.Bytes.{withByte}
 
 -- ---- on the wire
 
@@ -32,7 +33,7 @@ abbrev pub answersTo : Gate → List Message → List Answer
 answersTo g [] = []
 answersTo g (m ∷ ms) = answered g m .answer ∷ []
 
-pub told-answers : (s : Since) (ms : List Message) → told s ms .answers ≡ s .answers ++ answersTo (s .gate) ms
+pub told-answers : (s : Since) (ms : List Message) → afterMessages s ms .answers ≡ s .answers ++ answersTo (s .gate) ms
 told-answers s [] = sym (append-nil (s .answers))
 told-answers s (m ∷ ms) = refl
 
@@ -40,7 +41,7 @@ told-answers s (m ∷ ms) = refl
 pub brought-told : (s : Since) (b : ℕ) → broughtBy s b ≡ answersOnWire (answersTo (s .gate) (finishedBy (s .bytes) b))
 brought-told s b =
     let ms = finishedBy (s .bytes) b in
-    ap (λ (l : List Answer). answersOnWire (drop (length (s .answers)) l)) (told-answers (record { bytes = s .bytes ++ (b ∷ []); gate = s .gate; answers = s .answers }) ms)
+    ap (λ (l : List Answer). answersOnWire (drop (length (s .answers)) l)) (told-answers (withByte s b) ms)
     ∙ ap answersOnWire (drop-append-seam (s .answers) (answersTo (s .gate) ms))
 
 -- ---- what has come

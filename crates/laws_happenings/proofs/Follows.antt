@@ -1,34 +1,31 @@
 -- From one accepted start to the next the gate's recorder and memory are those of the recorder's own history.
 use mathlib.Core.Path.{_≡_, refl, sym, ap, subst, _∙_}
-use mathlib.Core.Bool.{false}
+use mathlib.Core.Bool.{true, false}
 use mathlib.Core.List.{List, [], _∷_, _++_}
 use Prim.Native.Nat.{ℕ}
 use lib.ListN.{length, drop}
 use Rattle.document.specs.Areas.{bufferBegin, memoryEnd}
 use Rattle.document.specs.Message.{Message, finishedBy}
-use Rattle.document.specs.Stores.{stored}
 use Rattle.document.specs.Plan.{Plan}
 use Rattle.document.specs.Run.{ranTick, memoryAfterTick}
 use Rattle.document.specs.Recorder.{Recorder, ticked, tickedMemory}
 use Rattle.document.specs.Recorder.Recorder.{planned}
 use Rattle.document.specs.Gate.{Gate}
 use Rattle.document.specs.Commands.{answered}
-use Rattle.document.specs.Panel.{panelPrepares, panelStarts}
-use Rattle.document.specs.Modbus.{modbusMemory}
-use Rattle.document.specs.Happenings.{Happening, Since, told, after, afterAll}
+use Rattle.document.specs.Happenings.{Happening, Since, afterMessages, after, afterAll}
 use Rattle.document.specs.Asides.{Aside, beside}
-use Rattle.document.specs.Asides.Aside.{tick, writes, collects, reports, prepares, starts as starting, frames}
 use Rattle.document.specs.Happenings.Happening.{byte, aside}
 use Rattle.document.proofs.Cases.{split}
-use Rattle.memory_ranges.proofs.Copies.{stored-length}
 use Rattle.recorder_history.specs.History.{Event, Recording, AllLeaveBuffer}
 use Rattle.recorder_history.specs.History as history
-use Rattle.document_outcomes.specs.Starts.{starts, stops}
+use Rattle.document_outcomes.specs.Starts.{isStart, isStop}
 use Rattle.document_outcomes.proofs.Recording.{stop-stops, others-pass}
-use Rattle.laws_modbus.proofs.Kept.{frame-keeps-rest, frame-keeps-length}
-use Rattle.laws_happenings.specs.Recording.{eventsOf, eventsBeside, eventsAt, events, NoStart, Unstarted, AllUnstarted, NothingNew, Undisturbed, AllUndisturbed}
-use Rattle.laws_happenings.proofs.Recording.{buffer-left, message-leaves, ticked-length}
-use Rattle.laws_happenings.proofs.Panel.{prepare-refused, start-passes}
+use Rattle.laws_happenings.specs.Bytes.{withByte}
+use Rattle.laws_happenings.specs.Recording.{eventsOf, eventsBeside, eventsAt, events, NoStart, Unstarted, AllUnstarted, NothingNew, LeavesBuffer, Undisturbed, AllUndisturbed}
+use Rattle.laws_happenings.specs.Asides.{recorderAfter, row, isTick, isOwn}
+use Rattle.laws_happenings.proofs.Recording.{buffer-left, message-leaves}
+use Rattle.laws_happenings.proofs.Panel.{is-ticked, nothing-new}
+use Rattle.laws_happenings.proofs.Asides.{leaves}
 
 -- the gate's recorder has this plan, and goes through this history
 pub record Follows (p : Plan) (gate : Gate) (g : Recording) : Type 0 where
@@ -42,10 +39,10 @@ module _ (p : Plan) where
     pub follows : Follows p gate (history.after p g es)
     pub leaves : quiet → AllLeaveBuffer p g es
 
-  followed-message : {quiet : Type 0} (gate : Gate) (g : Recording) (m : Message) (ms : List Message) → Follows p gate g → starts gate m ≡ false
+  followed-message : {quiet : Type 0} (gate : Gate) (g : Recording) (m : Message) (ms : List Message) → Follows p gate g → isStart gate m ≡ false
       → Followed quiet (answered gate m .gate) g (eventsOf gate (m ∷ ms))
   followed-message gate g m ms f no-start =
-      split (stops gate m)
+      split (isStop gate m)
       (λ t.
       let s = stop-stops gate m p (g .run) (f .recorder) t in
       rw t
@@ -63,63 +60,70 @@ module _ (p : Plan) where
         leaves = λ quiet. ((size, buffer ∙ ap (drop bufferBegin) (f .memory)), tt);
       }))
 
+  -- what does not tick keeps the buffer, unless the gate's own program writes it
+  buffer-kept : (gate : Gate) (a : Aside) → isTick a ≡ false → LeavesBuffer gate a → drop bufferBegin (beside gate a .memory) ≡ drop bufferBegin (gate .memory)
+  buffer-kept gate a still quiet =
+      split (isOwn a) quiet (λ other. buffer-left (beside gate a .memory) (gate .memory) (leaves gate a .rest other still))
+
   module _ (s : Since) (g : Recording) (f : Follows p (s .gate) g) where
     followed-byte : (b : ℕ) → Unstarted s (byte b) → Followed (Undisturbed s (byte b)) (after s (byte b) .gate) g (eventsAt s (byte b))
     followed-byte b quiet = by (finishedBy (s .bytes) b) refl
       where
         by : (ms : List Message) → finishedBy (s .bytes) b ≡ ms → Followed (Undisturbed s (byte b)) (after s (byte b) .gate) g (eventsAt s (byte b))
         by [] e =
-            subst (λ (ms : List Message). Followed (Undisturbed s (byte b)) (told (record { bytes = s .bytes ++ (b ∷ []); gate = s .gate; answers = s .answers }) ms .gate) g (eventsOf (s .gate) ms)) (sym e)
+            subst (λ (ms : List Message). Followed (Undisturbed s (byte b)) (afterMessages (withByte s b) ms .gate) g (eventsOf (s .gate) ms)) (sym e)
             (record { follows = f; leaves = λ undisturbed. tt })
         by (m ∷ ms) e =
-            subst (λ (ms : List Message). Followed (Undisturbed s (byte b)) (told (record { bytes = s .bytes ++ (b ∷ []); gate = s .gate; answers = s .answers }) ms .gate) g (eventsOf (s .gate) ms)) (sym e)
+            subst (λ (ms : List Message). Followed (Undisturbed s (byte b)) (afterMessages (withByte s b) ms .gate) g (eventsOf (s .gate) ms)) (sym e)
             (followed-message (s .gate) g m ms f
             (subst (λ (l : List Message). NoStart (s .gate) l) e quiet))
 
-    -- what changes nothing
-    followed-same : {quiet : Type 0} (gate : Gate) → gate ≡ s .gate → Followed quiet gate g []
-    followed-same gate same =
-        record {
-          follows = subst (λ (q : Gate). Follows p q g) (sym same) f;
-          leaves = λ quiet. tt;
-        }
+    abbrev Beside : Aside → Type 0
+    Beside a = Followed (Undisturbed s (aside a)) (beside (s .gate) a) g (eventsBeside (s .gate) a)
 
-    followed-beside : (a : Aside) → NothingNew (s .gate) a → Followed (Undisturbed s (aside a)) (beside (s .gate) a) g (eventsBeside (s .gate) a)
-    unfolding beside
-    followed-beside tick old =
-        record {
+    followed-tick : (a : Aside) → isTick a ≡ true → Beside a
+    followed-tick a is =
+        let left = leaves (s .gate) a in
+        let recorder : recorderAfter (row a .recorder) (s .gate) ≡ ticked (s .gate .recorder) (s .gate .memory) = is-ticked (row a .recorder) (s .gate) is in
+        rw is
+        (record {
           follows =
               record {
                 recorder =
-                    ap (λ (r : Recorder). ticked r (s .gate .memory)) (f .recorder)
+                    left .recorder
+                    ∙ recorder
+                    ∙ ap (λ (r : Recorder). ticked r (s .gate .memory)) (f .recorder)
                     ∙ ap (λ (m : List ℕ). planned p (ranTick p (g .run) m)) (f .memory);
                 memory =
-                    ap (λ (r : Recorder). tickedMemory r (s .gate .memory)) (f .recorder)
+                    left .ticked-memory is
+                    ∙ ap (λ (r : Recorder). tickedMemory r (s .gate .memory)) (f .recorder)
                     ∙ ap (λ (m : List ℕ). memoryAfterTick p (g .run) m) (f .memory);
-                size = ticked-length (s .gate .recorder) (s .gate .memory) ∙ f .size;
+                size = left .size ∙ f .size;
               };
           leaves = λ quiet. (tt, tt);
-        }
-    followed-beside (writes address bytes) old =
-        let size : length (stored (s .gate .memory) address bytes) ≡ memoryEnd =
-        stored-length (s .gate .memory) (stored (s .gate .memory) address bytes) bytes address refl ∙ f .size in
-        record {
-          follows = record { recorder = f .recorder; memory = refl; size = size };
-          leaves = λ quiet. ((size, quiet .1 ∙ ap (drop bufferBegin) (f .memory)), tt);
-        }
-    followed-beside collects old =
-        record { follows = record { recorder = f .recorder; memory = f .memory; size = f .size }; leaves = λ quiet. tt }
-    followed-beside (reports result) old =
-        record { follows = record { recorder = f .recorder; memory = f .memory; size = f .size }; leaves = λ quiet. tt }
-    followed-beside (prepares setup) old = followed-same (panelPrepares (s .gate) setup .gate) (prepare-refused (s .gate) setup old)
-    followed-beside starting old = followed-same (panelStarts (s .gate) .gate) (start-passes (s .gate) old)
-    followed-beside (frames station frame) old =
-        let size : length (modbusMemory station frame (s .gate .memory)) ≡ memoryEnd = frame-keeps-length station frame (s .gate .memory) ∙ f .size in
-        let buffer = buffer-left (modbusMemory station frame (s .gate .memory)) (s .gate .memory) (frame-keeps-rest station frame (s .gate .memory)) in
-        record {
-          follows = record { recorder = f .recorder; memory = refl; size = size };
-          leaves = λ quiet. ((size, buffer ∙ ap (drop bufferBegin) (f .memory)), tt);
-        }
+        })
+
+    -- whatever writes the memory leaves the recorder as it was
+    followed-beside : (a : Aside) → NothingNew (s .gate) a → Beside a
+    followed-beside a old =
+        split (isTick a) (followed-tick a)
+        (λ still.
+        let left = leaves (s .gate) a in
+        let recorder : beside (s .gate) a .recorder ≡ planned p (g .run) = left .recorder ∙ nothing-new (row a .recorder) (s .gate) still old ∙ f .recorder in
+        let size : length (beside (s .gate) a .memory) ≡ memoryEnd = left .size ∙ f .size in
+        split (row a .stores)
+        (λ some.
+        rw (still, some)
+        (record {
+          follows = record { recorder = recorder; memory = refl; size = size };
+          leaves = λ quiet. ((size, buffer-kept (s .gate) a still (quiet .1) ∙ ap (drop bufferBegin) (f .memory)), tt);
+        }))
+        (λ none.
+        rw (still, none)
+        (record {
+          follows = record { recorder = recorder; memory = left .memory none ∙ f .memory; size = size };
+          leaves = λ quiet. tt;
+        })))
 
   -- ---- one after the other
   after-append : (es fs : List Event) (g : Recording) → history.after p g (es ++ fs) ≡ history.after p (history.after p g es) fs

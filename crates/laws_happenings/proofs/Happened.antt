@@ -6,7 +6,7 @@ use mathlib.Core.List.{List, [], _∷_, _++_, append-assoc, append-nil}
 use Prim.Native.Nat.{ℕ}
 use Rattle.document.specs.Message.{Message, wellFormed, onWire, finishedBy}
 use Rattle.document.specs.Commands.{answered}
-use Rattle.document.specs.Happenings.{Happening, Since, told, after, afterAll}
+use Rattle.document.specs.Happenings.{Happening, Since, afterMessages, after, afterAll}
 use Rattle.document.specs.Happenings.Happening.{byte, aside}
 use Rattle.line_wire.proofs.Pairing.{waitsAfter}
 use Rattle.line_wire.proofs.Resync.{message-last, message-before}
@@ -32,7 +32,7 @@ beside-bytes (aside a ∷ hs) s bs = beside-bytes hs (after s (aside a)) bs
 
 -- a byte that finishes nothing is only remembered
 byte-quiet : (s : Since) (b : ℕ) → finishedBy (s .bytes) b ≡ [] → after s (byte b) ≡ withBytes s (s .bytes ++ (b ∷ []))
-byte-quiet s b q = ap (λ (ms : List Message). told (withBytes s (s .bytes ++ (b ∷ []))) ms) q
+byte-quiet s b q = ap (λ (ms : List Message). afterMessages (withBytes s (s .bytes ++ (b ∷ []))) ms) q
 
 pub happened-quiet : (hs : List Happening) (s : Since) → Quiet (s .bytes) (bytesOf hs) →
     afterAll s hs ≡ record { bytes = s .bytes ++ bytesOf hs; gate = afterAll s (besideBytes hs) .gate; answers = s .answers }
@@ -83,7 +83,7 @@ module _ (m : Message) (formed : wellFormed m ≡ true) (s : Since) (settled : w
       ap (λ (bs : List ℕ). bs ++ (b ∷ [])) bytes
       ∙ append-assoc (s .bytes) (bytesOf hs) (b ∷ [])
       ∙ ap (λ (bs : List ℕ). s .bytes ++ bs) (sym e) in
-      ap (λ (ms : List Message). told (withBytes t (t .bytes ++ (b ∷ []))) ms) finished
+      ap (λ (ms : List Message). afterMessages (withBytes t (t .bytes ++ (b ∷ []))) ms) finished
       ∙ (λ i.
       record {
         bytes = all i;

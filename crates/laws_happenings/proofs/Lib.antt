@@ -4,11 +4,12 @@ pub mod Resync
 pub mod FreshLink
 pub mod Recording
 pub mod Panel
+pub mod Agree
+pub mod Asides
 pub mod Ticks
 pub mod Follows
 pub mod Applying
 pub mod Tables
 pub mod Blocks
-pub mod Agree
 pub mod ServicePort
 pub mod ModbusPort

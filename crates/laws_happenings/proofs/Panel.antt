@@ -1,5 +1,5 @@
 -- The panel (2026-06) among what happens to a gate: it touches the recorder alone, and anew only where it is accepted.
-use mathlib.Core.Path.{_≡_, refl, ap, _∙_}
+use mathlib.Core.Path.{_≡_, refl, sym, ap, _∙_}
 use mathlib.Core.Bool.{true, false, not}
 use mathlib.Core.List.{List}
 use Prim.Native.Nat.{ℕ}
@@ -8,15 +8,16 @@ use lib.Dec.{eqb}
 use Rattle.document.specs.Numbers.{done}
 use Rattle.document.specs.Plan.{Plan}
 use Rattle.document.specs.Run.{started}
-use Rattle.document.specs.Recorder.{isRunning, recorderPrepared, recorderStarted}
+use Rattle.document.specs.Recorder.{isRunning, recorderPrepared, recorderStarted, ticked as tickedRecorder}
 use Rattle.document.specs.Recorder.Recorder.{planned}
 use Rattle.document.specs.Gate.{Gate, withRecorder}
 use Rattle.document.specs.Refusals.{firstOf, recorderLines}
 use Rattle.document.specs.Panel.{prepareLines, panelPrepares, panelStarts}
-use Rattle.document.proofs.Cases.{split, both}
+use Rattle.document.proofs.Cases.{split, neither, both}
 use Rattle.document_outcomes.proofs.Firsts.{none-applies}
 use Rattle.document_outcomes.proofs.Recording.{started-same, begun}
-use Rattle.laws_happenings.specs.Recording.{preparesAnew, startsAnew}
+use Rattle.laws_happenings.specs.Asides.{RecorderStep, recorderAfter, isTicked, preparesAnew, startsAnew, isAnew}
+use Rattle.laws_happenings.specs.Asides.RecorderStep.{stays, ticked, prepared, started as starting}
 
 -- ---- the recorder alone
 
@@ -60,3 +61,17 @@ start-anew g start =
     let set-up = none-applies (recorderLines g) (refl, refl, tt) (eqb-true _ _ (t .0)) .0 in
     let b = begun (g .recorder) set-up (not-true (isRunning (g .recorder)) (t .1)) in
     (b .0, starts-it g (t .0) ∙ b .1)
+
+-- ---- neither ticked nor set up or started anew: it is the recorder that it was
+pub nothing-new : (o : RecorderStep) (g : Gate) → isTicked o ≡ false → isAnew o g ≡ false → recorderAfter o g ≡ g .recorder
+nothing-new stays g no-tick old = refl
+nothing-new ticked g no-tick old = neither (sym no-tick)
+nothing-new (prepared setup) g no-tick old = ap (λ (q : Gate). q .recorder) (prepare-refused g setup old)
+nothing-new starting g no-tick old = ap (λ (q : Gate). q .recorder) (start-passes g old)
+
+-- a tick
+pub is-ticked : (o : RecorderStep) (g : Gate) → isTicked o ≡ true → recorderAfter o g ≡ tickedRecorder (g .recorder) (g .memory)
+is-ticked stays g is = neither is
+is-ticked ticked g is = refl
+is-ticked (prepared setup) g is = neither is
+is-ticked starting g is = neither is

@@ -22,7 +22,7 @@ use Rattle.document.specs.Commands.{answered}
 use Rattle.document.specs.declared.Service.{Service}
 use Rattle.document.proofs.Cases.{split}
 use Rattle.memory_ranges.proofs.Copies.{stored-length}
-use Rattle.recorder_history.proofs.Bytes.{drop-sets}
+use Rattle.memory_ranges.proofs.Stored.{drop-sets}
 use Rattle.document_outcomes.proofs.Answered.{answered-memory}
 
 -- ---- what a message leaves behind the variables: all of it

@@ -5,14 +5,14 @@ use mathlib.Core.List.{List, [], _∷_, _++_, append-assoc, append-nil}
 use Prim.Native.Nat.{ℕ, _<_}
 use lib.ListN.{getD}
 use Rattle.document.specs.Message.{Message, wellFormed, onWire, finishedBy}
-use Rattle.document.specs.Happenings.{Happening, Since, told, after, afterAll}
+use Rattle.document.specs.Happenings.{Happening, Since, afterMessages, after, afterAll}
 use Rattle.document.specs.Happenings.Happening.{byte, aside}
 use Rattle.line_receiver.specs.Runs.{oddRun}
 use Rattle.line_receiver.proofs.Runs.{waits-odd}
 use Rattle.line_receiver.proofs.Demands.{finishes-whole}
 use Rattle.line_wire.proofs.Pairing.{waitsAfter}
 use Rattle.line_wire.proofs.Resync.{message-settled}
-use Rattle.laws_happenings.specs.Bytes.{bytesOf}
+use Rattle.laws_happenings.specs.Bytes.{withByte, bytesOf}
 use Rattle.laws_happenings.specs.Resync.{Resynchronised, ByHalf}
 use Rattle.laws_happenings.specs.Resync.ByHalf.{nothing, whole}
 use Rattle.laws_happenings.proofs.Happened.{before-last, at-last}
@@ -33,7 +33,7 @@ pub resync-even : (m : Message) (s : Since) (hs : List Happening) (b : ℕ) → 
 resync-even m s hs b formed even e = settled-answered m s hs b formed (waits-odd (s .bytes) ∙ even) e
 
 -- the bytes since reset grow by those that came
-pub told-bytes : (ms : List Message) (s : Since) → told s ms .bytes ≡ s .bytes
+pub told-bytes : (ms : List Message) (s : Since) → afterMessages s ms .bytes ≡ s .bytes
 told-bytes [] s = refl
 told-bytes (m ∷ ms) s = refl
 
@@ -41,7 +41,7 @@ pub bytes-after : (hs : List Happening) (s : Since) → afterAll s hs .bytes ≡
 bytes-after [] s = sym (append-nil (s .bytes))
 bytes-after (byte b ∷ hs) s =
     bytes-after hs (after s (byte b))
-    ∙ ap (λ (bs : List ℕ). bs ++ bytesOf hs) (told-bytes (finishedBy (s .bytes) b) (record { bytes = s .bytes ++ (b ∷ []); gate = s .gate; answers = s .answers }))
+    ∙ ap (λ (bs : List ℕ). bs ++ bytesOf hs) (told-bytes (finishedBy (s .bytes) b) (withByte s b))
     ∙ append-assoc (s .bytes) (b ∷ []) (bytesOf hs)
 bytes-after (aside a ∷ hs) s = bytes-after hs (after s (aside a))
 
@@ -58,11 +58,11 @@ pub nothing-by-half : (s : Since) (b : ℕ) → ((i : ℕ) → getD (s .bytes ++
 nothing-by-half s b bytes = by (finishedBy (s .bytes) b) refl
   where
     grown : Since
-    grown = record { bytes = s .bytes ++ (b ∷ []); gate = s .gate; answers = s .answers }
+    grown = withByte s b
 
     by : (ms : List Message) → finishedBy (s .bytes) b ≡ ms → ByHalf s b
-    by [] e = nothing (ap (λ (l : List Message). told grown l .answers) e) (ap (λ (l : List Message). told grown l .gate) e)
+    by [] e = nothing (ap (λ (l : List Message). afterMessages grown l .answers) e) (ap (λ (l : List Message). afterMessages grown l .gate) e)
     by (m ∷ more) e =
         whole m (finishes-whole (s .bytes) b bytes m more e .0)
-        (ap (λ (l : List Message). told grown l .answers) e)
-        (ap (λ (l : List Message). told grown l .gate) e)
+        (ap (λ (l : List Message). afterMessages grown l .answers) e)
+        (ap (λ (l : List Message). afterMessages grown l .gate) e)

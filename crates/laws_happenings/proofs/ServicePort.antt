@@ -1,7 +1,7 @@
 -- "an answer on the service port depends on Modbus traffic only through bytes 0 to 8,191 as commands, ticks and registering found them":
 -- what happens to the service port can be replayed without the frames, from what was found alone.
 use mathlib.Core.Path.{_≡_, refl, sym, ap, subst, _∙_}
-use mathlib.Core.Bool.{false, cond}
+use mathlib.Core.Bool.{true, false, cond}
 use mathlib.Core.List.{List, [], _∷_, _++_}
 use Prim.Native.Nat.{ℕ}
 use lib.Dec.{eqb}
@@ -9,21 +9,20 @@ use lib.ListN.{take, drop, take-append-drop}
 use Rattle.document.specs.Areas.{variablesEnd}
 use Rattle.document.specs.Numbers.{done}
 use Rattle.document.specs.Message.{Message, finishedBy}
-use Rattle.document.specs.Application.{afterCollect, afterReport}
 use Rattle.document.specs.Recorder.{Recorder, recorderStarted}
 use Rattle.document.specs.Gate.{Gate, withMemory, withRecorder}
 use Rattle.document.specs.Refusals.{firstOf, recorderLines}
 use Rattle.document.specs.Panel.{prepareLines, panelPrepares, panelStarts}
 use Rattle.document.specs.Asides.{Aside, beside}
-use Rattle.document.specs.Asides.Aside.{tick, writes, collects, reports, prepares, starts, frames}
 use Rattle.document.specs.Happenings.{Happening, Since, after, afterAll}
 use Rattle.document.specs.Happenings.Happening.{byte, aside}
 use Rattle.document.proofs.Cases.{split, neither}
-use Rattle.laws_modbus.proofs.Kept.{frame-keeps-rest}
-use Rattle.laws_happenings.specs.Applying.{waitingIn, handedAt, handedOut}
+use Rattle.laws_happenings.specs.Asides.{isProgram, isController, CommandStep, commandAfter, handedBy, RecorderStep, isTicked, recorderAfter, row, isTick, isOwn, isFrame}
+use Rattle.laws_happenings.specs.Asides.Side.{controller}
+use Rattle.laws_happenings.specs.Asides.RecorderStep.{stays, ticked, prepared, started}
+use Rattle.laws_happenings.specs.Applying.{handedAt, handedOut}
 use Rattle.laws_happenings.specs.Ports.{withoutFrames, finishes, looks, found, SameBeyond, SameService}
-use Rattle.laws_happenings.proofs.Panel.{prepare-touches, start-touches}
-use Rattle.laws_happenings.proofs.Agree.{drop-sets-agrees}
+use Rattle.laws_happenings.proofs.Asides.{by-side, leaves}
 
 -- ---- the same but for bytes 0 to 8,191
 
@@ -79,20 +78,6 @@ whole-again s t same =
 -- ---- what does not look at the memory leaves them the same
 
 module _ (g k : Gate) (same : SameBeyond g k) where
-  same-memory : (l m : List ℕ) → drop variablesEnd l ≡ drop variablesEnd m → SameBeyond (withMemory g l) (withMemory k m)
-  same-memory l m e =
-      record { memory = e; scope = same .scope; recorder = same .recorder; application = same .application; tables = same .tables }
-
-  same-recorder : (p q : Gate) → p ≡ withRecorder g (p .recorder) → q ≡ withRecorder k (q .recorder) → p .recorder ≡ q .recorder → SameBeyond p q
-  same-recorder p q here there e =
-      record {
-        memory = ap (λ (x : Gate). drop variablesEnd (x .memory)) here ∙ same .memory ∙ sym (ap (λ (x : Gate). drop variablesEnd (x .memory)) there);
-        scope = ap (λ (x : Gate). x .scope) here ∙ same .scope ∙ sym (ap (λ (x : Gate). x .scope) there);
-        recorder = e;
-        application = ap (λ (x : Gate). x .application) here ∙ same .application ∙ sym (ap (λ (x : Gate). x .application) there);
-        tables = ap (λ (x : Gate). x .tables) here ∙ same .tables ∙ sym (ap (λ (x : Gate). x .tables) there);
-      }
-
   -- the panel looks at the recorder alone
   same-prepared : (setup : List ℕ) → panelPrepares g setup .gate .recorder ≡ panelPrepares k setup .gate .recorder
   unfolding panelPrepares
@@ -110,19 +95,26 @@ module _ (g k : Gate) (same : SameBeyond g k) where
       split (eqb (firstOf (recorderLines g)) done) (λ none. rw (none, sym lines ∙ none) (ap recorderStarted (same .recorder)))
       (λ some. rw (some, sym lines ∙ some) (same .recorder))
 
-  same-beside : (bytes : List ℕ) (a : Aside) → looks bytes (aside a) ≡ false → SameBeyond (beside g a) (beside k a)
-  unfolding beside
-  same-beside bytes tick quiet = neither (sym quiet)
-  same-beside bytes (writes address values) quiet =
-      same-memory _ _ (drop-sets-agrees values (g .memory) (k .memory) variablesEnd address (same .memory))
-  same-beside bytes collects quiet =
-      record { memory = same .memory; scope = same .scope; recorder = same .recorder; application = ap afterCollect (same .application); tables = same .tables }
-  same-beside bytes (reports result) quiet =
-      record { memory = same .memory; scope = same .scope; recorder = same .recorder; application = ap (afterReport result) (same .application); tables = same .tables }
-  same-beside bytes (prepares setup) quiet = same-recorder _ _ (prepare-touches g setup) (prepare-touches k setup) (same-prepared setup)
-  same-beside bytes starts quiet = same-recorder _ _ (start-touches g) (start-touches k) same-started
-  same-beside bytes (frames station frame) quiet =
-      same-memory _ _ (frame-keeps-rest station frame (g .memory) ∙ same .memory ∙ sym (frame-keeps-rest station frame (k .memory)))
+  same-step : (o : RecorderStep) → isTicked o ≡ false → recorderAfter o g ≡ recorderAfter o k
+  same-step stays no-tick = same .recorder
+  same-step ticked no-tick = neither (sym no-tick)
+  same-step (prepared setup) no-tick = same-prepared setup
+  same-step started no-tick = same-started
+
+  -- but for ticks nothing beside the line looks at these bytes
+  same-beside : (a : Aside) → isTick a ≡ false → SameBeyond (beside g a) (beside k a)
+  same-beside a still =
+      let here = leaves g a in
+      let there = leaves k a in
+      record {
+        memory =
+            split (isOwn a) (λ own. here .own own k .rest (same .memory))
+            (λ other. here .rest other still ∙ same .memory ∙ sym (there .rest other still));
+        scope = here .scope ∙ same .scope ∙ sym (there .scope);
+        recorder = here .recorder ∙ same-step (row a .recorder) still ∙ sym (there .recorder);
+        application = here .application ∙ ap (commandAfter (row a .command)) (same .application) ∙ sym (there .application);
+        tables = here .tables ∙ same .tables ∙ sym (there .tables);
+      }
 
 none-finished : (ms : List Message) → finishes ms ≡ false → ms ≡ []
 none-finished [] quiet = refl
@@ -135,33 +127,29 @@ module _ (s t : Since) (same : SameService s t) where
       let there : finishedBy (t .bytes) b ≡ [] = ap (λ (bs : List ℕ). finishedBy bs b) (sym (same .bytes)) ∙ here in
       rw (here, there) (record { bytes = ap (λ (bs : List ℕ). bs ++ (b ∷ [])) (same .bytes); answers = same .answers; gate = same .gate })
   same-quiet (aside a) quiet =
-      record { bytes = same .bytes; answers = same .answers; gate = same-beside (s .gate) (t .gate) (same .gate) (s .bytes) a quiet }
+      record { bytes = same .bytes; answers = same .answers; gate = same-beside (s .gate) (t .gate) (same .gate) a quiet }
 
   -- what is handed out is up to the application
   same-handed : (h : Happening) → handedAt s h ≡ handedAt t h
   same-handed (byte b) = refl
-  same-handed (aside tick) = refl
-  same-handed (aside (writes address bytes)) = refl
-  same-handed (aside collects) = ap waitingIn (same .gate .application)
-  same-handed (aside (reports result)) = refl
-  same-handed (aside (prepares setup)) = refl
-  same-handed (aside starts) = refl
-  same-handed (aside (frames station frame)) = refl
+  same-handed (aside a) = ap (handedBy (row a .command)) (same .gate .application)
 
   -- a frame in the one alone
-  same-frame : (station : ℕ) (frame : List ℕ) → SameService (after s (aside (frames station frame))) t
-  unfolding beside
-  same-frame station frame =
+  same-frame : (a : Aside) → isFrame a ≡ true → isOwn a ≡ false → SameService (after s (aside a)) t
+  same-frame a is other =
+      let here = leaves (s .gate) a in
+      let apart = here .apart is in
+      let still : isTick a ≡ false = ap isTicked (apart .1) in
       record {
         bytes = same .bytes;
         answers = same .answers;
         gate =
             record {
-              memory = frame-keeps-rest station frame (s .gate .memory) ∙ same .gate .memory;
-              scope = same .gate .scope;
-              recorder = same .gate .recorder;
-              application = same .gate .application;
-              tables = same .gate .tables;
+              memory = here .rest other still ∙ same .gate .memory;
+              scope = here .scope ∙ same .gate .scope;
+              recorder = here .recorder ∙ ap (λ (o : RecorderStep). recorderAfter o (s .gate)) (apart .1) ∙ same .gate .recorder;
+              application = here .application ∙ ap (λ (o : CommandStep). commandAfter o (s .gate .application)) (apart .0) ∙ same .gate .application;
+              tables = here .tables ∙ same .gate .tables;
             };
       }
 
@@ -211,22 +199,25 @@ module _ (s t : Since) (same : SameService s t) (hs ks : List Happening) where
         hands = rw (there ∙ quiet, quiet) (λ j. same-handed s t same h j ++ next .hands j);
       })
 
-  replay-frame : (station : ℕ) (frame : List ℕ) → ((p q : Since) → SameService p q → Replays p hs q ks (found p hs))
-      → Replays s (aside (frames station frame) ∷ hs) t ks (found s (aside (frames station frame) ∷ hs))
-  replay-frame station frame on =
-      let next = on (after s (aside (frames station frame))) t (same-frame s t same station frame) in
-      record { ends = next .ends; hands = next .hands }
+  -- it finds nothing for the service port, and hands nothing out
+  replay-frame : (a : Aside) → row a .side ≡ controller → ((p q : Since) → SameService p q → Replays p hs q ks (found p hs))
+      → Replays s (aside a ∷ hs) t ks (found s (aside a ∷ hs))
+  replay-frame a is on =
+      let apart = leaves (s .gate) a .apart (ap isController is) in
+      let next = on (after s (aside a)) t (same-frame s t same a (ap isController is) (ap isProgram is)) in
+      record {
+        ends = rw (ap isTicked (apart .1)) (next .ends);
+        hands = ap (λ (o : CommandStep). handedBy o (s .gate .application) ++ handedOut (after s (aside a)) hs) (apart .0) ∙ rw (ap isTicked (apart .1)) (next .hands);
+      }
 
 replay-agrees : (hs : List Happening) (s t : Since) → SameService s t → Replays s hs t (withoutFrames hs) (found s hs)
 replay-agrees [] s t same = record { ends = same; hands = refl }
 replay-agrees (byte b ∷ hs) s t same = replay-on s t same hs (withoutFrames hs) (byte b) (replay-agrees hs)
-replay-agrees (aside tick ∷ hs) s t same = replay-on s t same hs (withoutFrames hs) (aside tick) (replay-agrees hs)
-replay-agrees (aside (writes address bytes) ∷ hs) s t same = replay-on s t same hs (withoutFrames hs) (aside (writes address bytes)) (replay-agrees hs)
-replay-agrees (aside collects ∷ hs) s t same = replay-on s t same hs (withoutFrames hs) (aside collects) (replay-agrees hs)
-replay-agrees (aside (reports result) ∷ hs) s t same = replay-on s t same hs (withoutFrames hs) (aside (reports result)) (replay-agrees hs)
-replay-agrees (aside (prepares setup) ∷ hs) s t same = replay-on s t same hs (withoutFrames hs) (aside (prepares setup)) (replay-agrees hs)
-replay-agrees (aside starts ∷ hs) s t same = replay-on s t same hs (withoutFrames hs) (aside starts) (replay-agrees hs)
-replay-agrees (aside (frames station frame) ∷ hs) s t same = replay-frame s t same hs (withoutFrames hs) station frame (replay-agrees hs)
+replay-agrees (aside a ∷ hs) s t same =
+    by-side (row a .side)
+    (λ own. rw own (replay-on s t same hs (withoutFrames hs) (aside a) (replay-agrees hs)))
+    (λ service. rw service (replay-on s t same hs (withoutFrames hs) (aside a) (replay-agrees hs)))
+    (λ frame. rw frame (replay-frame s t same hs (withoutFrames hs) a frame (replay-agrees hs)))
 
 -- two that are the same but for frames, and found the same, come to the same, and the gate's own program is handed the same commands
 module _ (hs ks : List Happening) (s t : Since) (same : SameService s t) (happened : withoutFrames hs ≡ withoutFrames ks) (seen : found s hs ≡ found t ks) where

@@ -1,12 +1,15 @@
 -- The bytes among what happens, and what happens beside them.
-use mathlib.Core.List.{List, [], _∷_}
+use mathlib.Core.List.{List, [], _∷_, _++_}
 use Prim.Native.Nat.{ℕ, _<_}
 use lib.ListN.{getD}
 use Rattle.document.specs.Bytes.{AllBytes}
-use Rattle.document.specs.Asides.{Aside}
-use Rattle.document.specs.Asides.Aside.{tick, writes, collects, reports, prepares, starts as starting, frames}
-use Rattle.document.specs.Happenings.{Happening}
+use Rattle.document.specs.Happenings.{Happening, Since}
 use Rattle.document.specs.Happenings.Happening.{byte, aside}
+use Rattle.laws_happenings.specs.Asides.{row}
+
+-- a byte more, and nothing else yet
+abbrev pub withByte : Since → ℕ → Since
+withByte s b = record { bytes = s .bytes ++ (b ∷ []); gate = s .gate; answers = s .answers }
 
 -- the bytes that came
 abbrev pub bytesOf : List Happening → List ℕ
@@ -24,19 +27,10 @@ besideBytes (aside a ∷ hs) = aside a ∷ besideBytes hs
 abbrev pub Bytes : List ℕ → Type 0
 Bytes l = (i : ℕ) → getD l i 0 < 256
 
--- what is brought beside the line are bytes
-abbrev pub BesideIsBytes : Aside → Type 0
-BesideIsBytes tick = Unit {0}
-BesideIsBytes (writes address bytes) = AllBytes bytes
-BesideIsBytes collects = Unit {0}
-BesideIsBytes (reports result) = result < 256
-BesideIsBytes (prepares setup) = AllBytes setup
-BesideIsBytes starting = Unit {0}
-BesideIsBytes (frames station frame) = AllBytes frame
-
+-- and so is what is brought beside the line
 abbrev pub IsBytes : Happening → Type 0
 IsBytes (byte b) = b < 256
-IsBytes (aside a) = BesideIsBytes a
+IsBytes (aside a) = AllBytes (row a .brings)
 
 abbrev pub AreBytes : List Happening → Type 0
 AreBytes [] = Unit {0}

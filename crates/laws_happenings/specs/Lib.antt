@@ -1,6 +1,7 @@
 -- The words of demand 3, of the recorder's history, of application commands and of the two ports, over what happens to a gate.
-pub mod Bytes
 pub mod Along
+pub mod Asides
+pub mod Bytes
 pub mod Resync
 pub mod Recording
 pub mod Applying

@@ -7,43 +7,22 @@ use lib.ListN.{take, drop}
 use Rattle.document.specs.Areas.{variablesEnd, calibrationEnd, bufferBegin, bytesAt}
 use Rattle.document.specs.Message.{Message, finishedBy}
 use Rattle.document.specs.Gate.{Gate}
-use Rattle.document.specs.Modbus.{modbusAnswer}
-use Rattle.document.specs.Asides.{Aside}
-use Rattle.document.specs.Asides.Aside.{tick, writes, collects, reports, prepares, starts, frames}
 use Rattle.document.specs.Happenings.{Happening, Since}
 use Rattle.document.specs.Happenings.Happening.{byte, aside}
 use Rattle.laws_happenings.specs.Along.{along}
-use Rattle.laws_happenings.specs.Applying.{ifAny}
+use Rattle.laws_happenings.specs.Asides.{isService, ifAny, row, isTick, isFrame}
 
 -- ---- what the second port answers, over the memory as it stands at each frame; silence is no answer
 
-abbrev pub answeredBeside : Gate → Aside → List (List ℕ)
-answeredBeside g tick = []
-answeredBeside g (writes address bytes) = []
-answeredBeside g collects = []
-answeredBeside g (reports result) = []
-answeredBeside g (prepares setup) = []
-answeredBeside g starts = []
-answeredBeside g (frames station frame) = ifAny (modbusAnswer station frame (g .memory))
-
 abbrev pub modbusAt : Since → Happening → List (List ℕ)
 modbusAt s (byte b) = []
-modbusAt s (aside a) = answeredBeside (s .gate) a
+modbusAt s (aside a) = ifAny (row a .answer (s .gate .memory))
 
 abbrev pub modbusOf : Since → List Happening → List (List ℕ)
 modbusOf = along modbusAt
 
 -- ---- "an answer on the service port depends on Modbus traffic only through bytes 0 to 8,191 as commands, ticks and registering found
 -- them": Modbus traffic is frames
-
-abbrev pub isFrame : Aside → Bool
-isFrame tick = false
-isFrame (writes address bytes) = false
-isFrame collects = false
-isFrame (reports result) = false
-isFrame (prepares setup) = false
-isFrame starts = false
-isFrame (frames station frame) = true
 
 abbrev pub withoutFrames : List Happening → List Happening
 withoutFrames [] = []
@@ -57,13 +36,7 @@ finishes (m ∷ ms) = true
 -- a byte that finishes a command looks at the memory, and a tick does; the panel and the gate's own program do not
 abbrev pub looks : List ℕ → Happening → Bool
 looks bytes (byte b) = finishes (finishedBy bytes b)
-looks bytes (aside tick) = true
-looks bytes (aside (writes address values)) = false
-looks bytes (aside collects) = false
-looks bytes (aside (reports result)) = false
-looks bytes (aside (prepares setup)) = false
-looks bytes (aside starts) = false
-looks bytes (aside (frames station frame)) = false
+looks bytes (aside a) = isTick a
 
 -- bytes 0 to 8,191 as they were found, one after the other
 abbrev pub foundAt : Since → Happening → List (List ℕ)
@@ -89,19 +62,10 @@ pub record SameService (s t : Since) : Type 0 where
 -- ---- "a Modbus answer depends on service traffic only through those bytes and the recorder buffer": beside service traffic, with its
 -- ticks and the panel's calls, there are frames and what the gate's own program writes
 
-abbrev pub isService : Aside → Bool
-isService tick = true
-isService (writes address bytes) = false
-isService collects = true
-isService (reports result) = true
-isService (prepares setup) = true
-isService starts = true
-isService (frames station frame) = false
-
 abbrev pub withoutService : List Happening → List Happening
 withoutService [] = []
 withoutService (byte b ∷ hs) = withoutService hs
-withoutService (aside a ∷ hs) = cond (isService a) (withoutService hs) (aside a ∷ withoutService hs)
+withoutService (aside a ∷ hs) = cond (isService (row a .side)) (withoutService hs) (aside a ∷ withoutService hs)
 
 pub record Shared : Type 0 where
   pub variables : List ℕ

@@ -13,7 +13,7 @@ use Rattle.document.specs.Frames.{isSilenced}
 use Rattle.document.specs.Modbus.{functionIn, exceptionTo, modbusMemory}
 use Rattle.document.proofs.Bytes.{all-sets}
 use Rattle.document.proofs.Cases.{split}
-use Rattle.recorder_history.proofs.Bytes.{drop-sets}
+use Rattle.memory_ranges.proofs.Stored.{drop-sets}
 use Rattle.laws_modbus.proofs.Carried.{Stored, nothing-stored, carried-stored}
 
 module _ (station : ℕ) (frame memory : List ℕ) where

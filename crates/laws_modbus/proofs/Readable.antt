@@ -9,7 +9,7 @@ use Rattle.document.specs.Areas.{bytesAt}
 use Rattle.document.specs.Values.{number}
 use Rattle.document.specs.Registers.{turned, registersAt, registersStored}
 use Rattle.document.specs.Frames.{wordIn}
-use Rattle.recorder_history.proofs.Bytes.{bytes-stored}
+use Rattle.memory_ranges.proofs.Stored.{bytes-stored}
 use Rattle.modbus_registers.proofs.Turns.{turned-length}
 
 -- the first register, and then the others

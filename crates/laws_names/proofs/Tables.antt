@@ -9,7 +9,7 @@ use borrow.Author.Tests.{ne-eqb, leb-true}
 use lib.Dec.{eqb, leb}
 use lib.ListN.{length}
 use Rattle.document.specs.Areas.{variablesEnd, calibrationEnd}
-use Rattle.document.specs.Tables.{Table, mostTables, entrySize, isPlaceGood, told, tableAnswer}
+use Rattle.document.specs.Tables.{Table, mostTables, entrySize, isPlaceGood, tableData, tableAnswer}
 use Rattle.document.specs.Gate.{Gate}
 use Rattle.document.specs.Answer.{Answer}
 use Rattle.document.proofs.Cases.{both, and-left, and-right}
@@ -37,7 +37,7 @@ place t good =
 
 -- ---- a table is read from what is told of it, and is not taken for the end
 
-table-back : (t : Table) → Place t → tableIn (told t) ≡ t
+table-back : (t : Table) → Place t → tableIn (tableData t) ≡ t
 table-back t p =
     let address = number-back 2 (t .address) (omega (arith, p .ends)) in
     let size = number-back 2 (t .size) (omega (arith, p .ends)) in

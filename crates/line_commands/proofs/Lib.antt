@@ -1,3 +1,3 @@
--- What a command message takes, and when it can be formed.
+-- When a command message can be formed, and what is left of one.
 pub mod Commands
 pub mod Forms

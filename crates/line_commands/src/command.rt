@@ -6,20 +6,20 @@ ghost use Rattle.document.specs.Doubling.{stuffed};
 ghost use Rattle.document.specs.Message.{lengthPart, summed, wellFormed};
 ghost use Rattle.line_wire.specs.Put.{Put};
 ghost use Rattle.line_commands.specs.CommandWritten.{CommandWritten};
-use crate::measure::is_short;
+use bytes_widths::usize_of_u8;
 use codes_table::FIRST_FAST;
 use codes_table::FORM_REFUSED;
 use codes_table::Length;
 use codes_table::ROOM_REFUSED;
 use codes_table::TAKEN;
 use codes_table::data_length;
+use line_measure::is_short;
 use line_wire::Written;
 use line_wire::doubling::PLUS;
 use line_wire::doubling::Progress;
 use line_wire::doubling::put;
 use line_wire::doubling::put_all;
 use line_wire::doubling::put_sum;
-use bytes_widths::usize_of_u8;
 
 // Whether the message can be formed: a command that is no start byte, and as many data as it takes.
 fn is_formed(command: u8, body: &[u8]) -> bool

@@ -9,7 +9,7 @@ use Rattle.document.specs.Message.{Message, lengthPart, wellFormed, onWire, sum
 use Rattle.line_wire.proofs.RightSum.{sum-right}
 use Rattle.line_wire.proofs.Resync.{message-last, message-before, message-settled}
 use Rattle.line_wire.proofs.Half.{EndsWith, whole-on-wire, no-other}
-use Rattle.line_receiver.specs.Report.{Held, held, reporting}
+use Rattle.line_receiver.specs.Report.{HeldMessage, held, reporting}
 use Rattle.line_receiver.specs.Runs.{oddRun}
 use Rattle.line_receiver.specs.Demands.{OnlyAtLast, EndIn, ReportOfWhole}
 use Rattle.line_receiver.proofs.Runs.{waits-odd}
@@ -79,7 +79,7 @@ module _ (body : List ℕ) (full : length body ≡ 64) where
 
   -- Nothing by half: a report is of a whole message that ends with this byte, and there is one at most.
   of-whole : (bs : List ℕ) (b : ℕ) → ((i : ℕ) → getD (bs ++ (b ∷ [])) i 0 < 256) →
-      (report : Held) (more : List Held) (ms : List Message) →
+      (report : HeldMessage) (more : List HeldMessage) (ms : List Message) →
       finishedBy bs b ≡ ms → map held ms ≡ report ∷ more → ReportOfWhole (bs ++ (b ∷ [])) report × (more ≡ [])
   of-whole bs b bytes report more [] finished e = absurd (nil≢cons e)
   of-whole bs b bytes report more (m ∷ ms) finished e =
@@ -89,7 +89,7 @@ module _ (body : List ℕ) (full : length body ≡ 64) where
       )
 
   pub nothing-by-half : (bs : List ℕ) (b : ℕ) → ((i : ℕ) → getD (bs ++ (b ∷ [])) i 0 < 256) →
-      (report : Held) (more : List Held) →
+      (report : HeldMessage) (more : List HeldMessage) →
       reporting body bs b ≡ report ∷ more → ReportOfWhole (bs ++ (b ∷ [])) report × (more ≡ [])
   nothing-by-half bs b bytes report more e =
       of-whole bs b bytes report more (finishedBy bs b) refl (sym (reports body full bs b) ∙ e)

@@ -12,7 +12,7 @@ use Rattle.line_receiver.specs.declared.Event.{Event}
 use Rattle.line_receiver.specs.declared.Event.the-variants.{Nothing, Keep, Whole}
 use Rattle.line_receiver.specs.Bounds.{idle, dataNext, sumNext}
 use Rattle.line_receiver.specs.Step.{plus, afterByte, byteEvent, stepped}
-use Rattle.line_receiver.specs.Report.{Held, held, reportOf, onByte, sinceReset, reporting}
+use Rattle.line_receiver.specs.Report.{HeldMessage, held, reportOf, onByte, sinceReset, reporting}
 use Rattle.line_receiver.proofs.Reports.{reports}
 
 pub record Idle (r : Receiver) : Type 0 where
@@ -35,7 +35,7 @@ step-idle r b e =
     (λ o. neither (rw (t, n, o) at e))))
     (λ f. neither (rw f at e))
 
-report-finishes : (e : Event) (body : List ℕ) (h : Held) (more : List Held) → reportOf e body ≡ h ∷ more → finishes e ≡ true
+report-finishes : (e : Event) (body : List ℕ) (h : HeldMessage) (more : List HeldMessage) → reportOf e body ≡ h ∷ more → finishes e ≡ true
 report-finishes Nothing body h more is = absurd (nil≢cons is)
 report-finishes (Keep at byte) body h more is = absurd (nil≢cons is)
 report-finishes (Whole command n sum) body h more is = refl

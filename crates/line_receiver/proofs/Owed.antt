@@ -20,12 +20,12 @@ use Rattle.line_receiver.specs.declared.Receiver.{Receiver}
 use Rattle.line_receiver.specs.declared.Event.the-variants.{Nothing, Keep}
 use Rattle.line_receiver.specs.Bounds.{lengthNext, dataNext, sumNext, sound}
 use Rattle.line_receiver.specs.Step.{added, nextPhase, more, opened, counted}
-use Rattle.line_receiver.specs.Report.{Held, held, bodyAfter, reportOf}
+use Rattle.line_receiver.specs.Report.{HeldMessage, held, bodyAfter, reportOf}
 use Rattle.line_receiver.proofs.Sound.{literalTaken, other-phase, by-phase, data-of, sum-of, literal-data, literal-sum, literal-length, literal-outside}
 use Rattle.line_receiver.proofs.Body.{kept-front}
 
 -- ---- k data bytes and the sum byte are to come
-abbrev rest : ℕ → ℕ → List ℕ → ℕ → ℕ → ℕ → List ℕ → List Held
+abbrev rest : ℕ → ℕ → List ℕ → ℕ → ℕ → ℕ → List ℕ → List HeldMessage
 rest c n body have sum zero [] = []
 rest c n body have sum zero (l ∷ ls) = record { command = c; length = n; kept = take n body; sum = added sum l } ∷ []
 rest c n body have sum (suc k) [] = []
@@ -56,11 +56,11 @@ rest-is (suc k) (l ∷ ls) c n body have sum =
     rest-is k ls c n (set body have l) (have + 1) (added sum l) ∙ simp (e, leb·suc-suc, add-one)
 
 -- ---- by phase
-abbrev restMeasured : ℕ → List ℕ → ℕ → ℕ → List ℕ → List Held
+abbrev restMeasured : ℕ → List ℕ → ℕ → ℕ → List ℕ → List HeldMessage
 restMeasured c body have sum [] = []
 restMeasured c body have sum (n ∷ ls) = rest c n body have (added sum n) (n - have) ls
 
-abbrev owesIn : ℕ → ℕ → ℕ → ℕ → ℕ → List ℕ → List ℕ → List Held
+abbrev owesIn : ℕ → ℕ → ℕ → ℕ → ℕ → List ℕ → List ℕ → List HeldMessage
 owesIn phase c n have sum body ls =
     cond (eqb phase dataNext)
     (rest c n body have sum (n - have) ls)
@@ -68,7 +68,7 @@ owesIn phase c n have sum body ls =
     (rest c n body have sum (n - have) ls)
     (cond (eqb phase lengthNext) (restMeasured c body have sum ls) []))
 
-abbrev pub owes : Receiver → List ℕ → List ℕ → List Held
+abbrev pub owes : Receiver → List ℕ → List ℕ → List HeldMessage
 owes r body ls = owesIn (r .phase) (r .command) (r .length) (r .have) (r .sum) body ls
 
 owes-next : (c n have sum : ℕ) (body ls : List ℕ) →

@@ -15,7 +15,7 @@ use Rattle.line_wire.proofs.Machine.{Reads, within-after, reported-at, found-ma
 use Rattle.line_receiver.specs.declared.Receiver.{Receiver}
 use Rattle.line_receiver.specs.Bounds.{fresh, sound}
 use Rattle.line_receiver.specs.Step.{plus, opened, withWaiting, afterByte, byteEvent, stepped}
-use Rattle.line_receiver.specs.Report.{Held, held, Beside, onByte, reportedAt, sinceReset, reporting}
+use Rattle.line_receiver.specs.Report.{HeldMessage, held, Beside, onByte, reportedAt, sinceReset, reporting}
 use Rattle.line_receiver.proofs.Sound.{nothing, literalTaken, waiting-of, waiting-sound, plus-is, step-sound, reset-sound, by-phase, literal-data, literal-sum, literal-length, literal-outside}
 use Rattle.line_receiver.proofs.Body.{body-length}
 use Rattle.line_receiver.proofs.Owed.{owes, owes-none, owes-literal, owes-opened}
@@ -64,10 +64,10 @@ within s = (sound (s .receiver) ≡ true) × (length (s .body) ≡ 64)
 abbrev waits : Beside → Bool
 waits s = eqb (s .receiver .waiting) 1
 
-abbrev owed : Beside → List ℕ → List Held
+abbrev owed : Beside → List ℕ → List HeldMessage
 owed s ls = owes (s .receiver) (s .body) ls
 
-abbrev whole : List ℕ → List Held
+abbrev whole : List ℕ → List HeldMessage
 whole ls = map held (wholeMessage ls)
 
 keeps : (s : Beside) (b : ℕ) → within s → within (onByte s b)

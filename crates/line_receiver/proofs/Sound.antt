@@ -9,7 +9,7 @@ use Rattle.document.specs.Numbers as numbers
 use Rattle.document.specs.Kinds.{hasLengthByte, fastLength}
 use Rattle.document.proofs.Cases.{split, and-left, and-right}
 use Rattle.line_receiver.specs.declared.Receiver.{Receiver}
-use Rattle.line_receiver.specs.declared.Taken.{Taken}
+use Rattle.line_receiver.specs.declared.Reaction.{Reaction}
 use Rattle.line_receiver.specs.declared.Event.the-variants.{Nothing, Keep, Whole}
 use Rattle.line_receiver.specs.Bounds.{idle, lengthNext, dataNext, sumNext, fresh, lengthRight, insideSound, sound}
 use Rattle.line_receiver.specs.Step.{plus, nextPhase, more, opened, measured, counted, closed, added, afterLiteral, literalEvent, withWaiting, afterByte, byteEvent, stepped}
@@ -96,10 +96,10 @@ next-inside c n have fits right =
     (λ f. let e : have ≡ n = omega (arith, ltb-false have n f) in rw (f, right, eq-eqb have n e) refl)
 
 -- ---- the literal of each phase
-abbrev pub nothing : Receiver → Taken
+abbrev pub nothing : Receiver → Reaction
 nothing r = record { next = r; event = Nothing }
 
-unfoldable pub literalTaken : Receiver → ℕ → Taken
+unfoldable pub literalTaken : Receiver → ℕ → Reaction
 literalTaken r l = record { next = afterLiteral r l; event = literalEvent r l }
 
 module _ (r : Receiver) (l : ℕ) where

@@ -6,7 +6,7 @@ use mathlib.Core.List.{List, [], _∷_, _++_}
 use mathlib.Core.Bool.{true, false}
 use Rattle.document.specs.Message.{Message, wellFormed, onWire}
 use Rattle.line_receiver.specs.Runs.{oddRun}
-use Rattle.line_receiver.specs.Report.{Held, held}
+use Rattle.line_receiver.specs.Report.{HeldMessage, held}
 
 -- Where `brings bs b` is what the byte b brings behind the bytes bs: of `sent`, behind bs, the last byte brings just a,
 -- and no byte before it brings anything.
@@ -24,7 +24,7 @@ pub record EndIn (bytes : List ℕ) (m : Message) : Type 0 where
   pub formed : wellFormed m ≡ true
 
 -- what is reported is all of such a message
-pub record ReportOfWhole (bytes : List ℕ) (report : Held) : Type 0 where
+pub record ReportOfWhole (bytes : List ℕ) (report : HeldMessage) : Type 0 where
   pub message : Message
   pub shown : held message ≡ report
   pub sent : EndIn bytes message

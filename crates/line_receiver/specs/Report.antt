@@ -11,14 +11,14 @@ use Rattle.line_receiver.specs.Bounds.{fresh}
 use Rattle.line_receiver.specs.Step.{stepped}
 
 -- what is left of a message: "A data part holds at most 64 bytes", so no more are kept
-pub record Held : Type 0 where
+pub record HeldMessage : Type 0 where
   pub command : ℕ
   pub length : ℕ
   pub kept : List ℕ
   pub sum : ℕ
 
 -- "Command, length if present, data and sum byte add up": the sum is 0 where they do
-abbrev pub held : Message → Held
+abbrev pub held : Message → HeldMessage
 held m =
     record {
       command = m .command;
@@ -38,7 +38,7 @@ bodyAfter (Keep at byte) body = set body at byte
 bodyAfter (Whole command length sum) body = body
 
 -- what an event reports
-abbrev pub reportOf : Event → List ℕ → List Held
+abbrev pub reportOf : Event → List ℕ → List HeldMessage
 reportOf Nothing body = []
 reportOf (Keep at byte) body = []
 reportOf (Whole command length sum) body =
@@ -51,7 +51,7 @@ onByte s b =
       body = bodyAfter (stepped (s .receiver) b .event) (s .body);
     }
 
-abbrev pub reportedAt : Beside → ℕ → List Held
+abbrev pub reportedAt : Beside → ℕ → List HeldMessage
 reportedAt s b = reportOf (stepped (s .receiver) b .event) (s .body)
 
 -- a fresh receiver beside a body, after the bytes since reset
@@ -59,5 +59,5 @@ abbrev pub sinceReset : List ℕ → List ℕ → Beside
 sinceReset body bs = foldl onByte (record { receiver = fresh; body = body }) bs
 
 -- what is reported of the byte b behind the bytes bs since reset
-abbrev pub reporting : List ℕ → List ℕ → ℕ → List Held
+abbrev pub reporting : List ℕ → List ℕ → ℕ → List HeldMessage
 reporting body bs b = reportedAt (sinceReset body bs) b

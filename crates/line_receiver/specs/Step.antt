@@ -4,7 +4,7 @@ use mathlib.Core.Bool.{cond}
 use lib.Dec.{ltb, eqb}
 use Rattle.document.specs.Kinds.{hasLengthByte, fastLength}
 use Rattle.line_receiver.specs.declared.Receiver.{Receiver}
-use Rattle.line_receiver.specs.declared.Taken.{Taken}
+use Rattle.line_receiver.specs.declared.Reaction.{Reaction}
 use Rattle.line_receiver.specs.declared.Event.{Event}
 use Rattle.line_receiver.specs.declared.Event.the-variants.{Nothing, Keep, Whole}
 use Rattle.line_receiver.specs.Bounds.{idle, lengthNext, dataNext, sumNext}
@@ -102,5 +102,5 @@ afterByte r b =
 unfoldable pub byteEvent : Receiver → ℕ → Event
 byteEvent r b = cond (eqb (plus b) (r .waiting)) (literalEvent r b) Nothing
 
-unfoldable pub stepped : Receiver → ℕ → Taken
+unfoldable pub stepped : Receiver → ℕ → Reaction
 stepped r b = record { next = afterByte r b; event = byteEvent r b }

@@ -1,6 +1,5 @@
 // The receiver: bytes to whole messages, one byte a call. It is the small head alone; the 64-byte body stands beside
 // it with the caller, and each event says what to do with it.
-mod bounds;
 mod step;
 
 // The phases: outside a message, or which literal comes next.
@@ -30,7 +29,7 @@ pub enum Event {
     Whole { command: u8, length: u8, sum: u8 },
 }
 
-pub struct Taken {
+pub struct Reaction {
     pub next: Receiver,
     pub event: Event,
 }

@@ -5,9 +5,9 @@ use crate::DATA_NEXT;
 use crate::Event;
 use crate::IDLE;
 use crate::LENGTH_NEXT;
+use crate::Reaction;
 use crate::Receiver;
 use crate::SUM_NEXT;
-use crate::Taken;
 use codes_table::FIRST_FAST;
 use codes_table::MOST_DATA_BYTE;
 use line_wire::sum::added;
@@ -146,10 +146,10 @@ impl Receiver {
 
     // A byte of the line. Any state is safe; who holds the whole state has checked its bounds. State and event are made apart
     // and put together once: that compiles to half the instructions of an answer made in each branch.
-    pub fn step(self, byte: u8) -> Taken
+    pub fn step(self, byte: u8) -> Reaction
         ensures { λ r. ⌜ r ≡ stepped self byte ⌝ }
     {
-        Taken {
+        Reaction {
             next: self.after_byte(byte),
             event: self.byte_event(byte),
         }

@@ -104,7 +104,8 @@ module _ {A : Type 0} (whole : List ℕ → List A) (grows : (ls : List ℕ) (l 
 counted-none : {A : Type 0} (make : List ℕ → ℕ → A) (n : ℕ) → counted make n [] ≡ []
 counted-none make n = rw (le-ltb n 0 (omega arith)) refl
 
-message-alone : (c : ℕ) → wholeMessage (c ∷ []) ≡ []
+-- a start and its first literal make no message
+pub message-alone : (c : ℕ) → wholeMessage (c ∷ []) ≡ []
 message-alone c =
     split (hasLengthByte c) (λ standard. rw standard refl) (λ fast. rw fast (counted-none (message c) (fastLength c)))
 

@@ -13,6 +13,7 @@ use Rattle.document.specs.Doubling.{stuffed}
 use Rattle.document.specs.Kinds.{hasLengthByte, fastLength}
 use Rattle.document.specs.Message.{Message, wellFormed, onWire, wholeMessage, afterLengthByte, ofLength, finishedBy}
 use Rattle.document.proofs.Cases.{split}
+use Rattle.line_wire.proofs.Grows.{message-alone}
 use Rattle.line_wire.proofs.Pairing.{waitsAfter, framed}
 use Rattle.line_wire.proofs.Machine.{foundBy, finished-found}
 use Rattle.line_wire.proofs.Frames.{counted, message}
@@ -92,14 +93,6 @@ module _ (c : ℕ) (other : eqb c 0x2B ≡ false) (m : Message) (more : List Mes
       (λ standard. finishes-standard front l standard (rw standard at e))
       (λ fast. finishes-fast front l fast (rw fast at e))
 
--- a start and its first literal make no message
-start-alone : (c : ℕ) → wholeMessage (c ∷ []) ≡ []
-start-alone c =
-    split (hasLengthByte c) (λ standard. rw standard refl) (λ fast. rw (
-      fast,
-      le-ltb (fastLength c) 0 (omega arith),
-    ) refl)
-
 -- the first literal behind the command stands in the bytes as it is
 stuffed-first : (ls : List ℕ) → getD (stuffed ls) 0 0 ≡ getD ls 0 0
 stuffed-first [] = refl
@@ -122,7 +115,7 @@ module _ (bs : List ℕ) (b : ℕ) (bytes : (i : ℕ) → getD (bs ++ (b ∷ [])
   found = sym (finished-found bs b) ∙ finished
 
   ended : Ends wholeMessage bs b
-  ended = ends wholeMessage start-alone bs b m more found
+  ended = ends wholeMessage message-alone bs b m more found
 
   finishing : Finishes (ended .first) (ended .front ++ (ended .last ∷ [])) m more
   finishing = finishes (ended .first) (ended .other) m more (ended .front) (ended .last) (sym (ended .found) ∙ found)

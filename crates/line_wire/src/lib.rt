@@ -1,11 +1,6 @@
-// The line: the sum, doubling, and the writer of answers, whatever any command means.
-mod answer;
+// The line: the sum, and doubling, whatever any command means; crates/line_answers writes answers with them.
 pub mod doubling;
 pub mod sum;
-
-pub use answer::begin;
-pub use answer::tell;
-pub use answer::write_answer;
 
 // What a writer did: with which number it refused, or how many bytes it wrote.
 #[repr(C)]

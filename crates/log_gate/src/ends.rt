@@ -2,14 +2,14 @@
 ghost use Rattle.line_wire.specs.AnswerWritten.{AnswerWritten};
 ghost use Rattle.line_commands.specs.CommandWritten.{CommandWritten};
 ghost use Rattle.call_reader.specs.Promises.{BeginDone, ReadDone};
-use line_wire::Written;
 use call_reader::ReadByte;
+use line_wire::Written;
 
 #[no_mangle]
 pub extern "C" fn log_gate_write_answer(status: u8, body: &[u8], out: &mut [u8]) -> Written
     ensures { λ r. ⌜ AnswerWritten (record { status = status; body = now (body .entry) }) (now (out .entry)) r (now (out .exit)) ⌝ }
 {
-    line_wire::write_answer(status, body, out)
+    line_answers::write_answer(status, body, out)
 }
 
 #[no_mangle]

@@ -55,20 +55,3 @@ length-bytes (suc n) x = ap suc (length-bytes n (x / 256))
 pub mask-stored-number : (n : ℕ) (memory : List ℕ) (at old value mask : ℕ) → bytesAt memory at n ≡ littleEndian n old
     → maskStored memory at (littleEndian n value) (littleEndian n mask) ≡ stored memory at (littleEndian n (masked (8 * n) old value mask))
 mask-stored-number n mem at o v m e = rw (length-bytes n v, e, masked-bytes n o v m)
-
-two-bytes : (memory : List ℕ) (at old : ℕ) → at + 2 ≤ length memory → getD memory at 0 < 256 → getD memory (at + 1) 0 < 256
-    → old ≡ getD memory at 0 + 256 * getD memory (at + 1) 0 → bytesAt memory at 2 ≡ littleEndian 2 old
-two-bytes mem at old h h0 h1 e =
-    let a : getD mem at 0 ≡ old % 256 = omega arith in
-    let q : old / 256 ≡ getD mem (at + 1) 0 = omega arith in
-    let b : old / 256 % 256 ≡ getD mem (at + 1) 0 = rw q (omega arith) in
-    rw (drop-cons mem at 0 (omega arith), drop-cons mem (suc at) 0 (omega arith), b, add-one at, a)
-
--- the two stores of the code
-pub mask-stored-word : (memory : List ℕ) (at old value mask new low high : ℕ) → at + 2 ≤ length memory
-    → getD memory at 0 < 256 → getD memory (at + 1) 0 < 256 → old ≡ getD memory at 0 + 256 * getD memory (at + 1) 0
-    → new ≡ masked 16 old value mask → low ≡ new % 256 → high ≡ new / 256
-    → set (set memory at low) (at + 1) high ≡ maskStored memory at (littleEndian 2 value) (littleEndian 2 mask)
-mask-stored-word mem at old v m new lo hi h h0 h1 eo en el eh =
-    let f : new / 256 % 256 ≡ new / 256 = omega (arith, masked-below 16 old v m) in
-    rw (mask-stored-number 2 mem at old v m (two-bytes mem at old h h0 h1 eo), ← en, el, eh, add-one at, f)

@@ -18,7 +18,7 @@ fn shorter(a: usize, b: usize) -> usize
 }
 
 // A value without a mask leaves its byte as it is.
-pub fn mix_in(memory: &mut [u8], at: usize, values: &[u8], masks: &[u8])
+pub fn store_masked(memory: &mut [u8], at: usize, values: &[u8], masks: &[u8])
     requires { ⌜ at + length (now values) ≤ length (now memory) ⌝ }
     ensures { λ _. ⌜ now (memory .exit) ≡ maskStored (now (memory .entry)) at (now (values .entry)) (now (masks .entry)) ⌝ }
 {

@@ -2,5 +2,5 @@
 mod bytes;
 mod words;
 
-pub use bytes::mix_in;
-pub use words::mix_in_word;
+pub use bytes::store_masked;
+pub use words::store_masked_word;

@@ -2,3 +2,4 @@
 pub mod Reach
 pub mod Widths
 pub mod Copies
+pub mod Stored

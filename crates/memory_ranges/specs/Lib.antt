@@ -1,2 +1,2 @@
 -- What the contracts of reading a number say.
-pub mod Held
+pub mod HoldsNumber

@@ -5,6 +5,7 @@ mod values;
 
 pub use ranges::BUFFER_BEGIN;
 pub use ranges::BUFFER_SIZE;
+pub use ranges::CALIBRATION_END;
 pub use ranges::MEMORY_END;
 pub use ranges::RECORDED_END;
 pub use ranges::VARIABLES_END;

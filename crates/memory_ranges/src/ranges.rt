@@ -9,6 +9,9 @@ use bytes_widths::usize_of_u32;
 
 pub const VARIABLES_END: usize = 8192;
 
+// Registered tables end at or below it.
+pub const CALIBRATION_END: usize = 12288;
+
 pub const BUFFER_BEGIN: usize = 12288;
 
 // Recorded variables and trigger end at or below it.

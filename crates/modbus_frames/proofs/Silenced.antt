@@ -1,6 +1,6 @@
 -- Silence, reason by reason: any of them is enough, in whatever order they are looked at.
-use mathlib.Core.Path.{_≡_, refl, sym}
-use mathlib.Core.Bool.{Bool, true, false, not, _||_}
+use mathlib.Core.Path.{_≡_}
+use mathlib.Core.Bool.{true, false, not, or-true, or-false}
 use mathlib.Core.List.{List}
 use Prim.Native.Nat.{ℕ, _<_, _≤_}
 use native.Mathlib.Omega.{arith}
@@ -10,20 +10,8 @@ use lib.ListN.{length}
 use Rattle.document.specs.Bytes.{AllBytes}
 use Rattle.document.specs.CheckSum.{checkSum, isCheckSumRight}
 use Rattle.document.specs.Frames.{stationIn, functionByte, broadcast, isSilenced}
-use Rattle.document.proofs.Cases.{neither}
+use Rattle.document.proofs.Cases.{none-of}
 use Rattle.modbus_check_sums.proofs.Own.{right-leaves-0}
-
-pub or-true : (b : Bool) → b || true ≡ true
-or-true true = refl
-or-true false = refl
-
-or-false : (b : Bool) → b || false ≡ b
-or-false true = refl
-or-false false = refl
-
-pub or-neither : (s t : Bool) → s || t ≡ false → (s ≡ false) × (t ≡ false)
-or-neither true t e = neither (sym e)
-or-neither false t e = (refl, e)
 
 module _ (station : ℕ) (frame : List ℕ) where
   pub too-short : length frame < 4 → true ≡ isSilenced station frame
@@ -68,11 +56,11 @@ module _ (station : ℕ) (frame : List ℕ) where
   pub heard : isSilenced station frame ≡ false → Heard
   unfolding isSilenced
   heard none =
-      let all = or-neither _ (ltb 127 (functionByte frame)) none in
-      let five = or-neither _ (eqb (stationIn frame) broadcast) (all .0) in
-      let four = or-neither _ (not (eqb (stationIn frame) station)) (five .0) in
-      let three = or-neither _ (not (isCheckSumRight frame)) (four .0) in
-      let two = or-neither (ltb (length frame) 4) (ltb 256 (length frame)) (three .0) in
+      let all = none-of _ (ltb 127 (functionByte frame)) none in
+      let five = none-of _ (eqb (stationIn frame) broadcast) (all .0) in
+      let four = none-of _ (not (eqb (stationIn frame) station)) (five .0) in
+      let three = none-of _ (not (isCheckSumRight frame)) (four .0) in
+      let two = none-of (ltb (length frame) 4) (ltb 256 (length frame)) (three .0) in
       record {
         long = ltb-false (length frame) 4 (two .0);
         own = eqb-true (stationIn frame) station (not-false (eqb (stationIn frame) station) (four .1));

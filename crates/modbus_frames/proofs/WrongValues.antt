@@ -1,6 +1,6 @@
 -- Exception 3, reason by reason; and what a frame without it is long enough for.
 use mathlib.Core.Path.{_≡_, sym, ap, _∙_}
-use mathlib.Core.Bool.{Bool, true, false, false≢true, not, _||_}
+use mathlib.Core.Bool.{Bool, true, false, false≢true, not, _||_, or-true}
 use mathlib.Core.List.{List}
 use Prim.Native.Nat.{ℕ, _+_, _*_, _<_, _≤_}
 use native.Mathlib.Omega.{arith}
@@ -11,7 +11,7 @@ use Rattle.document.specs.Frames.{quantityIn, byteCountIn}
 use Rattle.document.specs.Modbus.{isOther, isQuantityWrong, isLengthWrong, isValueWrong}
 use Rattle.document.specs.declared.Function.{Function}
 use Rattle.document.specs.declared.Function.the-variants.{ReadRegisters, WriteRegister, WriteRegisters, MaskRegister, Other}
-use Rattle.modbus_frames.proofs.Silenced.{or-true, or-neither}
+use Rattle.document.proofs.Cases.{none-of}
 
 module _ (frame : List ℕ) where
   pub no-quantity : (most q : ℕ) → q ≡ quantityIn frame → q < 1 → true ≡ isQuantityWrong most frame
@@ -47,16 +47,16 @@ length-right n frame right = eqb-true (length frame) n (not-false (eqb (length f
 
 pub reading-right : (frame : List ℕ) → isValueWrong ReadRegisters frame ≡ false → (length frame ≡ 8) × (quantityIn frame ≤ 125)
 reading-right frame right =
-    let parts = or-neither (isLengthWrong 8 frame) (isQuantityWrong 125 frame) right in
-    (length-right 8 frame (parts .0), ltb-false 125 (quantityIn frame) (or-neither (ltb (quantityIn frame) 1) (ltb 125 (quantityIn frame)) (parts .1) .1))
+    let parts = none-of (isLengthWrong 8 frame) (isQuantityWrong 125 frame) right in
+    (length-right 8 frame (parts .0), ltb-false 125 (quantityIn frame) (none-of (ltb (quantityIn frame) 1) (ltb 125 (quantityIn frame)) (parts .1) .1))
 
 pub register-right : (frame : List ℕ) → isValueWrong WriteRegister frame ≡ false → length frame ≡ 8
 register-right frame right = length-right 8 frame right
 
 pub writing-right : (frame : List ℕ) → isValueWrong WriteRegisters frame ≡ false → (length frame ≡ 9 + byteCountIn frame) × (byteCountIn frame ≡ 2 * quantityIn frame)
 writing-right frame right =
-    let parts = or-neither (isLengthWrong (9 + byteCountIn frame) frame || isQuantityWrong 123 frame) (not (eqb (byteCountIn frame) (2 * quantityIn frame))) right in (
-      length-right (9 + byteCountIn frame) frame (or-neither (isLengthWrong (9 + byteCountIn frame) frame) (isQuantityWrong 123 frame) (parts .0) .0),
+    let parts = none-of (isLengthWrong (9 + byteCountIn frame) frame || isQuantityWrong 123 frame) (not (eqb (byteCountIn frame) (2 * quantityIn frame))) right in (
+      length-right (9 + byteCountIn frame) frame (none-of (isLengthWrong (9 + byteCountIn frame) frame) (isQuantityWrong 123 frame) (parts .0) .0),
       eqb-true (byteCountIn frame) (2 * quantityIn frame) (not-false (eqb (byteCountIn frame) (2 * quantityIn frame)) (parts .1)),
     )
 

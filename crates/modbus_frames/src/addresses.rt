@@ -5,11 +5,11 @@ ghost use Prim.Native.Nat.{ℕ, _≤_};
 ghost use lib.ListN.{length};
 ghost use Rattle.document.specs.Modbus.{isAddressWrong};
 use crate::fields::word_in;
+use bytes_widths::u32_of_u16;
+use bytes_widths::usize_of_u16;
 use document::Function;
 use memory_ranges::may_be_read;
 use memory_ranges::may_be_written;
-use bytes_widths::u32_of_u16;
-use bytes_widths::usize_of_u16;
 
 const REGISTER: usize = 2;
 

@@ -4,8 +4,8 @@ ghost use Prim.Native.Nat.{_+_, _<_, _≤_};
 ghost use lib.ListN.{length};
 ghost use Rattle.document.specs.Frames.{wordIn};
 ghost use Rattle.document.specs.Modbus.{functionOf};
-use document::Function;
 use bytes_widths::u16_of_u8;
+use document::Function;
 
 const READ_REGISTERS: u8 = 3;
 

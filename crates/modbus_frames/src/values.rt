@@ -5,9 +5,9 @@ ghost use lib.ListN.{length};
 ghost use Rattle.document.specs.Modbus.{isQuantityWrong, isValueWrong};
 ghost use Rattle.document.specs.declared.Function.the-variants.{WriteRegisters, ReadRegisters};
 use crate::fields::word_in;
-use document::Function;
 use bytes_widths::usize_of_u8;
 use bytes_widths::usize_of_u16;
+use document::Function;
 
 const MOST_READ: u16 = 125;
 

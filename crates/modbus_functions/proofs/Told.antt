@@ -10,7 +10,7 @@ use Rattle.document.specs.Numbers.{done}
 use Rattle.document.specs.Areas.{bytesAt, mayBeRead}
 use Rattle.document.specs.Frames.{stationIn, functionByte, firstIn, quantityIn}
 use Rattle.document.specs.Registers.{turned, registersAt}
-use Rattle.document.specs.Modbus.{exceptionTo, told}
+use Rattle.document.specs.Modbus.{exceptionTo, functionData}
 use Rattle.document.specs.declared.Function.{Function}
 use Rattle.document.specs.declared.Function.the-variants.{ReadRegisters}
 use Rattle.modbus_registers.proofs.Turns.{turned-length}
@@ -26,10 +26,10 @@ pub front-told : (n : ℕ) (frame out after : List ℕ) (r : ℕ) → 2 ≤ leng
 front-told n frame out after r h p = subst (λ (l : List ℕ). Put l out r after) (head-and n frame h) p
 
 -- by the function that a frame asks for
-pub told-as : {f g : Function} → f ≡ g → (frame memory out after : List ℕ) (r : ℕ) → Put (stationIn frame ∷ functionByte frame ∷ told g frame memory) out r after
-    → Put (stationIn frame ∷ functionByte frame ∷ told f frame memory) out r after
+pub told-as : {f g : Function} → f ≡ g → (frame memory out after : List ℕ) (r : ℕ) → Put (stationIn frame ∷ functionByte frame ∷ functionData g frame memory) out r after
+    → Put (stationIn frame ∷ functionByte frame ∷ functionData f frame memory) out r after
 told-as same frame memory out after r p =
-    subst (λ (f : Function). Put (stationIn frame ∷ functionByte frame ∷ told f frame memory) out r after) (sym same) p
+    subst (λ (f : Function). Put (stationIn frame ∷ functionByte frame ∷ functionData f frame memory) out r after) (sym same) p
 
 pub reads-inside : (frame memory : List ℕ) → exceptionTo ReadRegisters frame memory ≡ done → 2 * firstIn frame + 2 * quantityIn frame ≤ 16384
 reads-inside frame memory none =
@@ -50,10 +50,10 @@ part-length memory first quantity inside =
 
 pub registers-told : (frame memory out left : List ℕ) (first quantity : ℕ) → first ≡ firstIn frame → quantity ≡ quantityIn frame → 2 * first + 2 * quantity ≤ length memory
     → left ≡ sets out 0 (stationIn frame ∷ functionByte frame ∷ 2 * quantity ∷ turned (take (2 * first + 2 * quantity - 2 * first) (drop (2 * first) memory)))
-    → Put (stationIn frame ∷ functionByte frame ∷ told ReadRegisters frame memory) out (3 + 2 * quantity) left
+    → Put (stationIn frame ∷ functionByte frame ∷ functionData ReadRegisters frame memory) out (3 + 2 * quantity) left
 registers-told frame memory out left first quantity ef eq inside e =
     let head : List ℕ → List ℕ = λ (registers : List ℕ). stationIn frame ∷ functionByte frame ∷ registers in
-    let same : 2 * quantity ∷ turned (take (2 * first + 2 * quantity - 2 * first) (drop (2 * first) memory)) ≡ told ReadRegisters frame memory =
+    let same : 2 * quantity ∷ turned (take (2 * first + 2 * quantity - 2 * first) (drop (2 * first) memory)) ≡ functionData ReadRegisters frame memory =
     ap (λ (l : List ℕ). 2 * quantity ∷ turned l) (part memory first quantity) ∙ (λ i. 2 * eq i ∷ registersAt memory (ef i) (eq i))
     in
     let count : length (registersAt memory first quantity) ≡ 2 * quantity =

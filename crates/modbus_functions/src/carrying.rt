@@ -4,11 +4,11 @@ ghost use lib.ListN.{length};
 ghost use Rattle.document.specs.Areas.{memoryEnd};
 ghost use Rattle.document.specs.Numbers.{done};
 ghost use Rattle.document.specs.Modbus.{exceptionTo, carriedOut};
-use document::Function;
-use modbus_frames::word_in;
-use memory_masks::mix_in_word;
-use modbus_registers::turn_in;
 use bytes_widths::usize_of_u16;
+use document::Function;
+use memory_masks::store_masked_word;
+use modbus_frames::word_in;
+use modbus_registers::copy_swapped;
 
 // Where the values of a write begin, and how many bytes stand behind them.
 const VALUE: usize = 4;
@@ -27,15 +27,15 @@ pub fn carry_out(function: Function, frame: &[u8], memory: &mut [u8])
     let at = 2 * usize_of_u16(word_in(frame, 2));
     match function {
         Function::ReadRegisters => {}
-        Function::WriteRegister => turn_in(memory, at, &frame[VALUE..VALUE_END]),
+        Function::WriteRegister => copy_swapped(memory, at, &frame[VALUE..VALUE_END]),
         Function::WriteRegisters => {
             let end = frame.len() - CHECK_SUM;
-            turn_in(memory, at, &frame[VALUES..end]);
+            copy_swapped(memory, at, &frame[VALUES..end]);
         }
         Function::MaskRegister => {
             let kept = word_in(frame, 4);
             let set = word_in(frame, 6);
-            mix_in_word(memory, at, set, !kept);
+            store_masked_word(memory, at, set, !kept);
         }
         Function::Other => {}
     }

@@ -6,14 +6,14 @@ ghost use lib.ListN.{length, take};
 ghost use Rattle.document.specs.Areas.{memoryEnd};
 ghost use Rattle.document.specs.Numbers.{done};
 ghost use Rattle.document.specs.Frames.{stationIn, functionByte, firstIn, quantityIn};
-ghost use Rattle.document.specs.Modbus.{exceptionTo, told, modbusRoom};
+ghost use Rattle.document.specs.Modbus.{exceptionTo, modbusRoom};
 ghost use Rattle.document.specs.declared.Function.the-variants.{ReadRegisters};
-ghost use Rattle.modbus_functions.specs.Put.{Put};
-use document::Function;
-use modbus_frames::word_in;
-use memory_ranges::copy_in;
-use modbus_registers::turn_in;
+ghost use Rattle.modbus_functions.specs.Put.{answerTo, Put};
 use bytes_widths::usize_of_u16;
+use document::Function;
+use memory_ranges::copy_in;
+use modbus_frames::word_in;
+use modbus_registers::copy_swapped;
 
 const TOP_BIT: u8 = 128;
 
@@ -39,8 +39,9 @@ pub fn tell_exception(exception: u8, frame: &[u8], out: &mut [u8]) -> usize
 }
 
 fn tell_registers(frame: &[u8], memory: &[u8], out: &mut [u8]) -> usize
-    requires { ⌜ (6 ≤ length (now frame)) × (quantityIn (now frame) ≤ 125) × (2 * firstIn (now frame) + 2 * quantityIn (now frame) ≤ length (now memory)) × (modbusRoom ≤ length (now out)) ⌝ }
-    ensures { λ r. ⌜ Put (stationIn (now (frame .entry)) ∷ functionByte (now (frame .entry)) ∷ told ReadRegisters (now (frame .entry)) (now (memory .entry))) (now (out .entry)) r (now (out .exit)) ⌝ }
+    requires { ⌜ (6 ≤ length (now frame)) × (quantityIn (now frame) ≤ 125) × (modbusRoom ≤ length (now out)) ⌝ }
+    requires { ⌜ 2 * firstIn (now frame) + 2 * quantityIn (now frame) ≤ length (now memory) ⌝ }
+    ensures { λ r. ⌜ Put (answerTo ReadRegisters (now (frame .entry)) (now (memory .entry))) (now (out .entry)) r (now (out .exit)) ⌝ }
 {
     let from = 2 * usize_of_u16(word_in(frame, 2));
     let count = 2 * usize_of_u16(word_in(frame, 4));
@@ -48,7 +49,7 @@ fn tell_registers(frame: &[u8], memory: &[u8], out: &mut [u8]) -> usize
     out[0] = frame[0];
     out[1] = frame[1];
     out[2] = count as u8;
-    turn_in(out, COUNTED, &memory[from..to]);
+    copy_swapped(out, COUNTED, &memory[from..to]);
     COUNTED + count
 }
 
@@ -63,7 +64,7 @@ fn tell_front(front: usize, frame: &[u8], out: &mut [u8]) -> usize
 
 pub fn tell(function: Function, frame: &[u8], memory: &[u8], out: &mut [u8]) -> usize
     requires { ⌜ (exceptionTo function (now frame) (now memory) ≡ done) × (length (now memory) ≡ memoryEnd) × (modbusRoom ≤ length (now out)) ⌝ }
-    ensures { λ r. ⌜ Put (stationIn (now (frame .entry)) ∷ functionByte (now (frame .entry)) ∷ told function (now (frame .entry)) (now (memory .entry))) (now (out .entry)) r (now (out .exit)) ⌝ }
+    ensures { λ r. ⌜ Put (answerTo function (now (frame .entry)) (now (memory .entry))) (now (out .entry)) r (now (out .exit)) ⌝ }
 {
     match function {
         Function::ReadRegisters => tell_registers(frame, memory, out),

@@ -6,7 +6,7 @@ ghost use Rattle.document.specs.Stores.{stored};
 ghost use Rattle.document.specs.Registers.{turned};
 
 // Whole registers into any slice that has room for them, either way; who asks has seen that it has.
-pub fn turn_in(to: &mut [u8], at: usize, from: &[u8])
+pub fn copy_swapped(to: &mut [u8], at: usize, from: &[u8])
     requires { ⌜ at + length (now from) ≤ length (now to) ⌝ }
     ensures { λ _. ⌜ now (to .exit) ≡ stored (now (to .entry)) at (turned (now (from .entry))) ⌝ }
 {

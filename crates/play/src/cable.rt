@@ -6,13 +6,13 @@ use crate::order::Order;
 use crate::shown::FILLING;
 use crate::shown::put_refusal;
 use crate::shown::put_written;
+use call_reader::ReadByte;
 use line_wire::Written;
 use log_gate::LOG_GATE_READER;
 use log_gate::log_gate_reader_begin;
 use log_gate::log_gate_reader_byte;
 use log_gate::log_gate_write_answer;
 use log_gate::log_gate_write_command;
-use call_reader::ReadByte;
 use script_lines::output::put;
 use script_lines::output::put_bytes;
 use script_lines::output::put_decimal;
@@ -35,7 +35,7 @@ fn put_writing(
     at: usize,
 ) -> usize {
     let written = written(letter, code, body, lent);
-    put_written(letter, written, lent, out, at)
+    put_written(letter, written.refusal, written.length, lent, out, at)
 }
 
 fn write(letter: u8, code: u8, body: &[u8], room: usize, out: &mut [u8; 65536], at: usize) -> usize

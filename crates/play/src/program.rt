@@ -17,7 +17,7 @@ fn put_collecting(
     at: usize,
 ) -> usize {
     let collected = log_gate_collect(state, lent);
-    put_written(b'C', collected, lent, out, at)
+    put_written(b'C', collected.refusal, collected.length, lent, out, at)
 }
 
 pub fn collect(

@@ -15,7 +15,7 @@ fn put_framing(
     at: usize,
 ) -> usize {
     let written = log_gate_modbus(station, frame, memory, lent);
-    put_written(b'U', written, lent, out, at)
+    put_written(b'U', written.refusal, written.length, lent, out, at)
 }
 
 pub fn frame(

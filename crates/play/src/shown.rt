@@ -1,6 +1,5 @@
 // What a call did, as a line of the output shows it.
 use call_block::BlockTaken;
-use line_wire::Written;
 use call_panel::Said;
 use script_lines::output::put;
 use script_lines::output::put_bytes;
@@ -50,14 +49,15 @@ pub fn put_block_taken(
 // The number, how many bytes were written, and the whole lent buffer.
 pub fn put_written(
     letter: u8,
-    written: Written,
+    refusal: u8,
+    length: usize,
     lent: &[u8],
     out: &mut [u8; 65536],
     at: usize,
 ) -> usize {
-    let numbered = put_number(letter, written.refusal, out, at);
+    let numbered = put_number(letter, refusal, out, at);
     let parted = put(b' ', out, numbered);
-    let counted = put_decimal(written.length as u64, out, parted);
+    let counted = put_decimal(length as u64, out, parted);
     let shown = put_bytes(lent, out, counted);
     put(b'\n', out, shown)
 }

@@ -11,8 +11,7 @@ use Rattle.document.specs.Numbers.{isIn}
 use Rattle.document.specs.Variables.{countIn, anySizeZero, countWrong, allMay, setSize}
 use Rattle.document.specs.Plan.{planIn, variablesPart, recordedIn, samplesField, looksAtTrigger, triggerIn, triggerAddressField, triggerSizeField, recorderSizeWrong, recorderRangeWrong}
 use Rattle.recorder_history.specs.History.{PlanFits}
-use Rattle.document.proofs.Cases.{split}
-use Rattle.variables_list.proofs.Wrong.{none-of}
+use Rattle.document.proofs.Cases.{split, none-of}
 
 module _ (ex : Bool) (body : List ℕ) where
   trigger-fits : looksAtTrigger body && not (mayBeRecorded (triggerAddressField ex body) (triggerSizeField ex body)) ≡ false

@@ -11,12 +11,12 @@ use Rattle.document.specs.Plan.{Plan}
 use Rattle.document.specs.Run.{startIndex, placeBegins, setOf, memoryAfterTick}
 use Rattle.document.specs.Sets.{setsTaken, readRound, lastOf}
 use Rattle.recorder_history.specs.History.{PlanFits, Event, begun, after, taken, memoriesLeft, memoriesFound, AllLeaveBuffer}
-use Rattle.recorder_history.proofs.Held.{Held, held-start, held-after, held-read}
+use Rattle.recorder_history.proofs.RingHolds.{RingHolds, held-start, held-after, held-read}
 use Rattle.recorder_history.proofs.Sets.{taken-of-left, taken-of-found}
 use Rattle.recorder_history.proofs.Ticks.{takes-memory}
 
 module _ (p : Plan) (m : List ℕ) (es : List Event) (f : PlanFits p) (l : length m ≡ memoryEnd) (q : AllLeaveBuffer p (begun m) es) where
-  all-held : Held p (after p (begun m) es .run .place) (after p (begun m) es .run .full) (after p (begun m) es .memory) (taken p (begun m) es)
+  all-held : RingHolds p (after p (begun m) es .run .place) (after p (begun m) es .run .full) (after p (begun m) es .memory) (taken p (begun m) es)
   all-held = held-after p f es (begun m) [] (held-start p f m l) q
 
   read-taken : readRound p (after p (begun m) es .memory) (startIndex (after p (begun m) es .run)) (min (length (taken p (begun m) es)) (p .samples))

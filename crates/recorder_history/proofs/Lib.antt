@@ -1,10 +1,9 @@
 -- The laws and theorems, lowest first.
-pub mod Bytes
 pub mod Places
 pub mod Sources
 pub mod Ticks
 pub mod Counts
-pub mod Held
+pub mod RingHolds
 pub mod Sets
 pub mod History
 pub mod Stop

@@ -13,7 +13,7 @@ use Rattle.document.specs.Areas.{bytesAt}
 use Rattle.document.specs.Run.{placeAfter, fullAfter}
 use Rattle.recorder_history.specs.History.{placeOfSet}
 use Rattle.document.proofs.Cases.{split}
-use Rattle.recorder_history.proofs.Bytes.{bytes-before, bytes-behind}
+use Rattle.memory_ranges.proofs.Stored.{bytes-before, bytes-behind}
 
 -- the place behind that of set k is that of set k + 1
 pub place-next : (k n : ℕ) → 1 ≤ n → placeAfter n (k % n) ≡ suc k % n

@@ -18,7 +18,7 @@ use Rattle.document.specs.Sets.{every, untilStop, fromFirst, setsTaken}
 use Rattle.recorder_history.specs.History.{PlanFits, CountsFit, Event, Recording, begun, stepped, taken, memoriesLeft, memoriesFound}
 use Rattle.recorder_history.specs.History.Event.{tick, others, stop}
 use Rattle.document.proofs.Cases.{split}
-use Rattle.recorder_history.proofs.Bytes.{take-sets}
+use Rattle.memory_ranges.proofs.Stored.{take-sets}
 use Rattle.recorder_history.proofs.Sources.{set-agrees, value-agrees}
 use Rattle.recorder_history.proofs.Counts.{started-fits, tick-fits}
 use Rattle.recorder_history.proofs.Ticks.{by-case, stopped-run, stopped-memory, stopped-taken, waits-run, waits-memory, waits-taken, takes-run, takes-memory, takes-taken}

@@ -16,7 +16,7 @@ use Rattle.document.specs.Run.{setOf}
 use Rattle.variables_list.proofs.Values.{values-length}
 use Rattle.recorder_history.specs.History.{PlanFits}
 use Rattle.document.proofs.Cases.{both}
-use Rattle.recorder_history.proofs.Bytes.{bytes-agree}
+use Rattle.memory_ranges.proofs.Stored.{bytes-agree}
 
 -- where a variable that may be recorded ends
 below : (a n : ℕ) → mayBeRecorded a n ≡ true → a + n ≤ recordedEnd

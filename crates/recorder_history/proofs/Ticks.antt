@@ -15,7 +15,7 @@ use Rattle.document.specs.Run.{Run, placeBegins, setOf, setTaken, waited, ranTi
 use Rattle.recorder_history.specs.History.{PlanFits, takenAt}
 use Rattle.recorder_history.specs.History.Event.{tick}
 use Rattle.document.proofs.Cases.{split}
-use Rattle.recorder_history.proofs.Bytes.{take-sets, drop-sets}
+use Rattle.memory_ranges.proofs.Stored.{take-sets, drop-sets}
 use Rattle.recorder_history.proofs.Places.{place-room}
 use Rattle.recorder_history.proofs.Sources.{set-length}
 

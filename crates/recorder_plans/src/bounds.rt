@@ -4,9 +4,9 @@ ghost use mathlib.Core.List.{[], _∷_};
 ghost use Prim.Native.Nat.{_*_, _^_, _≤_};
 ghost use Rattle.document.specs.Numbers.{isIn};
 ghost use Rattle.recorder_plans.specs.Bounds.{fits, sizeSound, triggerSound};
-use memory_ranges::may_be_recorded;
 use bytes_widths::u64_of_u32;
 use bytes_widths::usize_of_u8;
+use memory_ranges::may_be_recorded;
 
 // The first number that takes more than so many bytes.
 fn too_large(size: usize) -> u64

@@ -29,16 +29,16 @@ run-bounds p r e =
     let full = leb (r .full) 1 in
     let wait = leb (r .wait) (p .divider) in
     let place = ltb (r .place) (p .samples) in
-    let b4 = both (running && full && wait && place) (watchSound (p .size) (p .«post_trigger») (r .running) (r .watch) (r .value)) e in
-    let b3 = both (running && full && wait) place (b4 .0) in
-    let b2 = both (running && full) wait (b3 .0) in
-    let b1 = both running full (b2 .0) in
+    let all = both ((running && full) && (wait && place)) (watchSound (p .size) (p .«post_trigger») (r .running) (r .watch) (r .value)) e in
+    let front = both (running && full) (wait && place) (all .0) in
+    let flags = both running full (front .0) in
+    let counts = both wait place (front .1) in
     record {
-      running = leb-true (r .running) 1 (b1 .0);
-      full = leb-true (r .full) 1 (b1 .1);
-      wait = leb-true (r .wait) (p .divider) (b2 .1);
-      place = ltb-true (r .place) (p .samples) (b3 .1);
-      watch = b4 .1;
+      running = leb-true (r .running) 1 (flags .0);
+      full = leb-true (r .full) 1 (flags .1);
+      wait = leb-true (r .wait) (p .divider) (counts .0);
+      place = ltb-true (r .place) (p .samples) (counts .1);
+      watch = all .1;
     }
 
 module _ (size post running watch value : ℕ) (s : watchSound size post running watch value ≡ true) where

@@ -1,5 +1,5 @@
 -- A sound run read from the struct and kept again is the same numbers.
-use mathlib.Core.Path.{_≡_, refl, _∙_}
+use mathlib.Core.Path.{_≡_, refl, ap, _∙_}
 use mathlib.Core.Bool.{Bool, true, false}
 use Prim.Native.Nat.{ℕ, zero, suc, _-_, _≤_}
 use native.Mathlib.Omega.{arith}
@@ -8,7 +8,7 @@ use borrow.Author.Tests.{eqb-true, eqb-false}
 use Rattle.document.specs.Run.{waited, stopped}
 use Rattle.recorder_plans.specs.declared.plan.Plan.{Plan as PlanState}
 use Rattle.recorder_runs.specs.declared.run.Run.{Run as RunState}
-use Rattle.recorder_runs.specs.State.{isSet, flagOf, watchOf, watchNumber, watchValue, runOf, runKept, haltedRun}
+use Rattle.recorder_runs.specs.State.{isSet, flagOf, watchOf, watchNumber, watchValue, runOf, runKept, withWait, withWatch, haltedRun}
 use Rattle.recorder_runs.specs.Bounds.{watchSound, runSound}
 use Rattle.document.proofs.Cases.{split}
 use Rattle.recorder_runs.proofs.Granted.{run-bounds, unprimed-zero, watch-two}
@@ -41,7 +41,7 @@ module _ (p : PlanState) (r : RunState) (s : runSound p r ≡ true) where
   -- whatever its flag and its wait
   kept-as : (running : Bool) (wait : ℕ)
       → runKept (record { running = running; wait = wait; place = r .place; full = isSet (r .full); watch = watchOf (r .watch) (r .value) })
-      ≡ record { running = flagOf running; full = r .full; watch = r .watch; wait = wait; place = r .place; value = r .value }
+      ≡ withWatch (withWait r wait) (flagOf running) (r .watch) (r .value)
   kept-as running wait =
       let b = run-bounds p r s in
       let f = flag-again (r .full) (b .full) in
@@ -49,27 +49,14 @@ module _ (p : PlanState) (r : RunState) (s : runSound p r ≡ true) where
       let v = value-again (p .size) (p .«post_trigger») (r .running) (r .watch) (r .value) (b .watch) in
       λ i. record { running = flagOf running; full = f i; watch = w i; wait = wait; place = r .place; value = v i }
 
-  flag-same : (wait : ℕ)
-      → _≡_ {A = RunState}
-      (record { running = flagOf (isSet (r .running)); full = r .full; watch = r .watch; wait = wait; place = r .place; value = r .value })
-      (record { running = r .running; full = r .full; watch = r .watch; wait = wait; place = r .place; value = r .value })
+  flag-same : (wait : ℕ) → withWatch (withWait r wait) (flagOf (isSet (r .running))) (r .watch) (r .value) ≡ withWait r wait
   flag-same wait =
-      let b = run-bounds p r s in
-      λ i.
-      record {
-        running = flag-again (r .running) (b .running) i;
-        full = r .full;
-        watch = r .watch;
-        wait = wait;
-        place = r .place;
-        value = r .value;
-      }
+      ap (λ (k : ℕ). withWatch (withWait r wait) k (r .watch) (r .value)) (flag-again (r .running) (run-bounds p r s .running))
 
   pub run-again : runKept (runOf r) ≡ r
   run-again = kept-as (isSet (r .running)) (r .wait) ∙ flag-same (r .wait)
 
-  pub waited-again : runKept (waited (runOf r))
-      ≡ record { running = r .running; full = r .full; watch = r .watch; wait = r .wait - 1; place = r .place; value = r .value }
+  pub waited-again : runKept (waited (runOf r)) ≡ withWait r (r .wait - 1)
   waited-again = kept-as (isSet (r .running)) (r .wait - 1) ∙ flag-same (r .wait - 1)
 
   pub halted-again : runKept (stopped (runOf r)) ≡ haltedRun r

@@ -52,19 +52,23 @@ runKept r =
       value = watchValue (r .watch);
     }
 
--- a run with this watch, which alone says whether it goes on
-abbrev pub watching : ℕ → ℕ → ℕ → Watch → RunState
-watching full wait place w =
-    record {
-      running = flagOf (goesOn w);
-      full = full;
-      watch = watchNumber w;
-      wait = wait;
-      place = place;
-      value = watchValue w;
-    }
+-- ---- what changes one part names the others once
+
+abbrev pub withWait : RunState → ℕ → RunState
+withWait r wait = record { running = r .running; full = r .full; watch = r .watch; wait = wait; place = r .place; value = r .value }
+
+-- where the ring goes on
+abbrev pub withPlace : RunState → ℕ → ℕ → RunState
+withPlace r full place = record { running = r .running; full = full; watch = r .watch; wait = r .wait; place = place; value = r .value }
+
+-- the watch for the trigger, and whether the run goes on
+abbrev pub withWatch : RunState → ℕ → ℕ → ℕ → RunState
+withWatch r running watch value = record { running = running; full = r .full; watch = watch; wait = r .wait; place = r .place; value = value }
+
+-- a watch alone says whether the run goes on
+abbrev pub watching : RunState → Watch → RunState
+watching r w = withWatch r (flagOf (goesOn w)) (watchNumber w) (watchValue w)
 
 -- a stop changes only the flag
 abbrev pub haltedRun : RunState → RunState
-haltedRun r =
-    record { running = 0; full = r .full; watch = r .watch; wait = r .wait; place = r .place; value = r .value }
+haltedRun r = withWatch r 0 (r .watch) (r .value)

@@ -3,5 +3,4 @@ mod bounds;
 mod run;
 mod steps;
 
-pub use bounds::is_watch_sound;
 pub use run::Run;

@@ -2,28 +2,28 @@
 ghost use mathlib.Core.Path.{_≡_};
 ghost use mathlib.Core.Bool.{true};
 ghost use mathlib.Core.List.{List};
-ghost use Prim.Native.Nat.{ℕ, _+_, _*_, _^_, _≤_, _<_};
+ghost use Prim.Native.Nat.{ℕ, _*_, _^_, _≤_, _<_};
 ghost use lib.Dec.{ltb};
 ghost use Rattle.document.specs.Trigger.{triggerValue};
 ghost use Rattle.document.specs.Run.{placeAfter, fullAfter, comes, watched, setTaken};
 ghost use Rattle.recorder_plans.specs.State.{triggerOf, planOf};
-ghost use Rattle.recorder_runs.specs.State.{isSet, flagOf, watchOf, watching, runOf, runKept};
+ghost use Rattle.recorder_runs.specs.State.{isSet, flagOf, watchOf, withPlace, withWatch, watching, runOf, runKept};
 ghost use Rattle.recorder_plans.specs.Bounds.{planSound};
-ghost use Rattle.recorder_runs.specs.Bounds.{watchSound, runSound};
+ghost use Rattle.recorder_runs.specs.Bounds.{runSound, Looking};
 use crate::run::PREVIOUS;
 use crate::run::Run;
 use crate::run::TRIGGERED;
 use crate::run::UNPRIMED;
+use bytes_widths::u32_of_u16;
+use bytes_widths::usize_of_u8;
 use recorder_plans::Plan;
 use recorder_triggers::comes;
 use recorder_triggers::is_beyond;
-use bytes_widths::u32_of_u16;
-use bytes_widths::usize_of_u8;
 
 impl Run {
     fn next_place(mut self, samples: u16) -> Run
         requires { ⌜ (self .place < samples) × (self .full ≤ 1) ⌝ }
-        ensures { λ r. ⌜ r ≡ record { running = self .running; full = flagOf (fullAfter samples (self .place) (isSet (self .full))); watch = self .watch; wait = self .wait; place = placeAfter samples (self .place); value = self .value } ⌝ }
+        ensures { λ r. ⌜ r ≡ withPlace self (flagOf (fullAfter samples (self .place) (isSet (self .full)))) (placeAfter samples (self .place)) ⌝ }
     {
         if self.place + 1 == samples {
             self.place = 0;
@@ -36,7 +36,7 @@ impl Run {
 
     // The trigger is still awaited.
     fn primed(mut self, value: u32) -> Run
-        ensures { λ r. ⌜ r ≡ record { running = self .running; full = self .full; watch = 1; wait = self .wait; place = self .place; value = value } ⌝ }
+        ensures { λ r. ⌜ r ≡ withWatch self (self .running) 1 value ⌝ }
     {
         self.watch = PREVIOUS;
         self.value = value;
@@ -46,7 +46,7 @@ impl Run {
     // So many further sets are to be taken, and with none left it stops.
     fn counting(mut self, left: u32) -> Run
         requires { ⌜ self .running ≡ 1 ⌝ }
-        ensures { λ r. ⌜ r ≡ record { running = flagOf (ltb 0 left); full = self .full; watch = 2; wait = self .wait; place = self .place; value = left } ⌝ }
+        ensures { λ r. ⌜ r ≡ withWatch self (flagOf (ltb 0 left)) 2 left ⌝ }
     {
         self.watch = TRIGGERED;
         self.value = left;
@@ -59,7 +59,7 @@ impl Run {
 
     // Whether the trigger, which is awaited, comes at a set with this value: the first set is looked at for itself.
     fn does_come(self, plan: Plan, value: u32) -> bool
-        requires { ⌜ (planSound plan ≡ true) × (watchSound (plan .size) (plan .«post_trigger») (self .running) (self .watch) (self .value) ≡ true) × (self .watch ≡ 2 → ⊥) × (value < 2 ^ (8 * plan .size)) ⌝ }
+        requires { ⌜ Looking plan self value × (self .watch ≡ 2 → ⊥) ⌝ }
         ensures { λ r. ⌜ r ≡ comes (triggerOf plan) (watchOf (self .watch) (self .value)) value ⌝ }
     {
         let size = usize_of_u8(plan.size);
@@ -78,8 +78,8 @@ impl Run {
 
     // The trigger variable held `value` at the set just taken.
     fn watch_on(self, plan: Plan, value: u32) -> Run
-        requires { ⌜ (planSound plan ≡ true) × (watchSound (plan .size) (plan .«post_trigger») (self .running) (self .watch) (self .value) ≡ true) × (self .running ≡ 1) × (value < 2 ^ (8 * plan .size)) ⌝ }
-        ensures { λ r. ⌜ r ≡ watching (self .full) (self .wait) (self .place) (watched (planOf plan) (watchOf (self .watch) (self .value)) value) ⌝ }
+        requires { ⌜ Looking plan self value × (self .running ≡ 1) ⌝ }
+        ensures { λ r. ⌜ r ≡ watching self (watched (planOf plan) (watchOf (self .watch) (self .value)) value) ⌝ }
     {
         if self.watch == TRIGGERED {
             return self.counting(self.value - 1);

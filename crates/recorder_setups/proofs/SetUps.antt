@@ -15,15 +15,15 @@ use Rattle.document.specs.declared.Variable.{Variable}
 use Rattle.document.specs.Variables.{countIn, lengthGiven, countWrong, anySizeZero, allMay, setSize}
 use Rattle.document.specs.Plan.{Trigger, modeField, samplesField, triggerAddressField, triggerSizeField, signField, headWidth, variablesPart, recordedIn, looksAtTrigger, triggerIn, planIn, recorderLayoutWrong, recorderSizeWrong, recorderRangeWrong}
 use Rattle.variables_list.specs.State.{variablesOf, kept}
-use Rattle.variables_list.proofs.Wrong.{none-of, count-right}
+use Rattle.variables_list.proofs.Wrong.{count-right}
 use Rattle.variables_definitions.specs.Parts.{isWhole}
-use Rattle.variables_definitions.specs.Survey.{surveyed}
+use Rattle.variables_surveys.specs.Survey.{surveyed}
 use Rattle.variables_definitions.proofs.Read.{definitions-length, kept-all}
 use Rattle.variables_definitions.proofs.First.{none-applies}
 use Rattle.recorder_plans.specs.State.{planOf}
 use Rattle.recorder_plans.specs.Bounds.{sizeSound, triggerSound, planSound}
 use Rattle.recorder_setups.specs.Setup.{seenSizeWrong, bodyStatus, planRead}
-use Rattle.document.proofs.Cases.{split}
+use Rattle.document.proofs.Cases.{split, none-of}
 use Rattle.recorder_plans.proofs.Granted.{one-of-sizes}
 use Rattle.recorder_setups.proofs.Heads.{trigger-none, trigger-some}
 

@@ -7,7 +7,7 @@ use Rattle.document.specs.Numbers.{isIn}
 use Rattle.document.specs.Areas.{mayBeRecorded}
 use Rattle.document.specs.Plan.{samplesField, triggerAddressField, triggerSizeField, recordedIn, looksAtTrigger, planIn, recorderLayoutWrong, recorderSizeWrong, recorderRangeWrong}
 use Rattle.variables_list.specs.State.{kept}
-use Rattle.variables_definitions.specs.declared.surveys.Surveyed.{Surveyed}
+use Rattle.variables_surveys.specs.declared.Surveyed.{Surveyed}
 use Rattle.variables_definitions.specs.Wrong.{firstWrong}
 use Rattle.recorder_plans.specs.declared.plan.Plan.{Plan as PlanState}
 use Rattle.recorder_plans.specs.State.{planKept}

@@ -8,20 +8,13 @@ ghost use Rattle.document.specs.Values.{number};
 ghost use Rattle.document.specs.Plan.{headWidth, planIn};
 ghost use Rattle.variables_list.specs.State.{kept};
 ghost use Rattle.recorder_plans.specs.State.{planKept};
-use variables_definitions::address_width;
+use bytes_fields::word_at;
+use bytes_widths::usize_of_u8;
 use memory_ranges::number_at;
 use recorder_plans::Plan;
+use variables_definitions::address_width;
 use variables_list::MOST_VARIABLES;
 use variables_list::Variables;
-use bytes_widths::usize_of_u8;
-
-pub(crate) fn word_at(body: &[u8], at: usize) -> u16
-    requires { ⌜ at + 2 ≤ length (now body) ⌝ }
-    ensures { λ r. ⌜ r ≡ number (bytesAt (now (body .entry)) at 2) ⌝ }
-{
-    let word = number_at(body, at, 2);
-    word as u16
-}
 
 // Only the first `size` of four bytes count.
 fn threshold_at(body: &[u8], at: usize, size: usize) -> u32
@@ -35,7 +28,7 @@ fn threshold_at(body: &[u8], at: usize, size: usize) -> u32
 }
 
 // How many bytes stand before the count.
-pub(crate) fn head_width(ex: bool) -> usize
+pub fn head_width(ex: bool) -> usize
     ensures { λ r. ⌜ (r ≡ headWidth ex) × (r ≤ 17) ⌝ }
 {
     13 + address_width(ex)

@@ -2,5 +2,6 @@
 mod fields;
 mod refusals;
 
+pub use fields::head_width;
 pub use fields::read_plan;
 pub use refusals::setup_status;

@@ -11,19 +11,19 @@ ghost use Rattle.document.specs.Variables.{lengthGiven};
 ghost use Rattle.document.specs.Plan.{headWidth, variablesPart, recorderLayoutWrong};
 ghost use Rattle.recorder_setups.specs.Setup.{seenSizeWrong, seenRangeWrong, bodyStatus};
 use crate::fields::head_width;
-use crate::fields::word_at;
-use variables_definitions::Surveyed;
-use variables_definitions::address_width;
-use variables_definitions::is_whole;
-use variables_definitions::survey;
+use bytes_fields::word_at;
+use bytes_widths::usize_of_u8;
+use bytes_widths::usize_of_u16;
 use memory_ranges::BUFFER_SIZE;
 use memory_ranges::RECORDED_END;
 use memory_ranges::may_be_recorded;
 use memory_ranges::number_at;
 use recorder_plans::is_trigger_size;
+use variables_definitions::address_width;
 use variables_list::is_count_wrong;
-use bytes_widths::usize_of_u8;
-use bytes_widths::usize_of_u16;
+use variables_surveys::Surveyed;
+use variables_surveys::is_whole;
+use variables_surveys::survey;
 
 // Too short for the fields before the count, or not as long as the count gives.
 fn is_length_wrong(ex: bool, body: &[u8]) -> bool

@@ -1,6 +1,6 @@
 -- A recorder prepared, from whether the recorder runs and what the data part is answered with.
-use mathlib.Core.Path.{_≡_, refl, sym, ap, _∙_}
-use mathlib.Core.Bool.{Bool, true, false}
+use mathlib.Core.Path.{_≡_, refl, ap, _∙_}
+use mathlib.Core.Bool.{Bool, true}
 use mathlib.Core.List.{List}
 use Prim.Native.Nat.{ℕ, _≤_, _<_, _*_, _^_}
 use native.Mathlib.Omega.{arith}
@@ -21,48 +21,42 @@ use Rattle.document.proofs.Cases.{split}
 use Rattle.recorder_setups.proofs.SetUps.{accepted-means, accepted-sound}
 use Rattle.recorder_runs.proofs.Keeps.{prepared-run-sound}
 
+module _ (running ex : Bool) (body : List ℕ) (taken : prepareStatus running ex body ≡ done) where
+  -- nothing refuses only where it does not run, and where the data part is answered so
+  pub taken-body : bodyStatus ex body ≡ done
+  unfolding prepareStatus
+  taken-body =
+      split running
+      (λ t. let x : _≡_ {A = ℕ} busy done = rw t at taken in let y : ⊥ = omega arith in absurd y)
+      (λ f. rw f at taken)
+
+  -- accepted, the struct means the document's recorder
+  pub prepared-means : recorderOf (preparedState ex body) ≡ recorderPrepared ex body
+  prepared-means = ap (λ (p : Plan). planned p prepared) (accepted-means ex body taken-body)
+
+  -- and is within the bounds: the threshold's bytes hold a number of its size
+  pub prepared-sound : (planIn ex body .trigger .size ≤ 4 → planIn ex body .trigger .threshold < 2 ^ (8 * planIn ex body .trigger .size))
+      → sound (preparedState ex body) ≡ true
+  prepared-sound t =
+      let p : planSound (planRead ex body) ≡ true = accepted-sound ex body taken-body t in
+      rw (p, prepared-run-sound (planRead ex body) p)
+
+-- ---- prepared and started
+
 module _ (r : RecorderState) (ex : Bool) (body : List ℕ) where
-  pub while-running : isRunning (recorderOf r) ≡ true → prepareStatus (recorderOf r) ex body ≡ busy
-  unfolding prepareStatus
-  while-running e = rw e
-
-  pub while-stopped : isRunning (recorderOf r) ≡ false → prepareStatus (recorderOf r) ex body ≡ bodyStatus ex body
-  unfolding prepareStatus
-  while-stopped e = rw e
-
-  -- nothing refuses only where it does not run
-  idle : prepareStatus (recorderOf r) ex body ≡ done → isRunning (recorderOf r) ≡ false
-  idle e =
-      split (isRunning (recorderOf r))
-      (λ t. let x : _≡_ {A = ℕ} busy done = sym (while-running t) ∙ e in let y : ⊥ = omega arith in absurd y)
-      (λ f. f)
-
-  -- and where the data part is answered so
-  pub taken-body : prepareStatus (recorderOf r) ex body ≡ done → bodyStatus ex body ≡ done
-  taken-body e = sym (while-stopped (idle e)) ∙ e
-
-  pub both-refused : (prepareStatus (recorderOf r) ex body ≡ done → ⊥) → bothNext r ex body ≡ r
+  pub both-refused : (prepareStatus (isRunning (recorderOf r)) ex body ≡ done → ⊥) → bothNext r ex body ≡ r
   unfolding bothNext
-  both-refused some = rw (ne-eqb (prepareStatus (recorderOf r) ex body) done some)
+  both-refused some = rw (ne-eqb (prepareStatus (isRunning (recorderOf r)) ex body) done some)
 
-  module _ (taken : prepareStatus (recorderOf r) ex body ≡ done) where
+  module _ (taken : prepareStatus (isRunning (recorderOf r)) ex body ≡ done) where
     pub both-taken : bothNext r ex body ≡ startedState (preparedState ex body)
     unfolding bothNext
-    both-taken = rw (eq-eqb (prepareStatus (recorderOf r) ex body) done taken)
-
-    -- accepted, the struct means the document's recorder
-    pub prepared-means : recorderOf (preparedState ex body) ≡ recorderPrepared ex body
-    prepared-means = ap (λ (p : Plan). planned p prepared) (accepted-means ex body (taken-body taken))
+    both-taken = rw (eq-eqb (prepareStatus (isRunning (recorderOf r)) ex body) done taken)
 
     pub both-mean : recorderOf (bothNext r ex body) ≡ recorderStarted (recorderPrepared ex body)
-    both-mean = ap recorderOf both-taken ∙ ap (λ (p : Plan). planned p started) (accepted-means ex body (taken-body taken))
-
-    -- and is within the bounds: the threshold's bytes hold a number of its size
-    pub prepared-sound : (planIn ex body .trigger .size ≤ 4 → planIn ex body .trigger .threshold < 2 ^ (8 * planIn ex body .trigger .size))
-        → sound (preparedState ex body) ≡ true
-    prepared-sound t =
-        let p : planSound (planRead ex body) ≡ true = accepted-sound ex body (taken-body taken) t in
-        rw (p, prepared-run-sound (planRead ex body) p)
+    both-mean =
+        ap recorderOf both-taken
+        ∙ ap (λ (p : Plan). planned p started) (accepted-means ex body (taken-body (isRunning (recorderOf r)) ex body taken))
 
 -- at reset nothing is set up, and the state is sound
 pub new-means : recorderOf noRecorder ≡ absent

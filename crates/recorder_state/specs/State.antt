@@ -1,7 +1,7 @@
 -- How the recorder's struct holds the document's recorder.
 use mathlib.Core.Bool.{cond}
 use lib.Dec.{eqb}
-use Rattle.document.specs.Run.{Run}
+use Rattle.document.specs.Run.{Run, prepared}
 use Rattle.document.specs.Recorder.{Recorder}
 use Rattle.document.specs.Recorder.Recorder.{absent, planned}
 use Rattle.recorder_plans.specs.State.{planOf, noPlan}
@@ -17,4 +17,4 @@ withRun r run = record { ready = r .ready; plan = r .plan; run = runKept run }
 
 -- reset: "no accepted recorder setup"
 abbrev pub noRecorder : RecorderState
-noRecorder = record { ready = 0; plan = noPlan; run = record { running = 0; full = 0; watch = 0; wait = 0; place = 0; value = 0 } }
+noRecorder = record { ready = 0; plan = noPlan; run = runKept prepared }

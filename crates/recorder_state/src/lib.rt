@@ -5,4 +5,5 @@ mod state;
 
 pub use calls::Answered;
 pub use calls::Queried;
+pub use preparing::prepare_status;
 pub use state::Recorder;

@@ -11,7 +11,7 @@ use Rattle.document.specs.Recorder.{Recorder, tickedMemory}
 use Rattle.recorder_history.proofs.Ticks.{stopped-run, stopped-memory, waits-run, waits-memory, takes-run, takes-memory}
 use Rattle.recorder_plans.specs.State.{planOf}
 use Rattle.recorder_runs.specs.declared.run.Run.{Run as RunState}
-use Rattle.recorder_runs.specs.State.{isSet, runOf, runKept}
+use Rattle.recorder_runs.specs.State.{isSet, runOf, runKept, withWait}
 use Rattle.recorder_runs.proofs.Granted.{run-bounds}
 use Rattle.recorder_runs.proofs.Kept.{run-again, waited-again}
 use Rattle.recorder_state.specs.declared.state.Recorder.{Recorder as RecorderState}
@@ -65,15 +65,7 @@ module _ (r : RecorderState) (m : List ℕ) where
           (record {
             ready = r .ready;
             plan = r .plan;
-            run =
-                record {
-                  running = r .run .running;
-                  full = r .run .full;
-                  watch = r .run .watch;
-                  wait = r .run .wait - 1;
-                  place = r .run .place;
-                  value = r .run .value;
-                };
+            run = withWait (r .run) (r .run .wait - 1);
           })
           m
       waiting-leaves w = (

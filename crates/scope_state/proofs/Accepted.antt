@@ -12,8 +12,9 @@ use Rattle.document.specs.declared.Variable.{Variable}
 use Rattle.document.specs.Variables.{countIn, countWrong, variablesIn, lengthGiven, anySizeZero, allMay}
 use Rattle.document.specs.Scope.{scopeLayoutWrong, scopeSizeWrong, scopeRangeWrong, scopeSetUp}
 use Rattle.document.specs.Scope.Scope.{watching}
+use Rattle.document.proofs.Cases.{none-of}
 use Rattle.variables_list.specs.State.{kept}
-use Rattle.variables_list.proofs.Wrong.{none-of, count-right}
+use Rattle.variables_list.proofs.Wrong.{count-right}
 use Rattle.variables_definitions.proofs.First.{none-applies}
 use Rattle.variables_definitions.proofs.Read.{definitions-length, kept-all}
 use Rattle.scope_state.specs.declared.Scope.{Scope}
@@ -25,7 +26,7 @@ use Rattle.scope_state.proofs.Bounds.{within-bounds}
 kept-scope : (vs : List Variable) → (length vs ≡ 0 → ⊥) → length vs ≤ 8 → scopeOf (record { variables = kept vs }) ≡ watching vs
 kept-scope vs n h = rw (ne-eqb (length vs) 0 n, kept-all vs h)
 
-pub record Taken (ex : Bool) (body : List ℕ) : Type 0 where
+pub record SetupTaken (ex : Bool) (body : List ℕ) : Type 0 where
   pub right : length body ≡ lengthGiven ex body
   pub some : countIn body ≡ 0 → ⊥
   pub few : countIn body ≤ 8
@@ -33,7 +34,7 @@ pub record Taken (ex : Bool) (body : List ℕ) : Type 0 where
   pub ranges : allMay mayBeRead (variablesIn ex body) ≡ true
 
 module _ (ex : Bool) (body : List ℕ) where
-  pub taken-facts : setUpStatus ex body ≡ done → Taken ex body
+  pub taken-facts : setUpStatus ex body ≡ done → SetupTaken ex body
   unfolding setUpStatus
   taken-facts e =
       let n = none-applies (scopeLayoutWrong ex body) (scopeSizeWrong ex body) (scopeRangeWrong ex body) e in

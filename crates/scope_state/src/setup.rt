@@ -6,13 +6,13 @@ ghost use Rattle.scope_state.specs.Setup.{setUpStatus};
 pub fn set_up_status(ex: bool, body: &[u8]) -> u8
     ensures { λ r. ⌜ r ≡ setUpStatus ex (now (body .entry)) ⌝ }
 {
-    if !variables_definitions::is_whole(body, ex) {
+    if !variables_surveys::is_whole(body, ex) {
         return codes_table::LAYOUT_WRONG;
     }
     if variables_list::is_count_wrong(body[0]) {
         return codes_table::SIZE_WRONG;
     }
-    let seen = variables_definitions::survey(body, ex, memory_ranges::MEMORY_END);
+    let seen = variables_surveys::survey(body, ex, memory_ranges::MEMORY_END);
     if seen.zero {
         return codes_table::SIZE_WRONG;
     }

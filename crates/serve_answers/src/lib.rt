@@ -12,13 +12,13 @@ ghost use Rattle.document.specs.declared.Service.{Service};
 ghost use Rattle.document_outcomes.specs.Known.{knownAs};
 ghost use Rattle.line_wire.specs.Told.{Told};
 use codes_table::DONE;
-use line_wire::tell;
+use line_answers::tell;
 pub use words::done_three_words;
 pub use words::done_two_words;
 pub use words::done_word;
 
 // A status without data.
-pub fn alone(status: u8, out: &mut [u8]) -> usize
+pub fn status_alone(status: u8, out: &mut [u8]) -> usize
     requires { ⌜ answerRoom ≤ length (now out) ⌝ }
     ensures { λ r. ⌜ Told (record { status = status; body = [] }) (now (out .entry)) r (now (out .exit)) ⌝ }
 {

@@ -6,7 +6,7 @@ ghost use Rattle.document.specs.Numbers.{answerRoom, done};
 ghost use Rattle.document.specs.Values.{littleEndian};
 ghost use Rattle.line_wire.specs.Told.{Told};
 use codes_table::DONE;
-use line_wire::begin;
+use line_answers::begin;
 use line_wire::doubling::put_sum;
 use line_wire::doubling::put_word;
 

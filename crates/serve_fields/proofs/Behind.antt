@@ -11,14 +11,14 @@ use Rattle.document.specs.Refusals.{Refusal, firstOf}
 use Rattle.document.specs.declared.Service.{Service}
 use Rattle.document.proofs.Cases.{split}
 use Rattle.document_outcomes.proofs.Firsts.{first-append}
-use Rattle.serve_fields.specs.declared.Block.{Block}
-use Rattle.serve_fields.specs.Blocks.{ownLines, IsBlock}
+use Rattle.serve_fields.specs.declared.Fields.{Fields}
+use Rattle.serve_fields.specs.Found.{ownLines, AreFields}
 
 -- what is not refused is not refused by its own fields
 pub own-right : (own rest : ℕ) → cond (eqb own done) rest own ≡ done → own ≡ done
 own-right own rest e = split (eqb own done) (λ right. eqb-true own done right) (λ wrong. rw wrong at e)
 
-module _ (s : Service) (body : List ℕ) (n : ℕ) (b : Block) (found : IsBlock s body n b) where
+module _ (s : Service) (body : List ℕ) (n : ℕ) (b : Fields) (found : AreFields s body n b) where
   behind : (rest : ℕ → ℕ → List Refusal) →
       cond (eqb (b .status) done) (firstOf (rest (b .address) (b .size))) (b .status)
       ≡ cond (eqb (firstOf (ownLines s body n)) done) (firstOf (rest (addressField s body) (sizeField s body))) (firstOf (ownLines s body n))

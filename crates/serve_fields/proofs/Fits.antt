@@ -13,7 +13,7 @@ use Rattle.document.specs.Refusals.{firstOf}
 use Rattle.document.specs.declared.Service.{Service}
 use Rattle.document.proofs.Cases.{split, neither}
 use Rattle.document_outcomes.proofs.Firsts.{none-applies}
-use Rattle.serve_fields.specs.Blocks.{ownLines, OwnFits}
+use Rattle.serve_fields.specs.Found.{ownLines, OwnFits}
 
 -- so many parts are few bytes
 pub parts-few : (parts size : ℕ) → parts ≤ 2 → size < 256 → parts * size ≤ 510

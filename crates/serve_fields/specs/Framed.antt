@@ -4,7 +4,7 @@ use Prim.Native.Nat.{ℕ}
 use Rattle.document.specs.declared.Service.{Service}
 use Rattle.document_outcomes.specs.Changes.{Change, changeOf}
 use Rattle.document_outcomes.specs.Changes.Change.{nothing, store, maskedStore, scopeSetUp, recorderPrepareAndStart, recorderStart, recorderStop, commandSent}
-use Rattle.serve_fields.specs.Blocks.{OwnFits}
+use Rattle.serve_fields.specs.Found.{OwnFits}
 
 -- how many parts of its size stand behind the address: data, or data and mask
 abbrev pub partsOf : Change → ℕ

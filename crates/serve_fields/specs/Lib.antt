@@ -1,3 +1,3 @@
 -- What the fields of a read or a write say.
-pub mod Blocks
+pub mod Found
 pub mod Framed

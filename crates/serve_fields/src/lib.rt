@@ -5,16 +5,16 @@ ghost use lib.ListN.{length};
 ghost use Rattle.document.specs.Areas.{bytesAt};
 ghost use Rattle.document.specs.Values.{number};
 ghost use Rattle.document.specs.Fields.{sizeField, addressPlace};
-ghost use Rattle.serve_fields.specs.Blocks.{ownStatus, OwnFits, IsBlock};
+ghost use Rattle.serve_fields.specs.Found.{ownStatus, OwnFits, AreFields};
+use bytes_widths::usize_of_u8;
 use codes_table::DONE;
 use codes_table::LAYOUT_WRONG;
 use codes_table::SIZE_WRONG;
-use variables_definitions::address_width;
 use document::Service;
-use bytes_widths::usize_of_u8;
+use variables_definitions::address_width;
 
 // The status that the fields give by themselves, where in the memory they go, and where in the message the data begin.
-pub struct Block {
+pub struct Fields {
     pub status: u8,
     pub address: u32,
     pub size: usize,
@@ -65,23 +65,23 @@ fn own_status(service: Service, size: usize, length: usize, given: usize) -> u8
 }
 
 // Behind the address stand so many parts of the access's size: none, data, or data and mask.
-pub fn block_in(service: Service, body: &[u8], parts: usize) -> Block
+pub fn block_in(service: Service, body: &[u8], parts: usize) -> Fields
     requires { ⌜ (parts ≤ 2) × OwnFits service parts (now body) ⌝ }
-    ensures { λ r. ⌜ ((n : ℕ) → n ≡ parts * sizeField service (now (body .entry)) → IsBlock service (now (body .entry)) n r) ⌝ }
+    ensures { λ r. ⌜ ((n : ℕ) → n ≡ parts * sizeField service (now (body .entry)) → AreFields service (now (body .entry)) n r) ⌝ }
 {
     let size = size_in(service, body);
     let from = address_place(service);
     let place = from + address_width(service.ex);
     let status = own_status(service, size, body.len(), place + parts * size);
     if status != DONE {
-        return Block {
+        return Fields {
             status,
             address: 0,
             size,
             place,
         };
     }
-    Block {
+    Fields {
         status,
         address: address_in(body, from, place),
         size,

@@ -8,13 +8,13 @@ use Rattle.document.specs.Services.{serviceOf}
 use Rattle.document.specs.Gate.{Gate, says}
 use Rattle.document.specs.Commands.{served}
 use Rattle.document.specs.declared.Service.{Service}
-use Rattle.line_receiver.specs.Report.{Held}
+use Rattle.line_receiver.specs.Report.{HeldMessage}
 use Rattle.state_parts.specs.State.{Instruments}
 use Rattle.state_byte.specs.After.{instrumentsAfter}
 use Rattle.state_byte.specs.AnsweredHeld.{answeredHeld, instrumentsHeld}
 use Rattle.serve_recorder.specs.Operates.{Operates}
 
-module _ (g : Gate) (i : Instruments) (h : Held) {block out : List ℕ} {n : ℕ} {sent after left : List ℕ} where
+module _ (g : Gate) (i : Instruments) (h : HeldMessage) {block out : List ℕ} {n : ℕ} {sent after left : List ℕ} where
   pub wrong-sum : (h .sum ≡ 0 → ⊥) → Operates (says g sumWrong []) i block out n sent after left → Operates (answeredHeld g h) (instrumentsHeld i h) block out n sent after left
   unfolding answeredHeld instrumentsHeld
   wrong-sum wrong done = rw (ne-eqb (h .sum) 0 wrong) done

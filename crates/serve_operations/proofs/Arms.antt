@@ -20,7 +20,7 @@ use Rattle.state_parts.specs.State.{Instruments, gateOf}
 use Rattle.state_byte.specs.After.{instrumentsChanged, instrumentsAfter}
 use Rattle.state_block.specs.Places.{stateLength}
 use Rattle.state_block.specs.Layout.{decodedInstruments}
-use Rattle.serve_recorder.specs.Operates.{alone, Settles, Operates}
+use Rattle.serve_recorder.specs.Operates.{statusAlone, Settles, Operates}
 use Rattle.serve_recorder.proofs.Changing.{same-block}
 
 -- what a dispatch is asked
@@ -73,7 +73,7 @@ module _ (q : Asked) where
         subst (λ (t : Service). Settles (served g t body) (instrumentsAfter (t .operation) i t body) block status after left) same done
 
     -- one that changes nothing
-    pub says : changeOf o ≡ nothing → (status : ℕ) → alone status ≡ served g (knownAs o s) body .answer
+    pub says : changeOf o ≡ nothing → (status : ℕ) → statusAlone status ≡ served g (knownAs o s) body .answer
         → Settles (served g s body) (instrumentsAfter (s .operation) i s body) block status block (q .memory)
     says none status said =
         settles status block (q .memory)
@@ -94,15 +94,15 @@ module _ (q : Asked) where
   pub met : {status : ℕ} {after left : List ℕ} {r : ℕ} {a l : List ℕ} → status ≡ r → after ≡ a → left ≡ l
       → Settles (served g s body) (instrumentsAfter (s .operation) i s body) block r a l
       → Settles (served g s body) (instrumentsAfter (s .operation) i s body) block status after left
-  met e f h done = record { answer = ap alone e ∙ done .answer; memory = h ∙ done .memory; kept = f ∙ done .kept }
+  met e f h done = record { answer = ap statusAlone e ∙ done .answer; memory = h ∙ done .memory; kept = f ∙ done .kept }
 
   -- the status is told
   pub settled-told : (status : ℕ) {after left out : List ℕ} {n : ℕ} {sent : List ℕ} → Settles (served g s body) (instrumentsAfter (s .operation) i s body) block status after left
-      → Told (alone status) out n sent → Operates (served g s body) (instrumentsAfter (s .operation) i s body) block out n sent after left
+      → Told (statusAlone status) out n sent → Operates (served g s body) (instrumentsAfter (s .operation) i s body) block out n sent after left
   settled-told status done told =
-      record { told = told-as (alone status) _ (done .answer) told; memory = done .memory; kept = done .kept }
+      record { told = told-as (statusAlone status) _ (done .answer) told; memory = done .memory; kept = done .kept }
 
 -- "not served"
-pub unserved-says : (g : Gate) (s : Service) (body : List ℕ) → alone notServed ≡ served g (knownAs Unserved s) body .answer
+pub unserved-says : (g : Gate) (s : Service) (body : List ℕ) → statusAlone notServed ≡ served g (knownAs Unserved s) body .answer
 unfolding served
 unserved-says g s body = refl

@@ -14,12 +14,12 @@ use Rattle.document.specs.declared.Operation.the-variants.{Read}
 use Rattle.document.specs.declared.Service.{Service}
 use Rattle.document_outcomes.specs.Known.{knownAs}
 use Rattle.document_outcomes.proofs.Firsts.{NoneApplies, none-applies, unless-refused, unless-none}
-use Rattle.serve_fields.specs.declared.Block.{Block}
-use Rattle.serve_fields.specs.Blocks.{IsBlock}
+use Rattle.serve_fields.specs.declared.Fields.{Fields}
+use Rattle.serve_fields.specs.Found.{AreFields}
 use Rattle.serve_reads.specs.ReadStatus.{rangeLines, readStatus}
 use Rattle.serve_fields.proofs.Behind.{own-right, first-behind}
 
-module _ (s : Service) (body : List ℕ) (b : Block) (found : IsBlock s body 0 b) (status : ℕ) (said : status ≡ readStatus b) where
+module _ (s : Service) (body : List ℕ) (b : Fields) (found : AreFields s body 0 b) (status : ℕ) (said : status ≡ readStatus b) where
   first : status ≡ firstOf (readLines s body)
   first = said ∙ first-behind s body 0 b found rangeLines
 

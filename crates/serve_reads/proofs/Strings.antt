@@ -30,20 +30,20 @@ ends-not memory at long =
     rw (ends (drop at memory), length-drop) (le-ltb (stringLength memory at) (length memory - at) (omega (arith, long)))
 
 module _ (g : Gate) (s : Service) (body : List ℕ) where
-  abbrev alone : ℕ → Answer
-  alone status = record { status = status; body = [] }
+  abbrev statusAlone : ℕ → Answer
+  statusAlone status = record { status = status; body = [] }
 
-  pub string-layout : (length body ≡ addressWidth (s .ex) → ⊥) → alone layoutWrong ≡ served g (knownAs MeasureString s) body .answer
+  pub string-layout : (length body ≡ addressWidth (s .ex) → ⊥) → statusAlone layoutWrong ≡ served g (knownAs MeasureString s) body .answer
   unfolding served
   string-layout other = rw (ne-eqb (length body) (addressWidth (s .ex)) other) refl
 
   module _ (whole : length body ≡ addressWidth (s .ex)) where
-    pub string-outside : mayBeRead (number body) 1 ≡ false → alone rangeWrong ≡ served g (knownAs MeasureString s) body .answer
+    pub string-outside : mayBeRead (number body) 1 ≡ false → statusAlone rangeWrong ≡ served g (knownAs MeasureString s) body .answer
     unfolding served
     string-outside out = rw (eq-eqb (length body) (addressWidth (s .ex)) whole, out) refl
 
     module _ (inside : mayBeRead (number body) 1 ≡ true) where
-      pub string-unended : stringEnds (g .memory) (number body) ≡ false → alone sizeWrong ≡ served g (knownAs MeasureString s) body .answer
+      pub string-unended : stringEnds (g .memory) (number body) ≡ false → statusAlone sizeWrong ≡ served g (knownAs MeasureString s) body .answer
       unfolding served
       string-unended none = rw (eq-eqb (length body) (addressWidth (s .ex)) whole, inside, none) refl
 

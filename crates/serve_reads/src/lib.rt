@@ -11,22 +11,22 @@ ghost use Rattle.document.specs.Gate.{Gate};
 ghost use Rattle.document.specs.declared.Operation.the-variants.{Read};
 ghost use Rattle.document_outcomes.specs.Known.{knownAs};
 ghost use Rattle.line_wire.specs.Told.{Told};
-ghost use Rattle.serve_fields.specs.Blocks.{OwnFits};
+ghost use Rattle.serve_fields.specs.Found.{OwnFits};
 ghost use Rattle.serve_reads.specs.ReadStatus.{readStatus};
-use serve_answers::alone;
-use serve_answers::done_with;
+use bytes_widths::usize_of_u32;
 use codes_table::ANSWER_TOO_LONG;
 use codes_table::DONE;
 use codes_table::MOST_DATA;
 use codes_table::RANGE_WRONG;
 use document::Service;
-use serve_fields::Block;
-use serve_fields::block_in;
 pub use measuring::measure_string;
 use memory_ranges::may_be_read;
-use bytes_widths::usize_of_u32;
+use serve_answers::done_with;
+use serve_answers::status_alone;
+use serve_fields::Fields;
+use serve_fields::block_in;
 
-fn read_status(block: Block) -> u8
+fn read_status(block: Fields) -> u8
     ensures { λ r. ⌜ r ≡ readStatus block ⌝ }
 {
     if block.status != DONE {
@@ -48,7 +48,7 @@ pub fn read(service: Service, body: &[u8], memory: &[u8], out: &mut [u8]) -> usi
     let block = block_in(service, body, 0);
     let status = read_status(block);
     if status != DONE {
-        return alone(status, out);
+        return status_alone(status, out);
     }
     let from = usize_of_u32(block.address);
     let to = from + block.size;

@@ -22,10 +22,10 @@ use Rattle.state_byte.specs.After.{instrumentsAfter}
 use Rattle.state_block.specs.Places.{scopePlace, stateLength}
 use Rattle.state_block.specs.Layout.{decodedInstruments, encodedInstruments}
 use Rattle.state_block.proofs.Stored.{same-instruments}
-use Rattle.serve_recorder.specs.Operates.{alone, Settles}
+use Rattle.serve_recorder.specs.Operates.{statusAlone, Settles}
 
 pub settles : (o : Operation) → leavesMemory (changeOf o) ≡ true → (block memory : List ℕ) (s : Service) (body : List ℕ) (status : ℕ) (after : List ℕ)
-    → alone status ≡ served (gateOf (decodedInstruments block) memory) (knownAs o s) body .answer
+    → statusAlone status ≡ served (gateOf (decodedInstruments block) memory) (knownAs o s) body .answer
     → after ≡ sets block scopePlace (encodedInstruments (instrumentsAfter o (decodedInstruments block) s body))
     → Settles (served (gateOf (decodedInstruments block) memory) (knownAs o s) body) (instrumentsAfter o (decodedInstruments block) s body) block status after memory
 settles o leaves block memory s body status after said stored =

@@ -22,7 +22,7 @@ use Rattle.state_block.specs.Places.{scopePlace, stateLength}
 use Rattle.state_block.specs.Layout.{decodedInstruments, encodedInstruments}
 use Rattle.state_block.proofs.Parts.{recorder-length}
 use Rattle.state_block.proofs.Lent.{lent-fits, instruments-back}
-use Rattle.serve_recorder.specs.Operates.{alone, Settles}
+use Rattle.serve_recorder.specs.Operates.{statusAlone, Settles}
 
 module _ (block : List ℕ) (long : stateLength ≤ length block) (small : (i : ℕ) → getD block i 0 < 256) (ex : Bool) (body : List ℕ) (all : AllBytes body) where
   abbrev pub next : Instruments
@@ -48,7 +48,7 @@ module _ (block : List ℕ) (long : stateLength ≤ length block) (small : (i : 
 
   module _ (memory : List ℕ) (s : Service) (any : List ℕ) (status : ℕ) (after : List ℕ)
       (did : Settles (served (gateOf (decodedInstruments between) memory) (knownAs Start s) any) (instrumentsAfter Start (decodedInstruments between) s any) between status after memory) where
-    pub started-done : alone status ≡ alone done
+    pub started-done : statusAlone status ≡ statusAlone done
     unfolding served
     started-done = did .answer ∙ ap (λ (k : Instruments). served (gateOf k memory) (knownAs Start s) any .answer) there
 

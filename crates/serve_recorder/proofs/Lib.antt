@@ -2,5 +2,3 @@
 pub mod Statuses
 pub mod Changing
 pub mod InARow
-pub mod Sending
-pub mod Listed

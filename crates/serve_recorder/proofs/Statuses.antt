@@ -7,7 +7,7 @@ use Rattle.document.specs.Numbers.{done}
 use Rattle.document.specs.Areas.{bufferBegin}
 use Rattle.document.specs.Values.{littleEndian}
 use Rattle.document.specs.Variables.{addressWidth}
-use Rattle.document.specs.Recorder.{Recorder, recorderAbsent, bufferAnswer}
+use Rattle.document.specs.Recorder.{Recorder, recorderAbsent, isRunning, bufferAnswer}
 use Rattle.document.specs.Recorder.Recorder.{absent, planned}
 use Rattle.document.specs.Gate.{Gate, Outcome, says}
 use Rattle.document.specs.Refusals.{recorderSetUpLines, queryLines}
@@ -19,22 +19,22 @@ use Rattle.recorder_state.specs.Preparing.{prepareStatus}
 use Rattle.recorder_state.specs.Calls.{startStatus, stopStatus, statusStatus, queryStatus, indexOf}
 use Rattle.document_outcomes.specs.Known.{knownAs}
 use Rattle.document_outcomes.proofs.Firsts.{unless-alone, unless-refused, unless-none}
-use Rattle.serve_recorder.specs.Operates.{alone}
+use Rattle.serve_recorder.specs.Operates.{statusAlone}
 
 module _ (g : Gate) (s : Service) (body : List ℕ) where
-  pub recorder-prepared : alone (prepareStatus (g .recorder) (s .ex) body) ≡ served g (knownAs PrepareAndStart s) body .answer
+  pub recorder-prepared : statusAlone (prepareStatus (isRunning (g .recorder)) (s .ex) body) ≡ served g (knownAs PrepareAndStart s) body .answer
   unfolding served prepareStatus
   recorder-prepared = sym (unless-alone g (recorderSetUpLines g (s .ex) body) (prepareAndStart g (s .ex) body) refl)
 
-  pub recorder-started : alone (startStatus (g .recorder)) ≡ served g (knownAs Start s) body .answer
+  pub recorder-started : statusAlone (startStatus (g .recorder)) ≡ served g (knownAs Start s) body .answer
   unfolding served
   recorder-started = split (recorderAbsent (g .recorder)) (λ none. rw none refl) (λ some. rw some refl)
 
-  pub recorder-stopped : alone (stopStatus (g .recorder)) ≡ served g (knownAs Stop s) body .answer
+  pub recorder-stopped : statusAlone (stopStatus (g .recorder)) ≡ served g (knownAs Stop s) body .answer
   unfolding served
   recorder-stopped = split (recorderAbsent (g .recorder)) (λ none. rw none refl) (λ some. rw some refl)
 
-  pub recorder-asked : alone (statusStatus (g .recorder)) ≡ served g (knownAs Status s) body .answer
+  pub recorder-asked : statusAlone (statusStatus (g .recorder)) ≡ served g (knownAs Status s) body .answer
   unfolding served
   recorder-asked = split (recorderAbsent (g .recorder)) (λ none. rw none refl) (λ some. rw some refl)
 
@@ -43,7 +43,7 @@ module _ (g : Gate) (s : Service) (body : List ℕ) where
   told : Outcome
   told = says g done (bufferAnswer (addressWidth (s .ex)) (g .recorder))
 
-  pub query-refused : (queryStatus (g .recorder) ≡ done → ⊥) → alone (queryStatus (g .recorder)) ≡ served g (knownAs QueryBuffer s) body .answer
+  pub query-refused : (queryStatus (g .recorder) ≡ done → ⊥) → statusAlone (queryStatus (g .recorder)) ≡ served g (knownAs QueryBuffer s) body .answer
   unfolding served told
   query-refused wrong = sym (ap (λ (o : Outcome). o .answer) (unless-refused g (queryLines g) told wrong))
 

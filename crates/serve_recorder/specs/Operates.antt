@@ -10,12 +10,12 @@ use Rattle.state_parts.specs.State.{Instruments}
 use Rattle.state_block.specs.Places.{scopePlace}
 use Rattle.state_block.specs.Layout.{encodedInstruments}
 
-abbrev pub alone : ℕ → Answer
-alone status = record { status = status; body = [] }
+abbrev pub statusAlone : ℕ → Answer
+statusAlone status = record { status = status; body = [] }
 
 -- the answer is a status alone, which is still to be told
 pub record Settles (o : Outcome) (next : Instruments) (block : List ℕ) (status : ℕ) (after left : List ℕ) : Type 0 where
-  pub answer : alone status ≡ o .answer
+  pub answer : statusAlone status ≡ o .answer
   pub memory : left ≡ o .gate .memory
   pub kept : after ≡ sets block scopePlace (encodedInstruments next)
 

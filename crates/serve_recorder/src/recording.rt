@@ -10,6 +10,7 @@ ghost use Rattle.document.specs.Areas.{bufferBegin};
 ghost use Rattle.document.specs.Numbers.{answerRoom, done};
 ghost use Rattle.document.specs.Values.{littleEndian};
 ghost use Rattle.document.specs.Variables.{addressWidth};
+ghost use Rattle.document.specs.Recorder.{isRunning};
 ghost use Rattle.document.specs.Commands.{served};
 ghost use Rattle.document.specs.declared.Operation.the-variants.{PrepareAndStart, Start, Stop, Status, QueryBuffer};
 ghost use Rattle.document.specs.declared.Service.{Service};
@@ -21,24 +22,26 @@ ghost use Rattle.state_parts.specs.State.{gateOf, withRecorder};
 ghost use Rattle.state_byte.specs.After.{instrumentsAfter};
 ghost use Rattle.state_block.specs.Places.{bodyPlace, scopePlace, stateLength};
 ghost use Rattle.state_block.specs.Layout.{dataTo, decodedRecorder, decodedInstruments, encodedInstruments};
-ghost use Rattle.serve_recorder.specs.Operates.{alone, Settles};
-use serve_answers::alone;
-use serve_answers::done_three_words;
-use serve_answers::done_two_words;
-use state_block::BODY;
-use state_block::put_run;
-use state_block::recorder_in;
+ghost use Rattle.serve_recorder.specs.Operates.{statusAlone, Settles};
 use codes_table::DONE;
 use document::Service;
 use memory_ranges::BUFFER_BEGIN;
+use recorder_state::prepare_status;
+use serve_answers::done_three_words;
+use serve_answers::done_two_words;
+use serve_answers::status_alone;
+use state_block::BODY;
+use state_block::put_run;
+use state_block::recorder_in;
+use state_block::recorder_runs;
 use state_setups::store_prepared;
 
 // The message's data stand in the block, up to a place. What is refused stores nothing.
 fn prepare(state: &mut [u8], ex: bool, to: usize) -> u8
     requires { ⌜ (stateLength ≤ length (now state)) × (bodyPlace ≤ to) × (to ≤ scopePlace) ⌝ }
-    ensures { λ r. ⌜ (r ≡ prepareStatus (recorderOf (decodedRecorder (now (state .entry)))) ex (dataTo (now (state .entry)) to)) × (now (state .exit) ≡ cond (eqb r done) (sets (now (state .entry)) scopePlace (encodedInstruments (withRecorder (decodedInstruments (now (state .entry))) (preparedState ex (dataTo (now (state .entry)) to))))) (now (state .entry))) ⌝ }
+    ensures { λ r. ⌜ (r ≡ prepareStatus (isRunning (recorderOf (decodedRecorder (now (state .entry))))) ex (dataTo (now (state .entry)) to)) × (now (state .exit) ≡ cond (eqb r done) (sets (now (state .entry)) scopePlace (encodedInstruments (withRecorder (decodedInstruments (now (state .entry))) (preparedState ex (dataTo (now (state .entry)) to))))) (now (state .entry))) ⌝ }
 {
-    let status = recorder_in(state).prepare_status(ex, &state[BODY..to]);
+    let status = prepare_status(recorder_runs(state), ex, &state[BODY..to]);
     if status != DONE {
         return status;
     }
@@ -81,7 +84,7 @@ pub fn stop(state: &mut [u8]) -> u8
 
 pub fn status(state: &[u8]) -> u8
     requires { ⌜ stateLength ≤ length (now state) ⌝ }
-    ensures { λ r. ⌜ ((memory : List ℕ) (s : Service) (body : List ℕ) → alone r ≡ served (gateOf (decodedInstruments (now (state .entry))) memory) (knownAs Status s) body .answer) ⌝ }
+    ensures { λ r. ⌜ ((memory : List ℕ) (s : Service) (body : List ℕ) → statusAlone r ≡ served (gateOf (decodedInstruments (now (state .entry))) memory) (knownAs Status s) body .answer) ⌝ }
 {
     recorder_in(state).status()
 }
@@ -92,7 +95,7 @@ pub fn query_buffer(state: &[u8], service: Service, out: &mut [u8]) -> usize
 {
     let queried = recorder_in(state).query();
     if queried.status != DONE {
-        return alone(queried.status, out);
+        return status_alone(queried.status, out);
     }
     buffer_from(service.ex, queried.index, out)
 }

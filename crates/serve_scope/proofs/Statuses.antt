@@ -1,34 +1,24 @@
--- What is said of the scope: its own statuses, alone or with the variables' bytes.
-use mathlib.Core.Path.{_≡_, refl, sym}
-use mathlib.Core.List.{List, []}
+-- What is told of the scope: a status of its own, alone or with the variables' bytes.
+use mathlib.Core.Path.{_≡_, refl}
+use mathlib.Core.List.{List}
 use Prim.Native.Nat.{ℕ, _≤_}
 use native.Mathlib.Omega.{arith}
 use borrow.Author.Tests.{ltb-true, ltb-false}
 use lib.Dec.{ltb}
 use Rattle.document.specs.Numbers.{done, mostData}
-use Rattle.document.specs.Scope.{scopeAbsent, scopeTooLong, scopeSetUp}
+use Rattle.document.specs.Scope.{scopeAbsent, scopeTooLong}
 use Rattle.document.specs.Variables.{setSize}
-use Rattle.document.specs.Gate.{Gate, says, withScope}
-use Rattle.document.specs.Refusals.{scopeSetUpLines}
 use Rattle.document.specs.Commands.{served}
-use Rattle.document.specs.declared.Operation.the-variants.{SetUpScope, ReadScope}
+use Rattle.document.specs.declared.Operation.the-variants.{ReadScope}
 use Rattle.document.specs.declared.Service.{Service}
 use Rattle.document.proofs.Cases.{split}
 use Rattle.variables_list.specs.State.{variablesOf}
 use Rattle.scope_state.specs.declared.Scope.{Scope}
 use Rattle.scope_state.specs.State.{scopeOf}
-use Rattle.scope_state.specs.Setup.{setUpStatus}
 use Rattle.scope_state.specs.Read.{readStatus, readBytes}
 use Rattle.scope_state.proofs.Given.{absent-status, long-status}
 use Rattle.document_outcomes.specs.Known.{knownAs}
-use Rattle.document_outcomes.proofs.Firsts.{unless-alone}
 use Rattle.state_parts.specs.State.{Instruments, gateOf}
-use Rattle.serve_recorder.specs.Operates.{alone}
-
-pub scope-set-up : (g : Gate) (s : Service) (body : List ℕ) → alone (setUpStatus (s .ex) body) ≡ served g (knownAs SetUpScope s) body .answer
-unfolding served setUpStatus
-scope-set-up g s body =
-    sym (unless-alone g (scopeSetUpLines (s .ex) body) (says (withScope g (scopeSetUp (s .ex) body)) done []) refl)
 
 pub scope-read : (i : Instruments) (memory : List ℕ) (s : Service) (body : List ℕ)
     → record { status = readStatus (i .scope); body = readBytes (i .scope) memory } ≡ served (gateOf i memory) (knownAs ReadScope s) body .answer

@@ -17,17 +17,17 @@ ghost use Rattle.state_parts.specs.State.{gateOf};
 ghost use Rattle.state_block.specs.Places.{stateLength};
 ghost use Rattle.state_block.specs.Layout.{decodedScope, decodedInstruments};
 use crate::values::put_values;
-use serve_answers::alone;
-use state_block::SCOPE;
-use state_block::SCOPE_DEFINITIONS;
+use bytes_widths::usize_of_u8;
 use codes_table::ANSWER_TOO_LONG;
 use codes_table::DONE;
 use codes_table::MOST_DATA;
 use codes_table::NOT_SET_UP;
-use line_wire::begin;
+use line_answers::begin;
 use line_wire::doubling::put_sum;
+use serve_answers::status_alone;
+use state_block::SCOPE;
+use state_block::SCOPE_DEFINITIONS;
 use variables_sets::set_size;
-use bytes_widths::usize_of_u8;
 
 fn read_status(block: &[u8]) -> u8
     requires { ⌜ (stateLength ≤ length (now block)) × (sound (decodedScope (now block)) ≡ true) ⌝ }
@@ -49,7 +49,7 @@ pub fn read_scope(state: &[u8], memory: &[u8], out: &mut [u8]) -> usize
 {
     let status = read_status(state);
     if status != DONE {
-        return alone(status, out);
+        return status_alone(status, out);
     }
     let front = begin(DONE, out);
     let behind = put_values(state, memory, front, out);

@@ -11,13 +11,14 @@ ghost use Rattle.variables_list.specs.State.{variablesOf};
 ghost use Rattle.scope_state.specs.State.{sound};
 ghost use Rattle.state_block.specs.Places.{stateLength};
 ghost use Rattle.state_block.specs.Layout.{decodedScope};
+use bytes_fields::DEFINITION_WIDTH;
 use bytes_fields::long_at;
-use state_block::SCOPE;
-use state_block::SCOPE_DEFINITIONS;
-use line_wire::doubling::Progress;
-use line_wire::doubling::put_all;
 use bytes_widths::usize_of_u8;
 use bytes_widths::usize_of_u32;
+use line_wire::doubling::Progress;
+use line_wire::doubling::put_all;
+use state_block::SCOPE;
+use state_block::SCOPE_DEFINITIONS;
 
 // In their order, each definition read where it lies.
 pub(crate) fn put_values(block: &[u8], memory: &[u8], from: Progress, out: &mut [u8]) -> Progress
@@ -31,7 +32,7 @@ pub(crate) fn put_values(block: &[u8], memory: &[u8], from: Progress, out: &mut 
         let start = usize_of_u32(long_at(block, at + 1));
         let end = start + usize_of_u8(block[at]);
         progress = put_all(progress, &memory[start..end], out);
-        at += 5;
+        at += DEFINITION_WIDTH;
         left -= 1;
     }
     progress

@@ -14,15 +14,15 @@ use Rattle.document.specs.Commands.{unless}
 use Rattle.document.specs.declared.Service.{Service}
 use Rattle.document_outcomes.proofs.Firsts.{none-applies, unless-refused, unless-none}
 use Rattle.document_outcomes.proofs.Permitted.{written-variables}
-use Rattle.serve_fields.specs.declared.Block.{Block}
-use Rattle.serve_fields.specs.Blocks.{IsBlock}
+use Rattle.serve_fields.specs.declared.Fields.{Fields}
+use Rattle.serve_fields.specs.Found.{AreFields}
 use Rattle.serve_writes.specs.WriteStatus.{permissionLines, writeStatus}
 use Rattle.serve_writes.specs.Wrote.{Wrote}
 use Rattle.serve_fields.proofs.Behind.{own-right, first-behind}
 
 -- ---- the parts of the message that are handed on
 
-module _ (s : Service) (body : List ℕ) (n : ℕ) (b : Block) (found : IsBlock s body n b) where
+module _ (s : Service) (body : List ℕ) (n : ℕ) (b : Fields) (found : AreFields s body n b) where
   pub values-are : take (b .place + b .size - b .place) (drop (b .place) body) ≡ dataField s body
   values-are =
       let width : b .place + b .size - b .place ≡ sizeField s body = omega (arith, found .size) in
@@ -35,7 +35,7 @@ module _ (s : Service) (body : List ℕ) (n : ℕ) (b : Block) (found : IsBlock 
 
 -- ---- the status
 
-module _ (s : Service) (body : List ℕ) (n : ℕ) (b : Block) (found : IsBlock s body n b) (status : ℕ) (said : (g : Gate) → status ≡ writeStatus g b) where
+module _ (s : Service) (body : List ℕ) (n : ℕ) (b : Fields) (found : AreFields s body n b) (status : ℕ) (said : (g : Gate) → status ≡ writeStatus g b) where
   first : (g : Gate) → status ≡ firstOf (writeLines g s body n)
   first g = said g ∙ first-behind s body n b found (permissionLines g)
 

@@ -3,29 +3,28 @@ ghost use mathlib.Core.Path.{_≡_};
 ghost use Prim.Native.Nat.{_+_, _≤_};
 ghost use lib.ListN.{length};
 ghost use Rattle.document.specs.Areas.{memoryEnd};
-ghost use Rattle.document.specs.Values.{littleEndian};
 ghost use Rattle.document.specs.Stores.{maskStored};
 ghost use Rattle.document.specs.Commands.{served};
 ghost use Rattle.document.specs.Gate.{Gate};
 ghost use Rattle.document.specs.declared.Operation.the-variants.{Write, WriteMasked};
 ghost use Rattle.document_outcomes.specs.Known.{knownAs};
-ghost use Rattle.serve_fields.specs.Blocks.{OwnFits};
+ghost use Rattle.serve_fields.specs.Found.{OwnFits};
 ghost use Rattle.serve_writes.specs.WriteStatus.{writeStatus};
 ghost use Rattle.serve_writes.specs.Wrote.{Wrote};
+use bytes_fields::word_at;
+use bytes_widths::usize_of_u32;
 use codes_table::DONE;
 use codes_table::RANGE_WRONG;
 use document::Service;
-use serve_fields::Block;
-use serve_fields::block_in;
-use memory_masks::mix_in;
-use memory_masks::mix_in_word;
+use memory_masks::store_masked;
+use memory_masks::store_masked_word;
 use memory_ranges::copy_in;
 use memory_ranges::may_be_written;
-use memory_ranges::number;
-use bytes_widths::usize_of_u32;
+use serve_fields::Fields;
+use serve_fields::block_in;
 
 // The one place where a write asks for permission; the stores behind it ask nothing.
-fn write_status(block: Block) -> u8
+fn write_status(block: Fields) -> u8
     ensures { λ r. ⌜ ((g : Gate) → r ≡ writeStatus g block) ⌝ }
 {
     if block.status != DONE {
@@ -53,25 +52,17 @@ pub fn write(service: Service, body: &[u8], memory: &mut [u8]) -> u8
     status
 }
 
-// The two bytes of a word's value or mask.
-fn word_in(part: &[u8]) -> u16
-    requires { ⌜ length (now part) ≡ 2 ⌝ }
-    ensures { λ r. ⌜ littleEndian 2 r ≡ now (part .entry) ⌝ }
-{
-    number(part) as u16
-}
-
 // A word has its own form; everything else goes byte by byte.
 fn mix(memory: &mut [u8], at: usize, values: &[u8], masks: &[u8])
     requires { ⌜ (at + length (now values) ≤ length (now memory)) × (length (now masks) ≡ length (now values)) ⌝ }
     ensures { λ _. ⌜ now (memory .exit) ≡ maskStored (now (memory .entry)) at (now (values .entry)) (now (masks .entry)) ⌝ }
 {
     if values.len() == 2 {
-        let value = word_in(values);
-        let mask = word_in(masks);
-        mix_in_word(memory, at, value, mask);
+        let value = word_at(values, 0);
+        let mask = word_at(masks, 0);
+        store_masked_word(memory, at, value, mask);
     } else {
-        mix_in(memory, at, values, masks);
+        store_masked(memory, at, values, masks);
     }
 }
 

@@ -13,7 +13,7 @@ use Rattle.recorder_runs.specs.declared.run.Run.{Run}
 use Rattle.recorder_state.specs.declared.state.Recorder.{Recorder}
 use Rattle.application_state.specs.State.{Command, sentCommand, endedCommand}
 use Rattle.state_parts.specs.State.{Instruments, withScope, withRecorder, withApplication}
-use Rattle.recorder_history.proofs.Bytes.{bytes-behind}
+use Rattle.memory_ranges.proofs.Stored.{bytes-behind}
 use Rattle.state_block.proofs.Ranges.{sets-part}
 use Rattle.state_block.specs.Layout.{decodedReceiver, decodedBody, decodedScope, decodedRecorder, decodedApplication, decodedInstruments, encodedReceiver, encodedScope, encodedRun, encodedRecorder, encodedApplication, encodedInstruments, encoded}
 use Rattle.state_block.specs.Places.{receiverLength, variablesLength, planLength, recorderLength, applicationLength, tablesLength, instrumentsLength, bodyPlace, scopePlace, recorderPlace, runPlace, applicationPlace, commandPlace, tablesPlace, stateLength}

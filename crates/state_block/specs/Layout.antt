@@ -113,22 +113,25 @@ encodedVariables v = v .count ∷ encodedDefinitions (v .list)
 unfoldable pub encodedScope : Scope → List ℕ
 encodedScope s = encodedVariables (s .variables)
 
--- the plan's numbers, in front of its variables
+-- the plan's numbers, in front of its variables: how it records, and what it waits for
+abbrev pub encodedRing : Plan → List ℕ
+encodedRing p = p .mode ∷ littleEndian 2 (p .samples) ++ littleEndian 2 (p .«post_trigger») ++ littleEndian 2 (p .divider)
+
+abbrev pub encodedTrigger : Plan → List ℕ
+encodedTrigger p = littleEndian 4 (p .address) ++ (p .size ∷ p .sign ∷ littleEndian 4 (p .threshold))
+
 abbrev pub encodedNumbers : Plan → List ℕ
-encodedNumbers p =
-    p .mode
-    ∷ littleEndian 2 (p .samples)
-    ++ littleEndian 2 (p .«post_trigger»)
-    ++ littleEndian 2 (p .divider)
-    ++ littleEndian 4 (p .address)
-    ++ (p .size ∷ p .sign ∷ littleEndian 4 (p .threshold))
+encodedNumbers p = encodedRing p ++ encodedTrigger p
+
+-- the run: its flags, and its counts behind them
+abbrev pub encodedFlags : Run → List ℕ
+encodedFlags r = r .running ∷ r .full ∷ r .watch ∷ []
+
+abbrev pub encodedCounts : Run → List ℕ
+encodedCounts r = littleEndian 2 (r .wait) ++ littleEndian 2 (r .place) ++ littleEndian 4 (r .value)
 
 unfoldable pub encodedRun : Run → List ℕ
-encodedRun r =
-    r .running
-    ∷ r .full
-    ∷ r .watch
-    ∷ littleEndian 2 (r .wait) ++ littleEndian 2 (r .place) ++ littleEndian 4 (r .value)
+encodedRun r = encodedFlags r ++ encodedCounts r
 
 unfoldable pub encodedRecorder : Recorder → List ℕ
 encodedRecorder r = r .ready ∷ encodedNumbers (r .plan) ++ encodedVariables (r .plan .variables) ++ encodedRun (r .run)

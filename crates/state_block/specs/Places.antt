@@ -1,6 +1,8 @@
 -- Where the parts of a target's state lie in its block: each begins where the one before it ends, and a new part is appended.
+use mathlib.Core.Bool.{true}
 use Prim.Native.Nat.{ℕ, _+_, _*_}
 use Rattle.document.specs.Numbers.{mostData}
+use Rattle.document.specs.Variables.{definitionWidth}
 use Rattle.tables_state.specs.State.{listLength}
 
 -- ---- how long a part is
@@ -9,9 +11,9 @@ use Rattle.tables_state.specs.State.{listLength}
 abbrev pub receiverLength : ℕ
 receiverLength = 6
 
--- a count, then eight definitions of a size and an address of 4 bytes
+-- a count, then eight definitions as an EX setup's data part has them
 abbrev pub definitionsLength : ℕ
-definitionsLength = 8 * 5
+definitionsLength = 8 * definitionWidth true
 
 abbrev pub variablesLength : ℕ
 variablesLength = 1 + definitionsLength

@@ -1,12 +1,14 @@
 // Where the parts of a target's state lie in its block: each begins where the one before it ends, and a new part is appended.
 // docs/STATE.md has the same as a table.
+use bytes_fields::DEFINITION_WIDTH;
 use codes_table::MOST_DATA;
 use tables_state::LIST_LENGTH;
+use variables_list::MOST_VARIABLES;
 
 const RECEIVER_LENGTH: usize = 6;
 
-// A count, then eight definitions of a size and an address of 4 bytes.
-const VARIABLES_LENGTH: usize = 1 + 8 * 5;
+// A count, then eight definitions.
+const VARIABLES_LENGTH: usize = 1 + MOST_VARIABLES * DEFINITION_WIDTH;
 
 // The data of the message that the receiver is in.
 pub const BODY: usize = RECEIVER_LENGTH;

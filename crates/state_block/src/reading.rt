@@ -1,9 +1,12 @@
-// From a block to the state that it is. Who asks has seen that the block is long enough.
+// From a block to the state that it is. Who asks has seen that the block is long enough: one question says whether it is.
 ghost use mathlib.Core.Path.{_≡_};
 ghost use mathlib.Core.Bool.{true};
 ghost use Prim.Native.Nat.{_+_, _≤_};
+ghost use lib.Dec.{leb};
 ghost use lib.ListN.{length, drop};
-ghost use Rattle.document.specs.Variables.{definitionIn};
+ghost use Rattle.document.specs.Variables.{definitionWidth, definitionIn};
+ghost use Rattle.document.specs.Recorder.{isRunning};
+ghost use Rattle.recorder_state.specs.State.{recorderOf};
 ghost use Rattle.state_block.specs.Layout.{decodedReceiver, decodedDefinitions, decodedVariables, decodedPlan, decodedRun, decodedRecorder};
 ghost use Rattle.state_block.specs.Places.{definitionsLength, variablesLength, stateLength};
 use crate::places::DIVIDER;
@@ -16,14 +19,23 @@ use crate::places::RECORDED;
 use crate::places::RUNNING;
 use crate::places::SAMPLES;
 use crate::places::SIGN;
+use crate::places::STATE_LENGTH;
 use crate::places::THRESHOLD;
 use crate::places::TRIGGER_ADDRESS;
 use crate::places::TRIGGER_SIZE;
 use crate::places::VALUE;
 use crate::places::WAIT;
 use crate::places::WATCH;
+use bytes_fields::DEFINITION_WIDTH;
 use bytes_fields::long_at;
 use bytes_fields::word_at;
+use variables_list::MOST_VARIABLES;
+
+pub fn is_long_enough(block: &[u8]) -> bool
+    ensures { λ r. ⌜ r ≡ leb stateLength (length (now (block .entry))) ⌝ }
+{
+    STATE_LENGTH <= block.len()
+}
 
 pub fn receiver_in(block: &[u8]) -> line_receiver::Receiver
     requires { ⌜ stateLength ≤ length (now block) ⌝ }
@@ -40,7 +52,7 @@ pub fn receiver_in(block: &[u8]) -> line_receiver::Receiver
 }
 
 fn definition_at(block: &[u8], at: usize) -> document::Variable
-    requires { ⌜ at + 5 ≤ length (now block) ⌝ }
+    requires { ⌜ at + definitionWidth true ≤ length (now block) ⌝ }
     ensures { λ r. ⌜ r ≡ definitionIn true (drop at (now (block .entry))) ⌝ }
 {
     document::Variable {
@@ -49,19 +61,19 @@ fn definition_at(block: &[u8], at: usize) -> document::Variable
     }
 }
 
-fn definitions_at(block: &[u8], from: usize) -> [document::Variable; 8]
+fn definitions_at(block: &[u8], from: usize) -> [document::Variable; MOST_VARIABLES]
     requires { ⌜ from + definitionsLength ≤ length (now block) ⌝ }
     ensures { λ r. ⌜ r ≡ decodedDefinitions (now (block .entry)) from ⌝ }
 {
     let mut list = [document::Variable {
         address: 0,
         size: 0,
-    }; 8];
+    }; MOST_VARIABLES];
     let mut at = from;
     let mut k = 0;
-    while k < 8 {
+    while k < MOST_VARIABLES {
         list[k] = definition_at(block, at);
-        at += 5;
+        at += DEFINITION_WIDTH;
         k += 1;
     }
     list
@@ -121,4 +133,15 @@ pub fn recorder_in(block: &[u8]) -> recorder_state::Recorder
         plan,
         run,
     }
+}
+
+// Whether the recorder runs, of which two bytes tell.
+pub fn recorder_runs(block: &[u8]) -> bool
+    requires { ⌜ stateLength ≤ length (now block) ⌝ }
+    ensures { λ r. ⌜ r ≡ isRunning (recorderOf (decodedRecorder (now (block .entry)))) ⌝ }
+{
+    if block[READY] == 0 {
+        return false;
+    }
+    block[RUNNING] == 1
 }

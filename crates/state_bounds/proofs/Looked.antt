@@ -1,6 +1,6 @@
 -- Definitions in a block, looked at in one pass: the first is outside, or the rest decides.
 use mathlib.Core.Path.{_≡_, refl, sym, ap, _∙_}
-use mathlib.Core.Bool.{Bool, true, false, not, _&&_, _||_}
+use mathlib.Core.Bool.{true, false, not, _||_, and-false}
 use mathlib.Core.List.{List, [], _∷_}
 use Prim.Native.Nat.{ℕ, _+_, _-_, _<_}
 use lib.ListN.{getD, drop}
@@ -22,11 +22,7 @@ module _ (limit address size : ℕ) (vs : List Variable) where
 
   pub within-outside : upTo limit address size ≡ false → areWithin limit (record { address = address; size = size } ∷ vs) ≡ false
   unfolding areWithin
-  within-outside e = rw e (never (not (eqb size 0 || anySizeZero vs)))
-    where
-      never : (t : Bool) → t && false ≡ false
-      never true = refl
-      never false = refl
+  within-outside e = rw e (and-false (not (eqb size 0 || anySizeZero vs)))
 
   pub within-more : (size ≡ 0 → ⊥) → upTo limit address size ≡ true
       → areWithin limit (record { address = address; size = size } ∷ vs) ≡ areWithin limit vs

@@ -9,44 +9,14 @@ use borrow.Author.Tests.{eq-eqb, ne-eqb, lt-leb, le-leb, lt-ltb, le-ltb}
 use Rattle.document.specs.Areas.{memoryEnd, recordedEnd, mayBeRecorded}
 use Rattle.document.specs.Variables.{anySizeZero, allMay, definitionsIn, setSize}
 use Rattle.recorder_plans.specs.declared.plan.Plan.{Plan}
-use Rattle.recorder_runs.specs.declared.run.Run.{Run}
 use Rattle.recorder_plans.specs.Bounds.{triggerSound, variablesSound, planSound}
-use Rattle.recorder_runs.specs.Bounds.{watchSound, runSound}
+use Rattle.recorder_runs.specs.Bounds.{runSound}
 use Rattle.scope_state.specs.State as scope
 use Rattle.recorder_state.specs.Bounds as recorder
 use Rattle.state_block.specs.Layout.{decodedDefinitions, decodedVariables, decodedScope, decodedPlan, decodedRun, decodedRecorder}
 use Rattle.state_block.specs.Places.{scopePlace, recorderPlace, recordedPlace}
 use Rattle.state_bounds.specs.Measured.{areWithin}
 use Rattle.state_block.proofs.Definitions.{definitions-take}
-
--- ---- the run
-
-module _ (p : Plan) (r : Run) where
-  pub running-flag : 1 < r .running → false ≡ runSound p r
-  unfolding runSound
-  running-flag h = rw (lt-leb (r .running) 1 h)
-
-  module _ (running : r .running ≤ 1) where
-    pub full-flag : 1 < r .full → false ≡ runSound p r
-    unfolding runSound
-    full-flag h = rw (le-leb (r .running) 1 running, lt-leb (r .full) 1 h)
-
-    module _ (full : r .full ≤ 1) where
-      pub waits-long : p .divider < r .wait → false ≡ runSound p r
-      unfolding runSound
-      waits-long h = rw (le-leb (r .running) 1 running, le-leb (r .full) 1 full, lt-leb (r .wait) (p .divider) h)
-
-      module _ (waits : r .wait ≤ p .divider) where
-        pub behind-ring : p .samples ≤ r .place → false ≡ runSound p r
-        unfolding runSound
-        behind-ring h =
-            rw (le-leb (r .running) 1 running, le-leb (r .full) 1 full, le-leb (r .wait) (p .divider) waits, le-ltb (r .place) (p .samples) h)
-
-        pub watch-decides : r .place < p .samples → (w : Bool) → w ≡ watchSound (p .size) (p .«post_trigger») (r .running) (r .watch) (r .value)
-            → w ≡ runSound p r
-        unfolding runSound
-        watch-decides h w e =
-            rw (le-leb (r .running) 1 running, le-leb (r .full) 1 full, le-leb (r .wait) (p .divider) waits, lt-ltb (r .place) (p .samples) h) e
 
 -- ---- the plan
 

@@ -16,8 +16,15 @@ ghost use Rattle.state_bounds.specs.Measured.{measured};
 use application_state::ENDED;
 use application_state::MOST_RESULT;
 use application_state::WAITING;
+use bytes_fields::DEFINITION_WIDTH;
 use bytes_fields::long_at;
 use bytes_fields::word_at;
+use bytes_widths::usize_of_u8;
+use bytes_widths::usize_of_u16;
+use codes_table::MOST_DATA_BYTE;
+use memory_ranges::BUFFER_SIZE;
+use memory_ranges::MEMORY_END;
+use memory_ranges::RECORDED_END;
 use state_block::APPLICATION;
 use state_block::COUNT;
 use state_block::DIVIDER;
@@ -37,14 +44,8 @@ use state_block::TRIGGER_ADDRESS;
 use state_block::TRIGGER_SIZE;
 use state_block::receiver_in;
 use state_block::run_in;
-use codes_table::MOST_DATA_BYTE;
-use memory_ranges::BUFFER_SIZE;
-use memory_ranges::MEMORY_END;
-use memory_ranges::RECORDED_END;
 use tables_state::MOST_TABLES;
 use variables_list::MOST_VARIABLES;
-use bytes_widths::usize_of_u8;
-use bytes_widths::usize_of_u16;
 
 pub struct Measured {
     pub within: bool,
@@ -76,7 +77,7 @@ fn measure(block: &[u8], from: usize, count: usize, limit: usize) -> Measured
             return outside();
         }
         size += n;
-        at += 5;
+        at += DEFINITION_WIDTH;
         left -= 1;
     }
     Measured { within: true, size }
@@ -135,25 +136,11 @@ fn is_run_sound(block: &[u8]) -> bool
     requires { ⌜ (stateLength ≤ length (now block)) × (getD (now block) triggerSizePlace 0 ≤ 4) ⌝ }
     ensures { λ r. ⌜ r ≡ runSound (decodedPlan (now (block .entry))) (decodedRun (now (block .entry))) ⌝ }
 {
-    let run = run_in(block);
-    if run.running > 1 {
-        return false;
-    }
-    if run.full > 1 {
-        return false;
-    }
-    if run.wait > word_at(block, DIVIDER) {
-        return false;
-    }
-    if run.place >= word_at(block, SAMPLES) {
-        return false;
-    }
-    recorder_runs::is_watch_sound(
+    run_in(block).is_sound(
+        word_at(block, SAMPLES),
+        word_at(block, DIVIDER),
         block[TRIGGER_SIZE],
         word_at(block, POST_TRIGGER),
-        run.running,
-        run.watch,
-        run.value,
     )
 }
 
@@ -197,7 +184,7 @@ pub fn is_sound(block: &[u8]) -> bool
     ensures { λ r. ⌜ r ≡ state.sound (decoded (now (block .entry))) ⌝ }
 {
     let receiver = receiver_in(block);
-    if !receiver.is_sound() {
+    if !line_bounds::is_sound(receiver) {
         return false;
     }
     if !is_scope_sound(block) {

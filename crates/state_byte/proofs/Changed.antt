@@ -15,6 +15,7 @@ use Rattle.document.specs.declared.Service.{Service}
 use Rattle.scope_state.specs.Setup as scope
 use Rattle.scope_state.specs.State.{scopeOf}
 use Rattle.scope_state.proofs.Accepted.{set-up-scope, next-refused}
+use Rattle.document.specs.Recorder.{isRunning}
 use Rattle.recorder_state.specs.Preparing.{prepareStatus, bothNext}
 use Rattle.recorder_state.specs.State.{recorderOf}
 use Rattle.recorder_state.proofs.Answers.{both-mean}
@@ -41,7 +42,7 @@ module _ (i : Instruments) (memory : List ℕ) (s : Service) (body : List ℕ) w
   refused-kept store r = refl
   refused-kept maskedStore r = refl
   refused-kept scopeSetUp r = λ j. withScope i (next-refused (s .ex) body (i .scope) r j)
-  refused-kept recorderPrepareAndStart r = rw (ne-eqb (prepareStatus (recorderOf (i .recorder)) (s .ex) body) done r) refl
+  refused-kept recorderPrepareAndStart r = rw (ne-eqb (prepareStatus (isRunning (recorderOf (i .recorder))) (s .ex) body) done r) refl
   refused-kept recorderStart r = rw r refl
   refused-kept recorderStop r = rw r refl
   refused-kept commandSent r = λ j. withApplication i (send-refused body (i .application) g refl r j)

@@ -17,14 +17,14 @@ use Rattle.line_wire.proofs.Left.{answer-fits}
 use Rattle.line_receiver.specs.declared.Event.{Event}
 use Rattle.line_receiver.specs.declared.Event.the-variants.{Nothing, Keep, Whole}
 use Rattle.line_receiver.specs.Step.{stepped}
-use Rattle.line_receiver.specs.Report.{Held}
+use Rattle.line_receiver.specs.Report.{HeldMessage}
 use Rattle.document_outcomes.proofs.Served.{alone-formed, served-formed}
 use Rattle.state_parts.specs.State.{Target, gateOf}
 use Rattle.state_byte.specs.AnsweredHeld.{answeredHeld}
 use Rattle.state_byte.specs.Turn.{Turn, heldBy, turn}
 use Rattle.state_byte.proofs.TurnLaws.{nextOf, by-event}
 
-pub held-formed : (g : Gate) (h : Held) → answerFormed (answeredHeld g h .answer) ≡ true
+pub held-formed : (g : Gate) (h : HeldMessage) → answerFormed (answeredHeld g h .answer) ≡ true
 unfolding answeredHeld
 held-formed g h =
     split (eqb (h .sum) 0)
@@ -40,7 +40,7 @@ turn-fits t b memory buffer = by (stepped (t .receiver) b .event) refl
     by Nothing e = subst (λ (u : Turn). u .length ≤ answerRoom) (sym (by-event t b memory buffer Nothing e)) (omega arith)
     by (Keep at v) e = subst (λ (u : Turn). u .length ≤ answerRoom) (sym (by-event t b memory buffer (Keep at v) e)) (omega arith)
     by (Whole c n sum) e =
-        let h : Held = heldBy (nextOf t b memory buffer) c n sum in
+        let h : HeldMessage = heldBy (nextOf t b memory buffer) c n sum in
         subst (λ (u : Turn). u .length ≤ answerRoom) (sym (by-event t b memory buffer (Whole c n sum) e))
         (answer-fits (answeredHeld (gateOf (t .instruments) memory) h .answer) (held-formed (gateOf (t .instruments) memory) h))
 
@@ -52,6 +52,6 @@ turn-size t b memory buffer = by (stepped (t .receiver) b .event) refl
     by Nothing e = ap (λ (u : Turn). length (u .buffer)) (by-event t b memory buffer Nothing e)
     by (Keep at v) e = ap (λ (u : Turn). length (u .buffer)) (by-event t b memory buffer (Keep at v) e)
     by (Whole c n sum) e =
-        let h : Held = heldBy (nextOf t b memory buffer) c n sum in
+        let h : HeldMessage = heldBy (nextOf t b memory buffer) c n sum in
         ap (λ (u : Turn). length (u .buffer)) (by-event t b memory buffer (Whole c n sum) e)
         ∙ length-sets buffer 0 (answerOnWire (answeredHeld (gateOf (t .instruments) memory) h .answer))

@@ -10,7 +10,7 @@ use Rattle.document.specs.Services.{serviceOf}
 use Rattle.document.specs.Gate.{Gate}
 use Rattle.document.specs.declared.Service.{Service}
 use Rattle.document.proofs.Cases.{split}
-use Rattle.line_receiver.specs.Report.{Held}
+use Rattle.line_receiver.specs.Report.{HeldMessage}
 use Rattle.document_outcomes.specs.Changes.{changeOf}
 use Rattle.state_parts.specs.State.{Instruments, gateOf}
 use Rattle.state_byte.specs.After.{instrumentsAfter}
@@ -18,7 +18,7 @@ use Rattle.state_byte.specs.AnsweredHeld.{answeredHeld, instrumentsHeld}
 use Rattle.state_parts.specs.Within.{ScopeWithin, RecorderWithin, CommandWithin, MemoryWithin}
 use Rattle.state_byte.proofs.Changed.{served-kept, scope-changed, recorder-changed, application-changed, tables-changed, memory-served}
 
-pub held-kept : (i : Instruments) (memory : List ℕ) (h : Held)
+pub held-kept : (i : Instruments) (memory : List ℕ) (h : HeldMessage)
     → gateOf (instrumentsHeld i h) (answeredHeld (gateOf i memory) h .gate .memory) ≡ answeredHeld (gateOf i memory) h .gate
 unfolding answeredHeld instrumentsHeld
 held-kept i memory h =
@@ -28,7 +28,7 @@ held-kept i memory h =
     (λ short. rw (right, short) (served-kept i memory (serviceOf (h .command)) (h .kept))))
     (λ wrong. rw wrong refl)
 
-module _ (i : Instruments) (h : Held) where
+module _ (i : Instruments) (h : HeldMessage) where
   -- what holds of the instruments, and of what the service leaves, holds of those that are left
   instruments-held : (P : Instruments → Type 0) → P i → P (instrumentsAfter (serviceOf (h .command) .operation) i (serviceOf (h .command)) (h .kept)) → P (instrumentsHeld i h)
   unfolding instrumentsHeld
@@ -57,7 +57,7 @@ module _ (i : Instruments) (h : Held) where
     application-within few w =
         instruments-held (λ (k : Instruments). CommandWithin (k .application)) w (application-changed i s (h .kept) all (changeOf (s .operation)) few w)
 
-pub memory-within : (g : Gate) (h : Held) → AllBytes (h .kept) → MemoryWithin (g .memory) → MemoryWithin (answeredHeld g h .gate .memory)
+pub memory-within : (g : Gate) (h : HeldMessage) → AllBytes (h .kept) → MemoryWithin (g .memory) → MemoryWithin (answeredHeld g h .gate .memory)
 unfolding answeredHeld
 memory-within g h all w =
     split (eqb (h .sum) 0)

@@ -10,7 +10,7 @@ use Rattle.document.specs.Bytes.{AllBytes}
 use Rattle.line_receiver.specs.declared.Event.{Event}
 use Rattle.line_receiver.specs.declared.Event.the-variants.{Nothing, Keep, Whole}
 use Rattle.line_receiver.specs.Step.{stepped}
-use Rattle.line_receiver.specs.Report.{Held}
+use Rattle.line_receiver.specs.Report.{HeldMessage}
 use Rattle.line_receiver.proofs.Sound.{step-sound}
 use Rattle.line_receiver.proofs.Events.{kept-byte, command-byte}
 use Rattle.state_parts.specs.State.{Target, gateOf}
@@ -58,7 +58,7 @@ module _ (t : Target) (memory buffer : List ℕ) (w : Within t memory) (b : ℕ)
             memory-part = w .memory-part;
           })
       by (Whole c n sum) e =
-          let H : Held = heldBy next c n sum in
+          let H : HeldMessage = heldBy next c n sum in
           let all : AllBytes (H .kept) = all-take n (t .body) (w .link-part .body) in
           let few : length (H .kept) ≤ mostData = simp length-take (omega (arith, w .link-part .size)) in
           subst (λ (u : Turn). Within (u .next) (u .memory)) (sym (by-event t b memory buffer (Whole c n sum) e))

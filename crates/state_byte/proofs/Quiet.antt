@@ -11,7 +11,7 @@ use lib.Seq.{sets}
 use Rattle.document.specs.Numbers.{answerRoom}
 use Rattle.document.specs.Sum.{total}
 use Rattle.line_receiver.specs.declared.Receiver.{Receiver}
-use Rattle.line_receiver.specs.declared.Taken.{Taken}
+use Rattle.line_receiver.specs.declared.Reaction.{Reaction}
 use Rattle.line_receiver.specs.declared.Event.the-variants.{Nothing, Keep}
 use Rattle.line_receiver.specs.Bounds.{idle, dataNext}
 use Rattle.line_receiver.specs.Step.{added, stepped, afterByte, byteEvent}
@@ -38,7 +38,7 @@ module _ (w : Walk) (long : answerRoom ≤ room w) (calm : w .next .receiver .wa
   idle-byte : (b : ℕ) → (b ≡ 0x2B → ⊥) → byteTurn w b ≡ silent (w .next) (w .memory) (drop (w .written) (w .buffer))
   idle-byte b other =
       let step = idle-step (w .next .receiver) calm outside b other in
-      by-event (w .next) b (w .memory) (drop (w .written) (w .buffer)) Nothing (ap (λ (s : Taken). s .event) step)
+      by-event (w .next) b (w .memory) (drop (w .written) (w .buffer)) Nothing (ap (λ (s : Reaction). s .event) step)
       ∙ (λ i. silent (withReceiver (w .next) (step i .next)) (w .memory) (drop (w .written) (w .buffer)))
 
 -- a run of literals outside a message
@@ -73,7 +73,7 @@ data-byte : (w : Walk) → w .next .receiver .waiting ≡ 0 → w .next .receive
     → byteTurn w b ≡ silent (passedTarget (w .next) (b ∷ [])) (w .memory) (drop (w .written) (w .buffer))
 data-byte w calm inside b other more kept =
     let step = data-step (w .next .receiver) calm inside b other more kept in
-    by-event (w .next) b (w .memory) (drop (w .written) (w .buffer)) (Keep (w .next .receiver .have) b) (ap (λ (s : Taken). s .event) step)
+    by-event (w .next) b (w .memory) (drop (w .written) (w .buffer)) (Keep (w .next .receiver .have) b) (ap (λ (s : Reaction). s .event) step)
     ∙ (λ i. silent (keeping (withReceiver (w .next) (step i .next)) (w .next .receiver .have) b) (w .memory) (drop (w .written) (w .buffer)))
 
 -- one byte, then those behind it

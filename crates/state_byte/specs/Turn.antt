@@ -8,9 +8,9 @@ use Rattle.document.specs.Gate.{Outcome}
 use Rattle.line_receiver.specs.declared.Receiver.{Receiver}
 use Rattle.line_receiver.specs.declared.Event.{Event}
 use Rattle.line_receiver.specs.declared.Event.the-variants.{Nothing, Keep, Whole}
-use Rattle.line_receiver.specs.Report.{Held}
+use Rattle.line_receiver.specs.Report.{HeldMessage}
 use Rattle.line_receiver.specs.Step.{stepped}
-use Rattle.state_parts.specs.State.{Target, gateOf}
+use Rattle.state_parts.specs.State.{withInstruments, Target, gateOf}
 use Rattle.state_byte.specs.AnsweredHeld.{answeredHeld, instrumentsHeld}
 
 pub record Turn : Type 0 where
@@ -39,14 +39,14 @@ abbrev pub hearing : Target → ℕ → Target
 hearing t b = keptBy (withReceiver t (stepped (t .receiver) b .next)) (stepped (t .receiver) b .event)
 
 -- what is held of the message that a byte has finished
-abbrev pub heldBy : Target → ℕ → ℕ → ℕ → Held
+abbrev pub heldBy : Target → ℕ → ℕ → ℕ → HeldMessage
 heldBy t command n sum = record { command = command; length = n; kept = take n (t .body); sum = sum }
 
-abbrev pub telling : Target → Held → Outcome → List ℕ → Turn
+abbrev pub telling : Target → HeldMessage → Outcome → List ℕ → Turn
 telling t h o buffer =
     record {
       length = length (answerOnWire (o .answer));
-      next = record { receiver = t .receiver; body = t .body; instruments = instrumentsHeld (t .instruments) h };
+      next = withInstruments t (instrumentsHeld (t .instruments) h);
       memory = o .gate .memory;
       buffer = sets buffer 0 (answerOnWire (o .answer));
     }

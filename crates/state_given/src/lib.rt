@@ -1,6 +1,6 @@
 // A recorder prepared from data that are lent beside the block, as the front panel gives them: addresses have two bytes.
 ghost use mathlib.Core.Path.{_≡_};
-ghost use mathlib.Core.Bool.{false};
+ghost use mathlib.Core.Bool.{true, false};
 ghost use Prim.Native.Nat.{_+_, _*_, _≤_};
 ghost use lib.ListN.{length, drop};
 ghost use lib.Seq.{sets};
@@ -9,31 +9,35 @@ ghost use Rattle.document.specs.Variables.{definitionWidth, definitionsIn, coun
 ghost use Rattle.variables_list.specs.State.{kept};
 ghost use Rattle.recorder_setups.specs.Setup.{bodyStatus};
 ghost use Rattle.recorder_state.specs.Preparing.{preparedState};
-ghost use Rattle.state_parts.specs.State.{withRecorder};
-ghost use Rattle.state_block.specs.Layout.{decodedInstruments, encodedInstruments, encodedDefinitions, encodedVariables};
-ghost use Rattle.state_block.specs.Places.{scopePlace, variablesLength, stateLength};
-use bytes_fields::put_long;
-use state_block::RECORDED;
+ghost use Rattle.state_block.specs.Layout.{encodedDefinitions, encodedVariables};
+ghost use Rattle.state_block.specs.Changes.{blockWithRecorder};
+ghost use Rattle.state_block.specs.Places.{variablesLength, stateLength};
+use bytes_fields::DEFINITION_WIDTH;
+use bytes_fields::put_definition;
+use bytes_widths::usize_of_u8;
 use memory_ranges::number_at;
+use recorder_setups::head_width;
 use recorder_setups::read_plan;
-use state_setups::enclose;
+use state_block::RECORDED;
+use state_setups::complete_definitions;
 use state_setups::prepare_run;
 use state_setups::store_numbers;
-use bytes_widths::usize_of_u8;
+use variables_definitions::address_width;
 
 fn give_definitions(block: &mut [u8], at: usize, part: &[u8], n: usize)
-    requires { ⌜ (1 + n * definitionWidth false ≤ length (now part)) × (at + n * 5 ≤ length (now block)) ⌝ }
+    requires { ⌜ (1 + n * definitionWidth false ≤ length (now part)) × (at + n * definitionWidth true ≤ length (now block)) ⌝ }
     ensures { λ _. ⌜ now (block .exit) ≡ sets (now (block .entry)) at (encodedDefinitions (definitionsIn false n (drop 1 (now (part .entry))))) ⌝ }
 {
+    let width = address_width(false);
     let mut read = 1;
     let mut write = at;
     let mut k = 0;
     while k < n {
-        let address = number_at(part, read + 1, 2);
-        block[write] = part[read];
-        put_long(block, write + 1, address);
-        read += 3;
-        write += 5;
+        let size = part[read];
+        let address = number_at(part, read + 1, width);
+        put_definition(block, write, size, address);
+        read += 1 + width;
+        write += DEFINITION_WIDTH;
         k += 1;
     }
 }
@@ -45,15 +49,16 @@ fn give_variables(block: &mut [u8], at: usize, part: &[u8])
 {
     let count = part[0];
     give_definitions(block, at + 1, part, usize_of_u8(count));
-    enclose(block, at, count);
+    complete_definitions(block, at, count);
 }
 
 pub fn store_given(block: &mut [u8], setup: &[u8])
     requires { ⌜ (stateLength ≤ length (now block)) × (bodyStatus false (now setup) ≡ done) ⌝ }
-    ensures { λ _. ⌜ now (block .exit) ≡ sets (now (block .entry)) scopePlace (encodedInstruments (withRecorder (decodedInstruments (now (block .entry))) (preparedState false (now (setup .entry))))) ⌝ }
+    ensures { λ _. ⌜ now (block .exit) ≡ blockWithRecorder (now (block .entry)) (preparedState false (now (setup .entry))) ⌝ }
 {
     let plan = read_plan(false, setup);
     store_numbers(block, plan);
-    give_variables(block, RECORDED, &setup[15..]);
+    let from = head_width(false);
+    give_variables(block, RECORDED, &setup[from..]);
     prepare_run(block);
 }

@@ -4,7 +4,7 @@ use mathlib.Core.List.{List, [], _∷_, _++_}
 use Prim.Native.Nat.{ℕ, zero, suc, _+_, _*_, _^_, _<_, _≤_}
 use native.Mathlib.Nat.{pow-suc}
 use native.Mathlib.Omega.{arith}
-use lib.ListN.{length, getD, take, replicate}
+use lib.ListN.{length, take, replicate}
 use Rattle.document.specs.Areas.{bytesAt}
 use Rattle.document.specs.Values.{number}
 use Rattle.document.specs.Stores.{maskedBytes}
@@ -14,11 +14,6 @@ use Rattle.memory_masks.proofs.Masks.{masked-below}
 use Rattle.memory_ranges.proofs.Widths.{bytes-bits, fewer-bytes}
 use Rattle.document.specs.Bytes.{AllBytes}
 pub use Rattle.document.proofs.Bytes.{all-append, all-set, all-sets, all-take, all-drop, all-range}
-
-pub all-at : (l : List ℕ) → AllBytes l → (i : ℕ) → getD l i 0 < 256
-all-at [] all i = omega arith
-all-at (b ∷ l) all zero = all .0
-all-at (b ∷ l) all (suc i) = all-at l (all .1) i
 
 pub all-front : (xs ys : List ℕ) → AllBytes (xs ++ ys) → AllBytes xs
 all-front [] ys p = tt
@@ -49,7 +44,7 @@ take-short zero l = omega arith
 take-short (suc n) [] = omega arith
 take-short (suc n) (x ∷ l) = omega (arith, take-short n l)
 
-number-below-256 : (l : List ℕ) (n : ℕ) → AllBytes l → length l ≤ n → number l < 256 ^ n
+pub number-below-256 : (l : List ℕ) (n : ℕ) → AllBytes l → length l ≤ n → number l < 256 ^ n
 number-below-256 [] n p h = fewer-bytes 0 n (omega arith)
 number-below-256 (b ∷ l) zero p h = let x : ⊥ = omega arith in absurd x
 number-below-256 (b ∷ l) (suc n) p h =

@@ -6,17 +6,17 @@ use Prim.Native.Nat.{ℕ, zero, suc, _+_, _^_, _<_, _≤_}
 use native.Mathlib.Omega.{arith}
 use borrow.Author.Tests.{eqb-true, eqb-false}
 use lib.Dec.{eqb}
-use lib.ListN.{length, getD, set, take, drop, length-set, length-take}
-use lib.Seq.{sets}
+use lib.ListN.{length, getD, set, take, drop, length-take}
+use lib.Seq.{sets, length-sets}
 use Rattle.document.specs.Numbers.{done}
 use Rattle.document.specs.Areas.{bytesAt}
 use Rattle.document.specs.Values.{number}
 use Rattle.document.specs.declared.Variable.{Variable}
 use Rattle.document.specs.Variables.{addressWidth, definitionWidth, definitionsIn, countIn, variablesIn}
 use Rattle.document.specs.Plan.{modeField, triggerSizeField, triggerIn, planIn, variablesPart, recordedIn, headWidth}
-use Rattle.document.specs.Run.{ranTick}
+use Rattle.document.specs.Run.{started, prepared, ranTick}
 use Rattle.document.proofs.Cases.{split}
-use Rattle.memory_ranges.proofs.Widths.{bytes-bits, four-bytes}
+use Rattle.memory_ranges.proofs.Widths.{four-bytes}
 use Rattle.variables_list.specs.State.{noVariables, kept}
 use Rattle.scope_state.specs.declared.Scope.{Scope}
 use Rattle.scope_state.specs.Setup as scope
@@ -27,7 +27,7 @@ use Rattle.recorder_plans.specs.Bounds.{planSound}
 use Rattle.recorder_plans.proofs.Granted.{plan-bounds}
 use Rattle.recorder_runs.specs.declared.run.Run.{Run as RunState}
 use Rattle.recorder_state.specs.declared.state.Recorder.{Recorder as RecorderState}
-use Rattle.recorder_runs.specs.State.{runOf}
+use Rattle.recorder_runs.specs.State.{runOf, runKept, haltedRun}
 use Rattle.recorder_state.specs.State.{recorderOf, withRun, noRecorder}
 use Rattle.recorder_runs.specs.Bounds.{runSound}
 use Rattle.recorder_state.specs.Bounds.{sound}
@@ -39,7 +39,7 @@ use Rattle.recorder_runs.proofs.Kept.{by-watch}
 use Rattle.recorder_state.proofs.Keeps.{sound-parts}
 use Rattle.document.specs.Bytes.{AllBytes}
 use Rattle.state_parts.specs.Widths.{VariablesFit, PlanFits, RunFits, RecorderFits}
-use Rattle.state_parts.proofs.ByteLaws.{take-short, all-take, all-drop, all-range, number-below}
+use Rattle.state_parts.proofs.ByteLaws.{take-short, all-take, all-drop, all-range, number-below-256}
 
 -- ---- definitions whose addresses fit
 abbrev AllFit : List Variable → Type 0
@@ -60,16 +60,8 @@ fit-sets : (ws vs : List Variable) (i : ℕ) → AllFit vs → AllFit ws → All
 fit-sets [] vs i p q = p
 fit-sets (w ∷ ws) vs i p q = fit-sets ws (set vs i w) (suc i) (fit-set vs i w p (q .0)) (q .1)
 
-sets-long : (ws vs : List Variable) (i : ℕ) → length (sets vs i ws) ≡ length vs
-sets-long [] vs i = refl
-sets-long (w ∷ ws) vs i = sets-long ws (set vs i w) (suc i) ∙ simp length-set
-
--- numbers of at most n bytes
-below : (l : List ℕ) (n : ℕ) → AllBytes l → length l ≤ n → number l < 256 ^ n
-below l n all few = subst (λ (k : ℕ). number l < k) (sym (bytes-bits n)) (number-below l n all few)
-
 pub range-below : (body : List ℕ) (at n : ℕ) → AllBytes body → number (bytesAt body at n) < 256 ^ n
-range-below body at n all = below (bytesAt body at n) n (all-range body at n all) (take-short n (drop at body))
+range-below body at n all = number-below-256 (bytesAt body at n) n (all-range body at n all) (take-short n (drop at body))
 
 address-below : (ex : Bool) (body : List ℕ) (at : ℕ) → AllBytes body → number (bytesAt body at (addressWidth ex)) < 256 ^ 4
 address-below true body at all = range-below body at 4 all
@@ -83,7 +75,7 @@ definitions-fit ex (suc n) part all =
 pub kept-fit : (vs : List Variable) → AllFit vs → VariablesFit (kept vs)
 kept-fit vs all =
     record {
-      eight = sets-long vs noVariables 0;
+      eight = length-sets noVariables 0 vs;
       addresses = fit-at (sets noVariables 0 vs) (fit-sets vs noVariables 0 none all);
     }
   where
@@ -101,7 +93,7 @@ trigger-fit ex body all =
     let four : List ℕ = bytesAt body (9 + addressWidth ex) 4 in
     rw some (
       address-below ex body 7 all,
-      below (take size four) 4 (all-take size four (all-range body (9 + addressWidth ex) 4 all)) (front-short size four (take-short 4 (drop (9 + addressWidth ex) body))),
+      number-below-256 (take size four) 4 (all-take size four (all-range body (9 + addressWidth ex) 4 all)) (front-short size four (take-short 4 (drop (9 + addressWidth ex) body))),
     ))
   where
     front-short : (n : ℕ) (l : List ℕ) → length l ≤ 4 → length (take n l) ≤ 4
@@ -138,6 +130,16 @@ run-fit p r fits ps rs =
           (λ n0 n1 e. omega (arith, left-fits-post (p .size) (p .«post_trigger») (r .running) (r .watch) (r .value) (b .watch) n0 n1, fits .after));
     }
 
+halted-run-fit : (r : RunState) → RunFits r → RunFits (haltedRun r)
+halted-run-fit r fits = record { wait = fits .wait; place = fits .place; value = fits .value }
+
+-- a run as a start leaves it, or a preparing
+started-run-fit : RunFits (runKept started)
+started-run-fit = record { wait = omega arith; place = omega arith; value = omega arith }
+
+prepared-run-fit : RunFits (runKept prepared)
+prepared-run-fit = halted-run-fit (runKept started) started-run-fit
+
 -- ---- what the calls of scope and recorder leave
 pub scope-fit : (s : Scope) (ex : Bool) (body : List ℕ) → AllBytes body → VariablesFit (s .variables) → VariablesFit (scope.setUpNext s ex body .variables)
 scope-fit s ex body all fits =
@@ -148,18 +150,18 @@ scope-fit s ex body all fits =
 
 pub prepared-fit : (ex : Bool) (body : List ℕ) → AllBytes body → RecorderFits (preparedState ex body)
 prepared-fit ex body all =
-    record { plan = plan-fit ex body all; run = record { wait = omega arith; place = omega arith; value = omega arith } }
+    record { plan = plan-fit ex body all; run = prepared-run-fit }
 
 pub started-fit : (r : RecorderState) → RecorderFits r → RecorderFits (startedState r)
 started-fit r fits =
     split (eqb (startStatus (recorderOf r)) done)
-    (λ t. rw t (record { plan = fits .plan; run = record { wait = omega arith; place = omega arith; value = omega arith } }))
+    (λ t. rw t (record { plan = fits .plan; run = started-run-fit }))
     (λ f. rw f fits)
 
 pub halted-fit : (r : RecorderState) → RecorderFits r → RecorderFits (haltedState r)
 halted-fit r fits =
     split (eqb (stopStatus (recorderOf r)) done)
-    (λ t. rw t (record { plan = fits .plan; run = record { wait = fits .run .wait; place = fits .run .place; value = fits .run .value } }))
+    (λ t. rw t (record { plan = fits .plan; run = halted-run-fit (r .run) (fits .run) }))
     (λ f. rw f fits)
 
 pub ticked-fit : (r : RecorderState) (m : List ℕ) → sound (tickedState r m) ≡ true → RecorderFits r → RecorderFits (tickedState r m)
@@ -185,5 +187,5 @@ no-recorder-fit =
             threshold = omega arith;
             variables = kept-fit [] tt;
           };
-      run = record { wait = omega arith; place = omega arith; value = omega arith };
+      run = prepared-run-fit;
     }

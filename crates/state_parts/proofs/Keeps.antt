@@ -15,7 +15,7 @@ use Rattle.document.specs.Variables.{addressWidth}
 use Rattle.document.specs.Plan.{modeField, triggerSizeField, planIn}
 use Rattle.document.specs.Trigger.{triggerValue}
 use Rattle.document.specs.Run.{setOf, placeBegins, memoryAfterTick}
-use Rattle.document.specs.Recorder.{Recorder, tickedMemory}
+use Rattle.document.specs.Recorder.{Recorder, isRunning, tickedMemory}
 use Rattle.document.specs.Recorder.Recorder.{absent, planned}
 use Rattle.document.proofs.Cases.{split}
 use Rattle.memory_ranges.proofs.Copies.{stored-length}
@@ -70,10 +70,10 @@ module _ (ex : Bool) (body : List ℕ) (all : AllBytes body) where
   scope-set-up s w =
       record { sound = scope-accepted.set-up-sound ex body s (w .sound); fits = scope-fit s ex body all (w .fits) }
 
-  pub recorder-prepared : (r : RecorderState) → prepareStatus (recorderOf r) ex body ≡ done → RecorderWithin (preparedState ex body)
-  recorder-prepared r taken =
+  pub recorder-prepared : (running : Bool) → prepareStatus running ex body ≡ done → RecorderWithin (preparedState ex body)
+  recorder-prepared running taken =
       record {
-        sound = recorder-answers.prepared-sound r ex body taken (threshold-fits ex body all);
+        sound = recorder-answers.prepared-sound running ex body taken (threshold-fits ex body all);
         fits = prepared-fit ex body all;
       }
 
@@ -87,8 +87,8 @@ recorder-halted r w = record { sound = recorder-keeps.halted-sound r (w .sound);
 pub recorder-both : (ex : Bool) (body : List ℕ) → AllBytes body → (r : RecorderState) → RecorderWithin r → RecorderWithin (bothNext r ex body)
 unfolding bothNext
 recorder-both ex body all r w =
-    split (eqb (prepareStatus (recorderOf r) ex body) done)
-    (λ none. rw none (recorder-started (preparedState ex body) (recorder-prepared ex body all r (eqb-true _ _ none))))
+    split (eqb (prepareStatus (isRunning (recorderOf r)) ex body) done)
+    (λ none. rw none (recorder-started (preparedState ex body) (recorder-prepared ex body all (isRunning (recorderOf r)) (eqb-true _ _ none))))
     (λ some. rw some w)
 
 -- ---- a tick

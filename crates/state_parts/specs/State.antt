@@ -33,6 +33,10 @@ withRecorder i recorder = record { scope = i .scope; recorder = recorder; applic
 abbrev pub withApplication : Instruments → Command → Instruments
 withApplication i command = record { scope = i .scope; recorder = i .recorder; application = command; tables = i .tables }
 
+-- what is set up changes, the link stays
+abbrev pub withInstruments : Target → Instruments → Target
+withInstruments t i = record { receiver = t .receiver; body = t .body; instruments = i }
+
 -- what is set up, with the memory that is lent
 abbrev pub gateOf : Instruments → List ℕ → Gate
 gateOf i memory = record { memory = memory; scope = scopeOf (i .scope); recorder = recorderOf (i .recorder); application = applicationOf (i .application); tables = tablesOf (i .tables) }

@@ -1,28 +1,24 @@
 -- Two lists with the same front hold the same bytes, numbers and definitions there.
-use mathlib.Core.Path.{_≡_, refl, sym, ap, _∙_}
+use mathlib.Core.Path.{_≡_, refl, ap, _∙_}
 use mathlib.Core.Bool.{Bool}
 use mathlib.Core.List.{List, _∷_}
 use Prim.Native.Nat.{ℕ, zero, suc, _+_, _-_, _*_, _<_, _≤_}
 use native.Mathlib.Nat.{suc-mul}
 use native.Mathlib.Omega.{arith}
 use lib.ListN.{getD, take, drop}
-use lib.Seq.{getD-take}
 use Rattle.document.specs.Areas.{bytesAt}
 use Rattle.document.specs.Values.{number}
 use Rattle.document.specs.declared.Variable.{Variable}
 use Rattle.document.specs.Variables.{addressWidth, definitionWidth, definitionIn, definitionsIn, countIn, variablesIn, lengthGiven}
-use Rattle.recorder_history.proofs.Bytes.{bytes-agree}
+use Rattle.memory_ranges.proofs.Stored.{bytes-agree, byte-agree}
 
 module _ (l m : List ℕ) (front : ℕ) (same : take front l ≡ take front m) where
-  pub byte-same : (at : ℕ) → at < front → getD l at 0 ≡ getD m at 0
-  byte-same at h = sym (getD-take front l at 0 h) ∙ ap (λ (k : List ℕ). getD k at 0) same ∙ getD-take front m at 0 h
-
   pub number-same : (at n : ℕ) → at + n ≤ front → number (bytesAt l at n) ≡ number (bytesAt m at n)
   number-same at n h = ap number (bytes-agree l m front at n same h)
 
   definition-same : (ex : Bool) → definitionWidth ex ≤ front → definitionIn ex l ≡ definitionIn ex m
   definition-same ex h =
-      λ i. record { size = byte-same 0 (omega arith) i; address = number-same 1 (addressWidth ex) h i }
+      λ i. record { size = byte-agree l m front 0 same (omega arith) i; address = number-same 1 (addressWidth ex) h i }
 
 definitions-same : (ex : Bool) (n : ℕ) (l m : List ℕ) (front : ℕ) → take front l ≡ take front m → n * definitionWidth ex ≤ front
     → definitionsIn ex n l ≡ definitionsIn ex n m
@@ -36,7 +32,7 @@ definitions-same ex (suc n) l m front same h =
 
 module _ (ex : Bool) (l m : List ℕ) (front : ℕ) (same : take front l ≡ take front m) (whole : lengthGiven ex m ≤ front) where
   pub count-same : countIn l ≡ countIn m
-  count-same = byte-same l m front same 0 (omega arith)
+  count-same = byte-agree l m front 0 same (omega arith)
 
   pub length-same : lengthGiven ex l ≤ front
   length-same = omega (arith, ap (λ (n : ℕ). n * definitionWidth ex) count-same)

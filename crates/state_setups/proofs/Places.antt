@@ -7,7 +7,7 @@ use native.Mathlib.Omega.{arith}
 use lib.ListN.{length, take, drop, length-take}
 use lib.Seq.{take-take, drop-drop}
 use Rattle.document.specs.Plan.{headWidth, variablesPart}
-use Rattle.recorder_history.proofs.Bytes.{bytes-agree}
+use Rattle.memory_ranges.proofs.Stored.{bytes-agree}
 use Rattle.state_block.specs.Layout.{dataTo}
 use Rattle.state_block.specs.Places.{bodyPlace, scopePlace}
 

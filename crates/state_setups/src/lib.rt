@@ -3,7 +3,7 @@ mod parts;
 mod recording;
 mod scoping;
 
-pub use parts::enclose;
+pub use parts::complete_definitions;
 pub use recording::prepare_run;
 pub use recording::store_numbers;
 pub use recording::store_prepared;

@@ -3,13 +3,12 @@ ghost use mathlib.Core.Path.{_≡_};
 ghost use Prim.Native.Nat.{_+_, _*_, _≤_, _<_};
 ghost use lib.ListN.{length};
 ghost use Rattle.document.specs.Areas.{memoryEnd, bytesAt};
-ghost use Rattle.document.specs.Values.{number};
 ghost use Rattle.document.specs.Tables.{entrySize, baseSize, isEntryGood, areEntriesGood};
-use tables_base_types::size_of;
+use bytes_fields::word_at;
+use bytes_widths::u16_of_u8;
+use bytes_widths::usize_of_u16;
 use memory_ranges::MEMORY_END;
-use memory_ranges::number_at;
-use bytes_widths::usize_of_u8;
-use bytes_widths::usize_of_u32;
+use tables_base_types::size_of;
 
 pub(crate) const ENTRY_SIZE: usize = 8;
 
@@ -18,16 +17,8 @@ const TYPE_PLACE: usize = 2;
 
 const INFO_PLACE: usize = 6;
 
-// Two bytes; who asks has checked the range.
-pub(crate) fn word_at(bytes: &[u8], at: usize) -> usize
-    requires { ⌜ at + 2 ≤ length (now bytes) ⌝ }
-    ensures { λ r. ⌜ r ≡ number (bytesAt (now (bytes .entry)) at 2) ⌝ }
-{
-    usize_of_u32(number_at(bytes, at, 2))
-}
-
 // The size of the base type whose string stands at an address, or 0: its code, and a zero behind it.
-fn base_size(memory: &[u8], address: usize) -> usize
+fn base_size(memory: &[u8], address: usize) -> u16
     requires { ⌜ address < length (now memory) ⌝ }
     ensures { λ r. ⌜ r ≡ baseSize (now (memory .entry)) address ⌝ }
 {
@@ -38,7 +29,7 @@ fn base_size(memory: &[u8], address: usize) -> usize
     if memory[next] != 0 {
         return 0;
     }
-    usize_of_u8(size_of(memory[address]))
+    u16_of_u8(size_of(memory[address]))
 }
 
 // The entry at an address: its size is its info divided by 4, and that of its base type; another type has any size.
@@ -46,7 +37,7 @@ fn is_entry_good(memory: &[u8], at: usize) -> bool
     requires { ⌜ (length (now memory) ≡ memoryEnd) × (at + entrySize ≤ memoryEnd) ⌝ }
     ensures { λ r. ⌜ r ≡ isEntryGood (now (memory .entry)) (bytesAt (now (memory .entry)) at entrySize) ⌝ }
 {
-    let type_address = word_at(memory, at + TYPE_PLACE);
+    let type_address = usize_of_u16(word_at(memory, at + TYPE_PLACE));
     if type_address >= MEMORY_END {
         return false;
     }

@@ -3,9 +3,10 @@ ghost use mathlib.Core.Path.{_≡_};
 ghost use lib.ListN.{length};
 ghost use Rattle.document.specs.Areas.{memoryEnd};
 ghost use Rattle.document.specs.Tables.{tablesIn, areTablesGood, isListGood};
-use crate::entries::word_at;
 use crate::places::is_table_good;
-use memory_ranges::number_at;
+use bytes_fields::word_at;
+use bytes_widths::u32_of_u16;
+use bytes_widths::usize_of_u16;
 use tables_state::LIST_LENGTH;
 use tables_state::PAIR;
 
@@ -16,8 +17,9 @@ fn are_tables_good(memory: &[u8], list: &[u8]) -> bool
 {
     let mut at = 0;
     while list.len() - at >= PAIR {
-        let address = number_at(list, at, 2);
-        if !is_table_good(memory, address, word_at(list, at + 2)) {
+        let address = u32_of_u16(word_at(list, at));
+        let size = usize_of_u16(word_at(list, at + 2));
+        if !is_table_good(memory, address, size) {
             return false;
         }
         at += PAIR;

@@ -5,11 +5,10 @@ ghost use Rattle.document.specs.Areas.{memoryEnd};
 ghost use Rattle.document.specs.Tables.{isPlaceGood, isTableGood};
 use crate::entries::ENTRY_SIZE;
 use crate::entries::are_entries_good;
+use bytes_widths::usize_of_u32;
+use memory_ranges::CALIBRATION_END;
 use memory_ranges::VARIABLES_END;
 use memory_ranges::within;
-use bytes_widths::usize_of_u32;
-
-const CALIBRATION_END: usize = 12288;
 
 fn is_place_good(address: u32, size: usize) -> bool
     ensures { λ r. ⌜ r ≡ isPlaceGood (record { address = address; size = size }) ⌝ }

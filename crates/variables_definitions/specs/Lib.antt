@@ -1,4 +1,3 @@
--- What a data part holds and what its definitions come to, and which of a setup's refusals comes first.
+-- What a data part holds, and which of a setup's refusals comes first.
 pub mod Parts
-pub mod Survey
 pub mod Wrong

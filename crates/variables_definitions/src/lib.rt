@@ -1,10 +1,7 @@
-// Variable definitions as a setup's data part holds them: one after the other, and what they come to.
+// Variable definitions as a setup's data part holds them, read one after the other. What they come to is crates/variables_surveys.
 mod reader;
-mod surveys;
 
 pub use reader::Definition;
 pub use reader::Reader;
 pub use reader::address_width;
-pub use surveys::Surveyed;
-pub use surveys::is_whole;
-pub use surveys::survey;
+pub use reader::variable_of;

@@ -56,7 +56,7 @@ pub struct Reader<'a> {
 
 impl<'a> Reader<'a> {
     // Each definition begins where the one before it ended: the reader moves behind the one that it gives.
-    pub(crate) fn next(&mut self, ex: bool) -> Definition
+    pub fn next(&mut self, ex: bool) -> Definition
         ensures { λ r. ⌜ (r ≡ definitionAt ex (now (now (self .entry) .part)) (now (self .entry) .at)) × (now (self .exit) ≡ movedBehind ex (now (self .entry))) ⌝ }
     {
         let found = definition_at(self.part, self.at, ex);
@@ -66,7 +66,7 @@ impl<'a> Reader<'a> {
 }
 
 // What was found, or where nothing was, a variable of no bytes.
-pub(crate) fn variable_of(found: Definition) -> document::Variable
+pub fn variable_of(found: Definition) -> document::Variable
     ensures { λ r. ⌜ r ≡ variableOf found ⌝ }
 {
     match found {

@@ -14,6 +14,7 @@ use Rattle.document.specs.Stores.{stored}
 use Rattle.document.specs.Variables.{definitionsIn, allMay, setSize, valuesOf}
 use Rattle.document.proofs.Cases.{both}
 use Rattle.memory_ranges.proofs.Copies.{stored-append}
+use Rattle.memory_ranges.proofs.Stored.{take-sets, bytes-agree, byte-agree}
 use Rattle.bytes_fields.proofs.Ranges.{bytes-length}
 use Rattle.bytes_fields.proofs.Definitions.{definitions-first}
 
@@ -25,10 +26,6 @@ pub part-set : (memory : List ℕ) (at k j b : ℕ) → j < k
 part-set m a k j b h =
     rw (← take-set-le a m (a + j) b (omega arith), ← take-set-lt k (drop a m) j b h, ← drop-set-lt k (drop a m) j b h, ← drop-set-add a m j b)
     (ap (λ (r : List ℕ). take a (set m (a + j) b) ++ r) (take-append-drop k (drop a (set m (a + j) b))) ∙ take-append-drop a (set m (a + j) b))
-
--- m and m₀ hold the same below the place
-same-byte : (m m₀ : List ℕ) (at i : ℕ) → take at m ≡ take at m₀ → i < at → getD m i 0 ≡ getD m₀ i 0
-same-byte m m₀ at i e h = sym (getD-take at m i 0 h) ∙ ap (λ (l : List ℕ). getD l i 0) e ∙ getD-take at m₀ i 0 h
 
 byte-next : (m₀ m : List ℕ) (from size i o b : ℕ) → i < size → from + size ≤ length m₀ → b ≡ getD m₀ (from + i) 0
     → stored (set m o b) (o + 1) (drop (i + 1) (bytesAt m₀ from size)) ≡ stored m o (drop i (bytesAt m₀ from size))
@@ -46,28 +43,13 @@ module _ (m₀ m m′ : List ℕ) (at done from size i b : ℕ) (h : i < size) (
       let p : at + done + (i + 1) ≡ at + done + i + 1 = omega arith in (
         ap length e ∙ length-set m (at + (done + i)) b,
         ap (take at) e ∙ take-set-le at m (at + (done + i)) b (omega arith) ∙ t,
-        rw (e, o, p) (byte-next m₀ m from size i (at + done + i) b h (omega arith) (eb ∙ same-byte m m₀ at (from + i) t (omega arith))),
+        rw (e, o, p) (byte-next m₀ m from size i (at + done + i) b h (omega arith) (eb ∙ byte-agree m m₀ at (from + i) t (omega arith))),
       )
 
 -- ---- one variable
 
-front-kept : (vs m : List ℕ) (at i : ℕ) → at ≤ i → take at (stored m i vs) ≡ take at m
-front-kept [] m at i h = refl
-front-kept (v ∷ vs) m at i h = front-kept vs (set m i v) at (suc i) (omega arith) ∙ take-set-le at m i v h
-
-range-front : (from size : ℕ) (m : List ℕ) → bytesAt m from size ≡ drop from (take (from + size) m)
-range-front zero size m = rw zero-add
-range-front (suc from) size [] = rw (take-nil size, take-nil (suc from + size))
-range-front (suc from) size (x ∷ m) = rw (suc-add from size) (range-front from size m)
-
-same-range : (m m₀ : List ℕ) (at from size : ℕ) → take at m ≡ take at m₀ → from + size ≤ at → bytesAt m from size ≡ bytesAt m₀ from size
-same-range m m₀ at from size e h =
-    range-front from size m
-    ∙ ap (drop from) (sym (take-take (from + size) at m h) ∙ ap (take (from + size)) e ∙ take-take (from + size) at m₀ h)
-    ∙ sym (range-front from size m₀)
-
 pub stored-front : (m m′ vs : List ℕ) (at i : ℕ) → at ≤ i → m′ ≡ stored m i vs → take at m′ ≡ take at m
-stored-front m m′ vs at i h e = ap (take at) e ∙ front-kept vs m at i h
+stored-front m m′ vs at i h e = ap (take at) e ∙ take-sets vs m i at h
 
 -- a turn: the definition at this place of the block, and those behind it
 module _ (block : List ℕ) (next left size address : ℕ) (some : 0 < left)
@@ -88,6 +70,6 @@ module _ (block : List ℕ) (next left size address : ℕ) (some : 0 < left)
         → stored m′ (at + (done + size)) (valuesOf m₀ (definitionsIn true (left - 1) (drop (next + 5) block)))
         ≡ stored m (at + done) (valuesOf m₀ (definitionsIn true left (drop next block)))
     variable-kept below fits t e =
-        let v : bytesAt m address size ≡ bytesAt m₀ address size = same-range m m₀ at address size t below in
+        let v : bytesAt m address size ≡ bytesAt m₀ address size = bytes-agree m m₀ at address size t below in
         let p : at + (done + size) ≡ at + done + length (bytesAt m₀ address size) = omega (arith, bytes-length m₀ address size fits) in
         rw (e, v, p, first, stored-append (bytesAt m₀ address size))

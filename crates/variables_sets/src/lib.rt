@@ -3,10 +3,12 @@
 ghost use mathlib.Core.Path.{_≡_};
 ghost use mathlib.Core.Bool.{true};
 ghost use Prim.Native.Nat.{_+_, _*_, _≤_, _<_};
-ghost use lib.ListN.{length, set, drop};
-ghost use Rattle.document.specs.Areas.{bufferBegin, mayBeRecorded, bytesAt};
+ghost use lib.ListN.{length, set};
+ghost use Rattle.document.specs.Areas.{bufferBegin, bytesAt};
 ghost use Rattle.document.specs.Stores.{stored};
-ghost use Rattle.document.specs.Variables.{definitionWidth, definitionsIn, allMay, setSize, valuesOf};
+ghost use Rattle.document.specs.Variables.{definitionWidth, setSize, valuesOf};
+ghost use Rattle.variables_sets.specs.Recorded.{variablesAt, Recordable};
+use bytes_fields::DEFINITION_WIDTH;
 use bytes_fields::long_at;
 use bytes_widths::usize_of_u8;
 use bytes_widths::usize_of_u32;
@@ -14,14 +16,14 @@ use bytes_widths::usize_of_u32;
 // How many bytes a set of `count` variables takes, the first of which is defined at `from`.
 pub fn set_size(block: &[u8], from: usize, count: usize) -> usize
     requires { ⌜ (count ≤ 8) × (from + 8 * definitionWidth true ≤ length (now block)) ⌝ }
-    ensures { λ r. ⌜ (r ≡ setSize (definitionsIn true count (drop from (now (block .entry))))) × (r ≤ 2040) ⌝ }
+    ensures { λ r. ⌜ (r ≡ setSize (variablesAt (now (block .entry)) from count)) × (r ≤ 2040) ⌝ }
 {
     let mut at = from;
     let mut left = count;
     let mut size = 0;
     while 0 < left {
         size += usize_of_u8(block[at]);
-        at += 5;
+        at += DEFINITION_WIDTH;
         left -= 1;
     }
     size
@@ -49,8 +51,9 @@ fn copy_variable(memory: &mut [u8], from: usize, size: usize, at: usize, end: us
 
 // A set of `size` bytes into the place that begins at `at`, behind everything that may be recorded.
 pub fn copy_set(memory: &mut [u8], at: usize, size: usize, block: &[u8], from: usize, count: usize)
-    requires { ⌜ (count ≤ 8) × (from + 8 * definitionWidth true ≤ length (now block)) × (allMay mayBeRecorded (definitionsIn true count (drop from (now block))) ≡ true) × (bufferBegin ≤ at) × (size ≡ setSize (definitionsIn true count (drop from (now block)))) × (at + size ≤ length (now memory)) ⌝ }
-    ensures { λ _. ⌜ now (memory .exit) ≡ stored (now (memory .entry)) at (valuesOf (now (memory .entry)) (definitionsIn true count (drop from (now (block .entry))))) ⌝ }
+    requires { ⌜ Recordable (now block) from count ⌝ }
+    requires { ⌜ (bufferBegin ≤ at) × (size ≡ setSize (variablesAt (now block) from count)) × (at + size ≤ length (now memory)) ⌝ }
+    ensures { λ _. ⌜ now (memory .exit) ≡ stored (now (memory .entry)) at (valuesOf (now (memory .entry)) (variablesAt (now (block .entry)) from count)) ⌝ }
 {
     let end = at + size;
     let mut next = from;
@@ -61,7 +64,7 @@ pub fn copy_set(memory: &mut [u8], at: usize, size: usize, block: &[u8], from: u
         let width = usize_of_u8(block[next]);
         copy_variable(memory, address, width, at, end, done);
         done += width;
-        next += 5;
+        next += DEFINITION_WIDTH;
         left -= 1;
     }
 }

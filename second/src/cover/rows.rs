@@ -1,11 +1,10 @@
 //! The rows that are counted: one for each thing that can happen, by its name.
 
+use std::fmt::Display;
+
 use crate::message::fast_length;
 use crate::modbus::Silence;
-use crate::reachable::{
-    BLOCKS, CALLS, FUNCTIONS, OTHER_FAST, OTHER_FUNCTION, OTHER_STANDARD, PANEL, PANEL_IN_MESSAGE,
-    SERVED, SILENCES,
-};
+use crate::reachable::{self, BLOCKS, PANEL, SILENCES};
 use crate::watch::{End, Panel, Standing};
 
 /// The commands that are not served, with a length byte and without.
@@ -22,16 +21,16 @@ const SILENT: &[u8] = &[0];
 /// and how often each of its results occurred.
 pub struct Row {
     pub name: String,
-    pub reachable: &'static [u8],
+    pub reachable: Vec<u8>,
     /// At each result: a status, a refusal or a number of answers.
     pub counts: Vec<u64>,
 }
 
 impl Row {
-    fn new(name: impl Into<String>, reachable: &'static [u8]) -> Row {
+    fn new(name: impl Into<String>, reachable: &[u8]) -> Row {
         Row {
             name: name.into(),
-            reachable,
+            reachable: reachable.to_vec(),
             counts: vec![0; 256],
         }
     }
@@ -71,24 +70,19 @@ impl Row {
 
 /// The commands served in their order, then the others.
 pub fn commands() -> Vec<Row> {
-    let mut served: Vec<_> = SERVED
-        .iter()
-        .flat_map(|(commands, statuses)| commands.iter().map(|c| (*c, *statuses)))
-        .collect();
-    served.sort();
-    let named = served
-        .into_iter()
-        .map(|(command, statuses)| Row::new(format!("{command:02X}"), statuses));
-    let others = [
-        Row::new(STANDARD, OTHER_STANDARD),
-        Row::new(FAST, OTHER_FAST),
-    ];
-    named.chain(others).collect()
+    let served = reachable::commands().into_iter();
+    let others = reachable::other_commands().into_iter();
+    served
+        .map(|(command, statuses)| Row::new(format!("{command:02X}"), &statuses))
+        .chain(others.map(|(kind, statuses)| Row::new(format!("other {kind}"), &statuses)))
+        .collect()
 }
 
 pub fn calls() -> Vec<Row> {
-    let row = |(letter, refusals): &(char, &'static [u8])| Row::new(*letter, refusals);
-    CALLS.iter().map(row).collect()
+    let calls = reachable::calls().into_iter();
+    calls
+        .map(|(letter, refusals)| Row::new(letter, &refusals))
+        .collect()
 }
 
 pub fn blocks() -> Vec<Row> {
@@ -101,18 +95,20 @@ pub fn panel() -> Vec<Row> {
     let standing = PANEL
         .iter()
         .map(|(panel, standing, statuses)| Row::new(panel_name(*panel, *standing), statuses));
-    let in_message = PANEL_IN_MESSAGE
-        .iter()
-        .map(|(panel, statuses)| Row::new(in_message_name(*panel), statuses));
-    standing.chain(in_message).collect()
+    let in_message = reachable::panel().into_iter();
+    standing
+        .chain(in_message.map(|(letter, statuses)| Row::new(in_message_name(letter), &statuses)))
+        .collect()
 }
 
 /// The functions served, then the others.
 pub fn functions() -> Vec<Row> {
-    let served = FUNCTIONS
-        .iter()
-        .map(|(function, exceptions)| Row::new(function_name(*function), exceptions));
-    served.chain([Row::new(OTHER, OTHER_FUNCTION)]).collect()
+    let served = reachable::functions().into_iter();
+    let other = Row::new(OTHER, &reachable::other_functions());
+    served
+        .map(|(function, exceptions)| Row::new(format!("{function:02X}"), &exceptions))
+        .chain([other])
+        .collect()
 }
 
 pub fn silences() -> Vec<Row> {
@@ -120,13 +116,20 @@ pub fn silences() -> Vec<Row> {
     SILENCES.iter().map(row).collect()
 }
 
+/// The name of the row of its own that a number has, or of one with others.
+fn own_name(rows: &[Row], number: u8, others: &str) -> String {
+    let own = format!("{number:02X}");
+    match rows.iter().any(|row| row.name == own) {
+        true => own,
+        false => others.to_string(),
+    }
+}
+
 /// A command that is not served has a row with others of its kind.
-pub fn command_name(command: u8) -> String {
-    let mut served = SERVED.iter().flat_map(|(commands, _)| commands.iter());
-    match (served.any(|c| *c == command), fast_length(command)) {
-        (true, _) => format!("{command:02X}"),
-        (false, None) => STANDARD.to_string(),
-        (false, Some(_)) => FAST.to_string(),
+pub fn command_name(rows: &[Row], command: u8) -> String {
+    match fast_length(command) {
+        None => own_name(rows, command, STANDARD),
+        Some(_) => own_name(rows, command, FAST),
     }
 }
 
@@ -150,15 +153,13 @@ pub fn panel_name(panel: Panel, standing: Standing) -> String {
     format!("{}, {standing}", panel.letter())
 }
 
-pub fn in_message_name(panel: Panel) -> String {
-    format!("{} in message", panel.letter())
+/// By the letter of the panel's line.
+pub fn in_message_name(letter: impl Display) -> String {
+    format!("{letter} in message")
 }
 
-pub fn function_name(function: u8) -> String {
-    match FUNCTIONS.iter().any(|(served, _)| *served == function) {
-        true => format!("{function:02X}"),
-        false => OTHER.to_string(),
-    }
+pub fn function_name(rows: &[Row], function: u8) -> String {
+    own_name(rows, function, OTHER)
 }
 
 pub fn silence_name(silence: Silence) -> &'static str {

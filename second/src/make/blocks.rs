@@ -89,18 +89,11 @@ impl Maker {
 
     fn between(&mut self) {
         match self.rng.below(10) {
-            0 => self.ticks(1),
-            1 => self.some_ticks(),
-            2 => self.some_poke(),
-            3 => self.move_trigger(),
-            4 => self.application_call(),
-            6 => self.panel_call(),
-            7 => self.some_frame(),
             5 => {
                 let room = self.block_room();
                 self.block_line(room, &[]);
             }
-            _ => {}
+            which => self.happen(which),
         }
     }
 

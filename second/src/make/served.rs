@@ -3,17 +3,7 @@
 use super::wire::literals;
 use super::Maker;
 use crate::line::{stuffed, START};
-
-/// The commands served that have a length byte.
-const STANDARD: [u8; 12] = [
-    0x01, 0x02, 0x03, 0x04, 0x05, 0x06, 0x08, 0x09, 0x0A, 0x0B, 0x10, 0x11,
-];
-
-/// The commands served that have none.
-const FAST: [u8; 22] = [
-    0xC0, 0xC1, 0xC2, 0xC3, 0xC4, 0xC5, 0xC6, 0xC8, 0xC9, 0xD0, 0xD1, 0xD2, 0xD4, 0xE0, 0xE1, 0xE2,
-    0xE3, 0xE4, 0xE5, 0xE6, 0xF0, 0xF1,
-];
+use crate::message::fast_length;
 
 /// Commands that are not served, of either kind.
 const OTHER: [u8; 6] = [0x00, 0x12, 0x7F, 0xBF, 0xC7, 0xFF];
@@ -35,12 +25,17 @@ pub fn parts(command: u8) -> usize {
 impl Maker {
     /// Any of the commands, each served one as often as another.
     pub fn any_served(&mut self) -> u8 {
-        let at = self.rng.below((STANDARD.len() + FAST.len() + 1) as u64) as usize;
-        match (STANDARD.get(at), at.checked_sub(STANDARD.len())) {
-            (Some(command), _) => *command,
-            (None, Some(at)) if at < FAST.len() => FAST[at],
-            _ => *self.rng.pick(&OTHER),
+        let at = self.rng.below(self.served.len() as u64 + 1) as usize;
+        match self.served.get(at) {
+            Some(command) => *command,
+            None => *self.rng.pick(&OTHER),
         }
+    }
+
+    /// One of those with a length byte.
+    fn standard(&mut self) -> u8 {
+        let standard = self.served.partition_point(|c| fast_length(*c).is_none());
+        *self.rng.pick(&self.served[..standard])
     }
 
     /// Data with which nothing refuses the command while the recorder stands and
@@ -104,7 +99,7 @@ impl Maker {
     pub fn long_message(&mut self) {
         let command = match self.rng.below(5) {
             0 => *self.rng.pick(&[0x12, 0x7F, 0xBF, 0x00]),
-            _ => *self.rng.pick(&STANDARD),
+            _ => self.standard(),
         };
         let count = *self.rng.pick(&[0, 63, 64, 64, 65, 65, 66, 128, 255]);
         let data = self.filling(command, count);

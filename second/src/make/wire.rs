@@ -47,16 +47,23 @@ impl Maker {
             self.bytes(piece);
             rest = after;
             match self.rng.below(8) {
-                0 => self.ticks(1),
-                1 => self.some_ticks(),
-                2 => self.some_poke(),
-                3 => self.move_trigger(),
-                4 => self.application_call(),
-                6 => self.panel_call(),
-                7 => self.some_frame(),
                 5 if self.rng.once_in(6) => self.register_between(),
-                _ => {}
+                which => self.happen(which),
             }
+        }
+    }
+
+    /// Something that happens beside the wire, of seven things, or nothing.
+    pub fn happen(&mut self, which: u64) {
+        match which {
+            0 => self.ticks(1),
+            1 => self.some_ticks(),
+            2 => self.some_poke(),
+            3 => self.move_trigger(),
+            4 => self.application_call(),
+            6 => self.panel_call(),
+            7 => self.some_frame(),
+            _ => {}
         }
     }
 

@@ -7,7 +7,7 @@ use lib.ListN.{length, set}
 use lib.Seq.{sets}
 use Rattle.document.specs.Numbers.{mostData}
 use Rattle.document.specs.Areas.{bytesAt}
-use Rattle.recorder_history.proofs.Bytes.{bytes-before}
+use Rattle.memory_ranges.proofs.Stored.{bytes-before}
 use Rattle.bytes_fields.proofs.Ranges.{bytes-length}
 use Rattle.state_block.specs.Places.{bodyPlace, applicationPlace, commandPlace}
 use Rattle.state_block.proofs.Stored.{command-stored}

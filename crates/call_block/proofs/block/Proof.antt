@@ -34,8 +34,8 @@ returns c =
 fine : (e : tie.Else1) → byteNumber (begun (e .before) .args .state .now) (begun (e .before) .args .memory .now) (begun (e .before) .args .answers .now) ≡ taken
 fine e = sym (e .before .byte-refusal .ensures) ∙ e .if1 .left
 
-go-through-requires : tie.Need-go-through-requires
-go-through-requires c κs =
+take-while-room-requires : tie.Need-take-while-room-requires
+take-while-room-requires c κs =
     let e = c .before .before .before in
     let r = e .before in
     let a = begun r .args in
@@ -60,7 +60,7 @@ returns-2 c =
     let g = c .before .before .before .before .before .before in
     let e = g .before .before .before .before in
     let a = begun (e .before) .args in
-    block-taken (a .state .now) (a .bytes .now) (a .memory .now) (a .answers .now) (fine e) (g .go-through .result) _ _ _ (g .go-through .ensures)
+    block-taken (a .state .now) (a .bytes .now) (a .memory .now) (a .answers .now) (fine e) (g .take-while-room .result) _ _ _ (g .take-while-room .ensures)
 
 pub block-spec : {M : Type 1} → statement M
 block-spec =
@@ -71,7 +71,7 @@ block-spec =
     same-length-2
     same-length-3
     returns
-    go-through-requires
+    take-while-room-requires
     same-length-4
     same-length-5
     same-length-6

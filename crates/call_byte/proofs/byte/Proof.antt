@@ -88,16 +88,14 @@ returns-2 c =
     let e = h .before .before in
     let b = lent e .args .byte in
     byte-taken (block e) b (memory e) (buffer e) _ _ _ _ (fine e)
-    (quiet-turned (block e) b (memory e) (known e .0) (small e) (byte-small (lent e)) (known e .1) (h .hear .result) (h .hear .ensures .0) (h .hear .last .0) (h .hear .kept .0) (h .hear .ensures .1) (c .enum-told .given .1) (buffer e))
+    (quiet-turned (block e) b (memory e) (known e .0) (small e) (byte-small (lent e)) (known e .1) (h .hear .result) (h .hear .last .0) (h .hear .kept .0) (h .hear .ensures) (c .enum-told .given .1) (buffer e))
 
 respond-requires : tie.Need-respond-requires
 respond-requires c κs =
     let m = c .before .before .before .before in
     let h = m .before .before .before .before in
     let e = h .before .before in
-    let message =
-    answer-lent (block e) (lent e .args .byte) (memory e) (known e .0) (small e) (byte-small (lent e)) (known e .1) (h .hear .result) (h .hear .ensures .0) (h .hear .last .0) (h .hear .kept .0) (h .hear .ensures .1) (m .heard .given .0 .0) (m .heard .given .1) in
-    (message .0, message .1, message .2, message .3, known e .2)
+    answer-lent (block e) (lent e .args .byte) (memory e) (known e .0) (small e) (byte-small (lent e)) (known e .1) (h .hear .result) (h .hear .last .0) (h .hear .kept .0) (h .hear .ensures) (m .heard .given .0 .0) (m .heard .given .1) (buffer e) (known e .2)
 
 same-length-7 : tie.Need-same-length-7
 same-length-7 c = search needs
@@ -117,7 +115,7 @@ returns-3 c =
     let e = h .before .before in
     let b = lent e .args .byte in
     byte-taken (block e) b (memory e) (buffer e) _ _ _ _ (fine e)
-    (message-turned (block e) b (memory e) (known e .0) (small e) (byte-small (lent e)) (known e .1) (h .hear .result) (h .hear .ensures .0) (h .hear .last .0) (h .hear .kept .0) (h .hear .ensures .1) (m .heard .given .0 .0) (m .heard .given .1)
+    (message-turned (block e) b (memory e) (known e .0) (small e) (byte-small (lent e)) (known e .1) (h .hear .result) (h .hear .last .0) (h .hear .kept .0) (h .hear .ensures) (m .heard .given .0 .0) (m .heard .given .1)
     (buffer e) _ _ _ _ (λ i. known-state .slice-known4 .given i .fits) (r .respond .ensures))
 
 pub byte-spec : {M : Type 1} → statement M

@@ -36,7 +36,7 @@ returns-2 c =
     let a = known .before .args in
     let block = a .state .now in
     let fine = sym (looked .check .ensures .result) ∙ free .if1 .left in
-    prepare-taken block fine (panel-known block fine .0) (λ i. known .slice-known .given i .fits) (did .prepare-within .result) _ (a .setup .now) (did .prepare-within .ensures .0) (did .prepare-within .ensures .1)
+    prepare-taken block fine (panel-known block fine .0) (λ i. known .slice-known .given i .fits) (did .prepare-within .result) _ (a .setup .now) (did .prepare-within .ensures .said) (did .prepare-within .ensures .state)
 
 pub prepare-spec : {M : Type 1} → statement M
 prepare-spec =

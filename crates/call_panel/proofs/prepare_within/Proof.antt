@@ -6,6 +6,7 @@ use Prim.Native.Nat.{ℕ}
 use borrow.Author.Tests.{eq-eqb, ne-eqb}
 use borrow.Author.Needs.{needs}
 use Rattle.document.specs.Numbers.{done}
+use Rattle.document.specs.Recorder.{isRunning}
 use Rattle.recorder_state.specs.State.{recorderOf}
 use Rattle.recorder_state.proofs.Answers.{taken-body}
 use Rattle.state_block.specs.Layout.{decodedRecorder}
@@ -40,14 +41,17 @@ returns c =
     let asked = c .before in
     let l = block asked in
     let refused = ne-eqb (givenStatus (recorderOf (decodedRecorder l)) (setup asked)) done (λ e. c .if1 .taken (asked .given-status .ensures ∙ e)) in
-    (asked .given-status .ensures, rw refused (sym (same-instruments l (begun asked .pre) (λ i. known asked .slice-known .given i .fits))))
+    record {
+      said = asked .given-status .ensures;
+      state = rw refused (sym (same-instruments l (begun asked .pre) (λ i. known asked .slice-known .given i .fits)));
+    }
 
 store-given-requires : tie.Need-store-given-requires
 store-given-requires c κs =
     let right = c .before in
     let asked = right .before in
     let r = decodedRecorder (block asked) in
-    (begun asked .pre, taken-body r false (setup asked) (given-taken r (setup asked) (sym (asked .given-status .ensures) ∙ right .if1 .left)))
+    (begun asked .pre, taken-body (isRunning (recorderOf r)) false (setup asked) (given-taken r (setup asked) (sym (asked .given-status .ensures) ∙ right .if1 .left)))
 
 same-length-2 : tie.Need-same-length-2
 same-length-2 c = search needs
@@ -59,7 +63,10 @@ returns-2 c =
     let asked = right .before in
     let l = block asked in
     let fine = sym (right .if1 .left) ∙ asked .given-status .ensures in
-    (fine, rw (eq-eqb (givenStatus (recorderOf (decodedRecorder l)) (setup asked)) done (sym fine)) (stored .store-given .ensures))
+    record {
+      said = fine;
+      state = rw (eq-eqb (givenStatus (recorderOf (decodedRecorder l)) (setup asked)) done (sym fine)) (stored .store-given .ensures);
+    }
 
 pub prepare-within-spec : {M : Type 1} → statement M
 prepare-within-spec =

@@ -10,8 +10,9 @@ use Rattle.line_receiver.specs.declared.Receiver.{Receiver}
 use Rattle.line_receiver.specs.Bounds.{dataNext}
 use Rattle.state_parts.specs.State.{Target}
 use Rattle.state_parts.proofs.ByteLaws.{take-short}
-use Rattle.state_byte.specs.Quiet.{plainAhead, lastKept, dataAhead, passedReceiver, passedOver, passedBy}
-use Rattle.state_block.specs.Layout.{decodedReceiver, decodedBody, decodedInstruments, decoded, encoded}
+use Rattle.state_byte.specs.Quiet.{plainAhead, lastKept, dataAhead, passedOver, passedBy}
+use Rattle.state_block.specs.Layout.{decodedReceiver, decoded, encoded}
+use Rattle.call_quiet.specs.Passed.{keptRun, Passed}
 use Rattle.call_quiet.proofs.Over.{ahead-cut, over-waiting, over-idle, over-other, over-data, by-none, by-idle, by-data, same-state, kept-most, run-fits}
 use Rattle.call_quiet.proofs.pass_over.Statement.{statement}
 use Rattle.call_quiet.proofs.pass_over.Tie as tie
@@ -39,8 +40,8 @@ module _ (r : tie.After-receiver-in) where
   kept : passedBy (decoded block) rest ≡ decoded block → block ≡ sets block 0 (encoded (passedBy (decoded block) rest))
   kept e = same-state block (begun .pre .0) small (passedBy (decoded block) rest) e
 
-  nothing : passedOver (decoded block) rest ≡ 0 → (begun .args .from ≡ begun .args .from + passedOver (decoded block) rest) × (block ≡ sets block 0 (encoded (passedBy (decoded block) rest)))
-  nothing e = (omega (arith, e), kept (by-none (decoded block) rest e))
+  nothing : passedOver (decoded block) rest ≡ 0 → Passed block (begun .args .bytes .now) (begun .args .from) (begun .args .from) block
+  nothing e = record { place = omega (arith, e); state = kept (by-none (decoded block) rest e) }
 
 same-length : tie.Need-same-length
 same-length c = search needs
@@ -73,10 +74,13 @@ returns-2 c =
     let e = t .before .before in
     let r = looked e in
     let outside = sym (phase e) ∙ t .if2 .taken in
-    let all : length (begun r .args .bytes .now) - begun r .args .from ≡ length (rest r) = sym (length-drop (begun r .args .from) (begun r .args .bytes .now)) in (
-      c .plain-end .ensures .0 ∙ ap (λ (n : ℕ). begun r .args .from + n) (ap (λ (n : ℕ). plainAhead n (rest r)) all ∙ sym (over-idle (decoded (block r)) (rest r) (calm e) outside)),
-      kept r (by-idle (decoded (block r)) (rest r) outside),
-    )
+    let all : length (begun r .args .bytes .now) - begun r .args .from ≡ length (rest r) = sym (length-drop (begun r .args .from) (begun r .args .bytes .now)) in
+    record {
+      place =
+          c .plain-end .ensures .0
+          ∙ ap (λ (n : ℕ). begun r .args .from + n) (ap (λ (n : ℕ). plainAhead n (rest r)) all ∙ sym (over-idle (decoded (block r)) (rest r) (calm e) outside));
+      state = kept r (by-idle (decoded (block r)) (rest r) outside);
+    }
 
 -- ---- inside a message
 module _ (f : tie.Else2) where
@@ -180,12 +184,14 @@ returns-5 c =
     let p = e .before in
     let r = asked p in
     let t = decoded (block r) in
-    let some : passedOver t (rest r) ≡ 0 → ⊥ = λ z. e .if4 .left (omega (arith, z, passed p, p .plain-end2 .ensures .0)) in (
-      omega (arith, passed p, p .plain-end2 .ensures .0),
-      k .keep-run .ensures
-          ∙ (λ i. sets (block r) 0 (encoded (record { receiver = passedReceiver (is r i) (take (sym (passed p) i) (rest r)); body = sets (decodedBody (block r)) (is r i .have) (take (sym (passed p) i) (rest r)); instruments = decodedInstruments (block r) })))
-          ∙ ap (λ (s : Target). sets (block r) 0 (encoded s)) (sym (by-data t (rest r) (in-data p) some)),
-    )
+    let some : passedOver t (rest r) ≡ 0 → ⊥ = λ z. e .if4 .left (omega (arith, z, passed p, p .plain-end2 .ensures .0)) in
+    record {
+      place = omega (arith, passed p, p .plain-end2 .ensures .0);
+      state =
+          k .keep-run .ensures
+          ∙ (λ i. sets (block r) 0 (encoded (keptRun t (is r i) (take (sym (passed p) i) (rest r)))))
+          ∙ ap (λ (s : Target). sets (block r) 0 (encoded s)) (sym (by-data t (rest r) (in-data p) some));
+    }
 
 pub pass-over-spec : {M : Type 1} → statement M
 pass-over-spec =

@@ -15,13 +15,13 @@ use Rattle.call_tick.proofs.take.Tie as tie
 
 -- the plan that was read is the one in the block
 planned : (p : tie.After-plan-in) → planSound (p .plan-in .result) ≡ true
-planned p = ap planSound (p .plan-in .ensures) ∙ p .before .before .before .pre .1
+planned p = ap planSound (p .plan-in .ensures) ∙ p .before .before .before .pre .plan-sound
 
 plan-in-requires : tie.Need-plan-in-requires
 plan-in-requires c κs = search needs
 
 trigger-value-requires : tie.Need-trigger-value-requires
-trigger-value-requires c κs = (planned (c .before), c .before .before .before .before .pre .4)
+trigger-value-requires c κs = (planned (c .before), c .before .before .before .before .pre .memory-whole)
 
 shared-slice-read-usize-of-u8 : tie.Need-shared-slice-read-usize-of-u8
 shared-slice-read-usize-of-u8 c = search needs
@@ -34,11 +34,12 @@ take-set-requires c κs =
     let count = c .before .usize-of-u8 in
     let s = c .before .before .before .before .before .before .before .before in
     let block = s .args .state .now in (
-      few block (count .result) (count .ensures .0) (s .pre .1),
-      omega arith,
-      may-be-recorded block (count .result) (count .ensures .0) (s .pre .1),
-      room block (count .result) (count .ensures .0) (s .pre .1) (s .args .run) (s .pre .2),
-      s .pre .4,
+      record {
+        few = few block (count .result) (count .ensures .0) (s .pre .plan-sound);
+        inside = omega arith;
+        may = may-be-recorded block (count .result) (count .ensures .0) (s .pre .plan-sound);
+      },
+      (room block (count .result) (count .ensures .0) (s .pre .plan-sound) (s .args .run) (s .pre .run-sound), s .pre .memory-whole),
     )
 
 after-set-requires : tie.Need-after-set-requires
@@ -46,7 +47,7 @@ after-set-requires c κs =
     let v = c .before .before .before .before .before .before in
     let p = v .before .before in
     let s = p .before .before .before in
-    (planned p, ap (λ (q : Plan). runSound q (s .args .run)) (p .plan-in .ensures) ∙ s .pre .2, s .pre .3, v .trigger-value .ensures .1)
+    (planned p, ap (λ (q : Plan). runSound q (s .args .run)) (p .plan-in .ensures) ∙ s .pre .run-sound, s .pre .runs, v .trigger-value .ensures .1)
 
 same-length : tie.Need-same-length
 same-length c = search needs
@@ -58,10 +59,13 @@ returns c =
     let v = t .before .before .before .before in
     let p = v .before .before in
     let s = p .before .before .before in
-    let memory = s .args .memory .now in (
-      c .after-set .ensures memory (v .trigger-value .ensures .0) ∙ ap (λ (q : Plan). runKept (setTaken (planOf q) (runOf (s .args .run)) memory)) (p .plan-in .ensures),
-      rw (recorded (s .args .state .now) (count .result) (count .ensures .0) (s .pre .1)) at (t .take-set .ensures),
-    )
+    let memory = s .args .memory .now in
+    record {
+      run-after =
+          c .after-set .ensures memory (v .trigger-value .ensures .0)
+          ∙ ap (λ (q : Plan). runKept (setTaken (planOf q) (runOf (s .args .run)) memory)) (p .plan-in .ensures);
+      memory-left = rw (recorded (s .args .state .now) (count .result) (count .ensures .0) (s .pre .plan-sound)) at (t .take-set .ensures);
+    }
 
 pub take-spec : {M : Type 1} → statement M
 take-spec =

@@ -40,7 +40,7 @@ returns-2 c =
     let tick-refusal = c .before .before .before .before .before .before .before .before .tick-refusal in
     let if1 = c .before .before .before .before .before .before .before .if1 in
     let tick-within = c .before .before .before .before .tick-within in
-    tick-taken (args .state .now) (args .memory .now) _ _ (sym (tick-refusal .ensures) ∙ if1 .left) (tick-within .ensures .0) (tick-within .ensures .1)
+    tick-taken (args .state .now) (args .memory .now) _ _ (sym (tick-refusal .ensures) ∙ if1 .left) (tick-within .ensures .state) (tick-within .ensures .memory-left)
 
 pub tick-spec : {M : Type 1} → statement M
 tick-spec =

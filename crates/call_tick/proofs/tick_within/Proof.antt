@@ -6,7 +6,7 @@ use lib.ListN.{getD}
 use borrow.Author.Needs.{needs}
 use Rattle.recorder_runs.specs.declared.run.Run.{Run}
 use Rattle.state_block.specs.Places.{recorderPlace}
-use Rattle.call_tick.proofs.Within.{absent-ticked, stopped-ticked, waiting-ticked, due-sound, due-ticked}
+use Rattle.call_tick.proofs.Within.{absent-ticked, stopped-ticked, waiting-ticked, due-lent, due-ticked}
 use Rattle.call_tick.proofs.tick_within.Statement.{statement}
 use Rattle.call_tick.proofs.tick_within.Tie as tie
 
@@ -76,8 +76,7 @@ take-requires c κs =
     let goes = due .before .before in
     let r = goes .before .before in
     let k = known r in
-    let d = due-sound (block k) (memory k) (begun k .pre .0) (small k) (begun k .pre .1) (planned r) (run r) (r .run-in .ensures) (goes .if2 .left) in
-    (begun k .pre .0, d .0, d .1, d .2, begun k .pre .2)
+    due-lent (block k) (memory k) (begun k .pre .0) (small k) (begun k .pre .1) (planned r) (run r) (r .run-in .ensures) (goes .if2 .left) (begun k .pre .2)
 
 put-run-requires : tie.Need-put-run-requires
 put-run-requires c κs = search needs
@@ -96,7 +95,7 @@ returns-4 c =
     let goes = due .before .before in
     let r = goes .before .before in
     let k = known r in
-    due-ticked (block k) (memory k) (begun k .pre .0) (small k) (begun k .pre .1) (planned r) (run r) (r .run-in .ensures) (goes .if2 .left) (due .if3 .left) (t .take .result) (put .last .0) (t .take .last .1 .0) (t .take .ensures .0) (put .ensures) (t .take .ensures .1)
+    due-ticked (block k) (memory k) (begun k .pre .0) (small k) (begun k .pre .1) (planned r) (run r) (r .run-in .ensures) (goes .if2 .left) (due .if3 .left) (t .take .result) (put .last .0) (t .take .last .1 .0) (t .take .ensures) (put .ensures)
 
 pub tick-within-spec : {M : Type 1} → statement M
 tick-within-spec =

@@ -24,7 +24,7 @@ module _ (u : tie.After-usize-of-u16) where
   begins = λ i. u .usize-of-u16 .ensures .0 i * u .before .set-size .ensures .0 i
 
   ends : bufferBegin + u .usize-of-u16 .result * u .before .set-size .result + u .before .set-size .result ≤ memoryEnd
-  ends = omega (arith, begins, u .before .set-size .ensures .0, begun .pre .3)
+  ends = omega (arith, begins, u .before .set-size .ensures .0, begun .pre .1 .0)
 
 set-size-requires : tie.Need-set-size-requires
 set-size-requires c κs = search needs
@@ -42,7 +42,7 @@ copy-set-requires : tie.Need-copy-set-requires
 copy-set-requires c κs =
     let u = c .before in
     let s = begun u in
-    (s .pre .0, s .pre .1, s .pre .2, omega arith, u .before .set-size .ensures .0, omega (arith, ends u, s .pre .4))
+    (s .pre .0, (omega arith, u .before .set-size .ensures .0, omega (arith, ends u, s .pre .1 .1)))
 
 same-length : tie.Need-same-length
 same-length c = search needs

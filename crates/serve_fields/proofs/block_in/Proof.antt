@@ -9,8 +9,8 @@ use Rattle.document.specs.Numbers.{done}
 use Rattle.document.specs.Variables.{addressWidth}
 use Rattle.document.specs.Fields.{sizeField, dataPlace}
 use Rattle.document.specs.Refusals.{firstOf}
-use Rattle.serve_fields.specs.declared.Block.{Block}
-use Rattle.serve_fields.specs.Blocks.{ownLines, ownStatus, IsBlock}
+use Rattle.serve_fields.specs.declared.Fields.{Fields}
+use Rattle.serve_fields.specs.Found.{ownLines, ownStatus, AreFields}
 use Rattle.serve_fields.proofs.Fits.{parts-few, fields-fit}
 use Rattle.serve_fields.proofs.block_in.Statement.{statement}
 use Rattle.serve_fields.proofs.block_in.Tie as tie
@@ -70,9 +70,9 @@ module _ (o : tie.After-own-status) where
   fits right = fields-fit (start .args .service) (start .args .body .now) (start .args .parts) (start .pre .1) (sym status ∙ right)
 
   -- so many bytes, however they are counted
-  behind : {b : Block} → IsBlock (start .args .service) (start .args .body .now) n b → (k : ℕ) → k ≡ n
-      → IsBlock (start .args .service) (start .args .body .now) k b
-  behind {b} found k same = subst (λ (j : ℕ). IsBlock (start .args .service) (start .args .body .now) j b) (sym same) found
+  behind : {b : Fields} → AreFields (start .args .service) (start .args .body .now) n b → (k : ℕ) → k ≡ n
+      → AreFields (start .args .service) (start .args .body .now) k b
+  behind {b} found k same = subst (λ (j : ℕ). AreFields (start .args .service) (start .args .body .now) j b) (sym same) found
 
 returns : tie.Need-returns
 returns c =

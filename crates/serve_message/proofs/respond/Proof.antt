@@ -11,7 +11,7 @@ use Rattle.document.specs.Numbers.{mostData}
 use Rattle.document.specs.Areas.{bytesAt}
 use Rattle.document.specs.Message.{lengthFits}
 use Rattle.document.specs.declared.Service.{Service}
-use Rattle.line_receiver.specs.Report.{Held}
+use Rattle.line_receiver.specs.Report.{HeldMessage}
 use Rattle.serve_fields.specs.Framed.{Framed}
 use Rattle.serve_fields.proofs.Framing.{framed}
 use Rattle.state_parts.specs.State.{gateOf}
@@ -31,14 +31,14 @@ module _ (k : tie.After-struct-known) where
   abbrev block : List ℕ
   block = begun .args .state .now
 
-  abbrev held : Held
+  abbrev held : HeldMessage
   held = heldOf (begun .args .whole) (decodedBody block)
 
   same-block : block ≡ sets block scopePlace (encodedInstruments (decodedInstruments block))
-  same-block = sym (same-instruments block (begun .pre .1) (λ i. k .before .before .before .slice-known .given i .fits))
+  same-block = sym (same-instruments block (begun .pre .long) (λ i. k .before .before .before .slice-known .given i .fits))
 
-alone-requires : tie.Need-alone-requires
-alone-requires c κs = search needs
+status-alone-requires : tie.Need-status-alone-requires
+status-alone-requires c κs = search needs
 
 same-length : tie.Need-same-length
 same-length c = search needs
@@ -50,13 +50,13 @@ returns c =
     let k = t .before in
     let i = decodedInstruments (block k) in
     wrong-sum (gateOf i (begun k .args .memory .now)) i (held k) (t .if1 .taken)
-    (record { told = said .alone .ensures; memory = refl; kept = same-block k })
+    (record { told = said .status-alone .ensures; memory = refl; kept = same-block k })
 
 usize-of-u8-requires : tie.Need-usize-of-u8-requires
 usize-of-u8-requires c κs = search needs
 
-alone-requires-2 : tie.Need-alone-requires-2
-alone-requires-2 c κs = search needs
+status-alone-requires-2 : tie.Need-status-alone-requires-2
+status-alone-requires-2 c κs = search needs
 
 same-length-2 : tie.Need-same-length-2
 same-length-2 c = search needs
@@ -69,7 +69,7 @@ returns-2 c =
     let k = u .before .before in
     let i = decodedInstruments (block k) in
     too-long (gateOf i (begun k .args .memory .now)) i (held k) (u .before .if1 .left) (omega (arith, u .usize-of-u8 .ensures .0, t .if2 .taken))
-    (record { told = said .alone2 .ensures; memory = refl; kept = same-block k })
+    (record { told = said .status-alone2 .ensures; memory = refl; kept = same-block k })
 
 service-of-requires : tie.Need-service-of-requires
 service-of-requires c κs = search needs
@@ -100,13 +100,13 @@ module _ (looked : tie.After-service-of) where
       ∙ ap (λ (n : ℕ). take n (decodedBody (block asked))) (counted .usize-of-u8 .ensures .0)
 
   part-length : length part ≡ begun asked .args .whole .length
-  part-length = ap length part-held ∙ simp (length-take, length-drop) (omega (arith, few, counted .usize-of-u8 .ensures .0, begun asked .pre .1))
+  part-length = ap length part-held ∙ simp (length-take, length-drop) (omega (arith, few, counted .usize-of-u8 .ensures .0, begun asked .pre .long))
 
   -- the command's framing holds of its service and of the data
   framing : Framed (looked .service-of .result) part
   framing =
       let whole = begun asked .args .whole in
-      let formed : lengthFits (whole .command) (length part) ≡ true = ap (lengthFits (whole .command)) part-length ∙ begun asked .pre .0 in
+      let formed : lengthFits (whole .command) (length part) ≡ true = ap (lengthFits (whole .command)) part-length ∙ begun asked .pre .fits in
       subst (λ (s : Service). Framed s part) (sym (looked .service-of .ensures)) (framed (whole .command) part (omega (arith, part-length, few, counted .usize-of-u8 .ensures .0)) formed)
 
 add-serve : tie.Need-add-serve
@@ -116,7 +116,15 @@ serve-requires : tie.Need-serve-requires
 serve-requires c κs =
     let looked = c .before .before .before in
     let s = begun (asked looked) in
-    (framing looked, omega arith, omega (arith, few looked), s .pre .1, s .pre .2, s .pre .3, s .pre .4)
+    record {
+      framed = framing looked;
+      least = omega arith;
+      most = omega (arith, few looked);
+      long = s .pre .long;
+      scope-sound = s .pre .scope-sound;
+      memory-whole = s .pre .memory-whole;
+      room = s .pre .room;
+    }
 
 same-length-3 : tie.Need-same-length-3
 same-length-3 c = search needs
@@ -141,11 +149,11 @@ pub respond-spec : {M : Type 1} → statement M
 respond-spec =
     tie.close
     (tie.spec
-    alone-requires
+    status-alone-requires
     same-length
     returns
     usize-of-u8-requires
-    alone-requires-2
+    status-alone-requires-2
     same-length-2
     returns-2
     service-of-requires

@@ -11,7 +11,7 @@ use Rattle.document.specs.declared.Operation.{Operation}
 use Rattle.document.specs.declared.Operation.the-variants.{Unserved, Describe, DescribeBriefly, Read, Write, WriteMasked, SetUpScope, ReadScope, PrepareAndStart, Start, Stop, Status, QueryBuffer, SendCommand, CommandResult, TellTable, MeasureString}
 use Rattle.document.specs.Commands.{served}
 use Rattle.document_outcomes.specs.Changes.{changeOf}
-use Rattle.serve_fields.specs.Blocks.{OwnFits}
+use Rattle.serve_fields.specs.Found.{OwnFits}
 use Rattle.serve_fields.specs.Framed.{partsOf}
 use Rattle.state_parts.specs.State.{gateOf}
 use Rattle.state_byte.specs.After.{instrumentsAfter}
@@ -34,14 +34,14 @@ told m = dataTo (begun m .args .state .now) (begun m .args .to)
 framed : (m : tie.After-slice-known3) (o : Operation) → begun m .args .service .operation ≡ o
     → OwnFits (begun m .args .service) (partsOf (changeOf o)) (told m)
 framed m o is =
-    subst (λ (p : Operation). OwnFits (begun m .args .service) (partsOf (changeOf p)) (told m)) is (begun m .pre .0)
+    subst (λ (p : Operation). OwnFits (begun m .args .service) (partsOf (changeOf p)) (told m)) is (begun m .pre .framed)
 
 abbrev asked : tie.After-slice-known3 → Asked
 asked m =
     record {
       service = begun m .args .service;
       block = begun m .args .state .now;
-      long = begun m .pre .3;
+      long = begun m .pre .long;
       small = λ i. m .before .before .slice-known .given i .fits;
       body = told m;
       memory = begun m .args .memory .now;
@@ -98,7 +98,7 @@ read-requires : tie.Need-read-requires
 read-requires c κs =
     let t = c .before .before .before .before in
     let s = begun (t .before .before) in
-    (framed (t .before .before) Read (t .enum-told4 .given .1), s .pre .5, s .pre .6)
+    (framed (t .before .before) Read (t .enum-told4 .given .1), s .pre .memory-whole, s .pre .room)
 
 same-length-3 : tie.Need-same-length-3
 same-length-3 c = search needs
@@ -132,7 +132,7 @@ write-requires : tie.Need-write-requires
 write-requires c κs =
     let t = c .before .before .before in
     let s = begun (t .before .before) in
-    (framed (t .before .before) Write (t .enum-told5 .given .1), s .pre .5)
+    (framed (t .before .before) Write (t .enum-told5 .given .1), s .pre .memory-whole)
 
 enum-told-6 : tie.Need-enum-told-6
 enum-told-6 c = search needs
@@ -150,7 +150,7 @@ write-masked-requires : tie.Need-write-masked-requires
 write-masked-requires c κs =
     let t = c .before .before .before in
     let s = begun (t .before .before) in
-    (framed (t .before .before) WriteMasked (t .enum-told6 .given .1), s .pre .5)
+    (framed (t .before .before) WriteMasked (t .enum-told6 .given .1), s .pre .memory-whole)
 
 enum-told-7 : tie.Need-enum-told-7
 enum-told-7 c = search needs
@@ -333,8 +333,8 @@ module _ (m : tie.At-match-came) where
       (⊎-elim (λ w. ap length (w .5)) (λ w. ap length (w .7)))))))))
       (m .match .came)
 
-alone-requires : tie.Need-alone-requires
-alone-requires c κs = search needs
+status-alone-requires : tie.Need-status-alone-requires
+status-alone-requires c κs = search needs
 
 same-length-18 : tie.Need-same-length-18
 same-length-18 c = state-long (c .before .before .before .before)
@@ -349,7 +349,7 @@ returns-9 : tie.Need-returns-9
 returns-9 c =
     let told = c .before .before in
     let m = told .before .before in
-    settled-told (q m) (m .match .status) (settled m) (told .alone .ensures)
+    settled-told (q m) (m .match .status) (settled m) (told .status-alone .ensures)
 
 pub serve-spec : {M : Type 1} → statement M
 serve-spec =
@@ -425,7 +425,7 @@ serve-spec =
     same-length-16
     same-length-17
     returns-8
-    alone-requires
+    status-alone-requires
     same-length-18
     same-length-19
     same-length-20

@@ -7,7 +7,7 @@ use borrow.Author.Needs.{needs}
 use lib.ListN.{length, take, drop, length-take}
 use Rattle.document.specs.Areas.{bytesAt}
 use Rattle.line_wire.proofs.Writing.{told-as}
-use Rattle.serve_fields.specs.Blocks.{IsBlock}
+use Rattle.serve_fields.specs.Found.{AreFields}
 use Rattle.serve_reads.proofs.ReadLaws.{read-refused, read-few, read-inside, read-done}
 use Rattle.serve_reads.proofs.read.Statement.{statement}
 use Rattle.serve_reads.proofs.read.Tie as tie
@@ -18,8 +18,8 @@ block-in-requires c κs = search needs
 read-status-requires : tie.Need-read-status-requires
 read-status-requires c κs = search needs
 
-alone-requires : tie.Need-alone-requires
-alone-requires c κs = search needs
+status-alone-requires : tie.Need-status-alone-requires
+status-alone-requires c κs = search needs
 
 same-length : tie.Need-same-length
 same-length c = search needs
@@ -29,7 +29,7 @@ abbrev begun : tie.After-block-in → tie.Start
 begun b = b .before .before .before .before
 
 -- no part stands behind the address
-found : (b : tie.After-block-in) → IsBlock (begun b .args .service) (begun b .args .body .now) 0 (b .block-in .result)
+found : (b : tie.After-block-in) → AreFields (begun b .args .service) (begun b .args .body .now) 0 (b .block-in .result)
 found b = b .block-in .ensures 0 (sym (zero-mul _))
 
 returns : tie.Need-returns
@@ -41,7 +41,7 @@ returns c =
     λ g same.
     told-as _ _
     (read-refused (a .service) (a .body .now) (b .block-in .result) (found b) (r .read-status .result) (r .read-status .ensures) g (said .before .before .if1 .taken))
-    (said .alone .ensures)
+    (said .status-alone .ensures)
 
 -- ---- nothing refuses it
 module _ (e : tie.Else1) where
@@ -110,7 +110,7 @@ read-spec =
     (tie.spec
     block-in-requires
     read-status-requires
-    alone-requires
+    status-alone-requires
     same-length
     returns
     usize-of-u32-requires

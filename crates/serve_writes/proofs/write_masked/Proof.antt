@@ -8,7 +8,7 @@ use Rattle.document.specs.Areas.{variablesEnd}
 use Rattle.document.specs.Stores.{maskStored}
 use Rattle.document.specs.Fields.{sizeField}
 use Rattle.document.specs.Commands.{writtenMasked, served}
-use Rattle.serve_fields.specs.Blocks.{IsBlock}
+use Rattle.serve_fields.specs.Found.{AreFields}
 use Rattle.serve_writes.proofs.WriteLaws.{values-are, masks-are, wrote-refused, wrote-done, written-inside, parts-inside, address-is}
 use Rattle.serve_writes.proofs.write_masked.Statement.{statement}
 use Rattle.serve_writes.proofs.write_masked.Tie as tie
@@ -26,7 +26,7 @@ start w = w .before .before .before .before
 abbrev behind : tie.After-write-status → ℕ
 behind w = 2 * sizeField (start w .args .service) (start w .args .body .now)
 
-found : (w : tie.After-write-status) → IsBlock (start w .args .service) (start w .args .body .now) (behind w) (w .before .block-in .result)
+found : (w : tie.After-write-status) → AreFields (start w .args .service) (start w .args .body .now) (behind w) (w .before .block-in .result)
 found w = w .before .block-in .ensures (behind w) refl
 
 returns : tie.Need-returns

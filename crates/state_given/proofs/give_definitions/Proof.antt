@@ -5,7 +5,7 @@ use mathlib.Core.List.{List}
 use Prim.Native.Nat.{ℕ, _+_, _-_, _*_, _≤_}
 use native.Mathlib.Nat.{sub-zero}
 use native.Mathlib.Omega.{arith}
-use lib.ListN.{length, drop, length-set}
+use lib.ListN.{length, drop}
 use lib.Seq.{sets}
 use borrow.Author.Needs.{needs}
 use Rattle.document.specs.Variables.{definitionWidth, definitionsIn}
@@ -15,53 +15,34 @@ use Rattle.state_given.proofs.give_definitions.Statement.{statement}
 use Rattle.state_given.proofs.give_definitions.Tie as tie
 
 abbrev Inv-loop : tie.InvT-loop
-Inv-loop block₀ at part n read₀ write₀ k₀ block read write k = (k ≤ n) × (length block ≡ length block₀) × (read + (n - k) * definitionWidth false ≤ length part) × (write + (n - k) * 5 ≤ length block₀) × (sets block write (encodedDefinitions (definitionsIn false (n - k) (drop read part))) ≡ sets block₀ at (encodedDefinitions (definitionsIn false n (drop 1 part))))
+Inv-loop block₀ at part n width read₀ write₀ k₀ block read write k = (k ≤ n) × (length block ≡ length block₀) × (read + (n - k) * definitionWidth false ≤ length part) × (write + (n - k) * 5 ≤ length block₀) × (sets block write (encodedDefinitions (definitionsIn false (n - k) (drop read part))) ≡ sets block₀ at (encodedDefinitions (definitionsIn false n (drop 1 part))))
 
 abbrev μ-loop : tie.MeasureT-loop
-μ-loop block₀ at part n read₀ write₀ k₀ block read write k = n - k
+μ-loop block₀ at part n width read₀ write₀ k₀ block read write k = n - k
 
--- a turn, and where the function began
-abbrev turn : tie.After-shared-slice-known2 Inv-loop μ-loop → tie.In-loop Inv-loop μ-loop
-turn k = k .before .before
-
-abbrev begun : tie.In-loop Inv-loop μ-loop → tie.Start Inv-loop μ-loop
-begun t = t .before .before .before .before
+address-width-requires : tie.Need-address-width-requires Inv-loop μ-loop
+address-width-requires c κs = search needs
 
 loop-holds : tie.Need-loop-holds Inv-loop μ-loop
-loop-holds c = let p = c .before .before .pre in (omega arith, refl, rw sub-zero (p .0), rw sub-zero (p .1), rw sub-zero)
+loop-holds c = let p = c .before .before .before .pre in (omega arith, refl, rw sub-zero (p .0), rw sub-zero (p .1), rw sub-zero)
+
+shared-slice-read-size : tie.Need-shared-slice-read-size Inv-loop μ-loop
+shared-slice-read-size c = search needs
 
 add-number-at : tie.Need-add-number-at Inv-loop μ-loop
 add-number-at c = search needs
 
 number-at-requires : tie.Need-number-at-requires Inv-loop μ-loop
-number-at-requires c κs =
-    let s = c .before .before .before .before in
-    let l = c .before .loop in
-    (omega arith, omega (arith, left-one (s .args .n) (l .k) 3 (c .loop-test .taken), l .inv .2))
+number-at-requires c κs = search needs
 
-shared-slice-read-block : tie.Need-shared-slice-read-block Inv-loop μ-loop
-shared-slice-read-block c =
-    let t = turn c in
-    let l = t .before .loop in
-    omega (arith, left-one (begun t .args .n) (l .k) 3 (t .loop-test .taken), l .inv .2)
-
-slice-write-block : tie.Need-slice-write-block Inv-loop μ-loop
-slice-write-block c =
-    let t = turn c in
-    let l = t .before .loop in
-    omega (arith, left-one (begun t .args .n) (l .k) 5 (t .loop-test .taken), l .inv .3, l .inv .1)
-
-add-put-long : tie.Need-add-put-long Inv-loop μ-loop
-add-put-long c = search needs
-
-put-long-requires : tie.Need-put-long-requires Inv-loop μ-loop
-put-long-requires c κs =
-    let t = turn (c .before) in
-    let l = t .before .loop in
-    simp length-set (omega (arith, left-one (begun t .args .n) (l .k) 5 (t .loop-test .taken), l .inv .3, l .inv .1))
+put-definition-requires : tie.Need-put-definition-requires Inv-loop μ-loop
+put-definition-requires c κs = search needs
 
 add-read : tie.Need-add-read Inv-loop μ-loop
 add-read c = search needs
+
+add-read-2 : tie.Need-add-read-2 Inv-loop μ-loop
+add-read-2 c = search needs
 
 add-write : tie.Need-add-write Inv-loop μ-loop
 add-write c = search needs
@@ -74,19 +55,21 @@ loop-less c = search needs
 
 loop-again : tie.Need-loop-again Inv-loop μ-loop
 loop-again c =
-    let put-long = c .before .before .put-long in
-    let known = c .before .before .before .before in
-    let t = turn known in
-    let l = t .before .loop in
-    let a = begun t .args in
+    let put = c .before .before in
+    let read = put .before .before in
+    let turn = read .before .before in
+    let l = turn .before .loop in
+    let width = turn .before .before .address-width in
+    let a = turn .before .before .before .before .before .args in
     let part = a .part .now in
-    let left = t .loop-test .taken in (
+    let left = turn .loop-test .taken in
+    let wide = width .ensures .0 in (
       omega arith,
-      put-long .kept .0 ∙ simp length-set (l .inv .1),
-      omega (arith, left-one (a .n) (l .k) 3 left, l .inv .2),
+      put .put-definition .kept .0 ∙ l .inv .1,
+      omega (arith, left-one (a .n) (l .k) 3 left, wide, l .inv .2),
       omega (arith, left-one (a .n) (l .k) 5 left, l .inv .3),
-      ap (λ (b : List ℕ). sets b (l .write + 5) (encodedDefinitions (definitionsIn false (a .n - (l .k + 1)) (drop (l .read + 3) part)))) (put-long .ensures)
-          ∙ definition-stored false part (l .block) (l .read) (l .write) (a .n) (l .k) 2 _ _ left refl refl (known .before .number-at .ensures .value)
+      ap (λ (b : List ℕ). sets b (l .write + 5) (encodedDefinitions (definitionsIn false (a .n - (l .k + 1)) (drop (l .read + (1 + width .result)) part)))) (put .put-definition .ensures)
+          ∙ definition-stored false part (l .block) (l .read) (l .write) (a .n) (l .k) (width .result) _ _ left wide refl (read .number-at .ensures .value)
           ∙ l .inv .4,
     )
 
@@ -96,7 +79,7 @@ same-length c = search needs
 returns : tie.Need-returns Inv-loop μ-loop
 returns c =
     let l = c .before .loop in
-    let z : c .before .before .before .before .args .n - l .k ≡ 0 = omega arith in
+    let z : c .before .before .before .before .before .args .n - l .k ≡ 0 = omega arith in
     rw z at (l .inv .4)
 
 pub give-definitions-spec : {M : Type 1} → statement M
@@ -105,14 +88,14 @@ give-definitions-spec =
     (tie.spec
     Inv-loop
     μ-loop
+    address-width-requires
     loop-holds
+    shared-slice-read-size
     add-number-at
     number-at-requires
-    shared-slice-read-block
-    slice-write-block
-    add-put-long
-    put-long-requires
+    put-definition-requires
     add-read
+    add-read-2
     add-write
     add-k
     loop-less

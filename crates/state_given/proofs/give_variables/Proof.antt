@@ -23,8 +23,8 @@ usize-of-u8-requires c κs = search needs
 give-definitions-requires : tie.Need-give-definitions-requires
 give-definitions-requires c κs = search needs
 
-enclose-requires : tie.Need-enclose-requires
-enclose-requires c κs = search needs
+complete-definitions-requires : tie.Need-complete-definitions-requires
+complete-definitions-requires c κs = search needs
 
 same-length : tie.Need-same-length
 same-length c = search needs
@@ -38,7 +38,7 @@ returns c =
     let a = s .args in
     let part = a .part .now in
     let n : ℕ = getD part 0 0 in
-    enclosed .enclose .ensures
+    enclosed .complete-definitions .ensures
     ∙ (λ i. sets (set (given .give-definitions .ensures i) (a .at) n) (a .at + 1 + n * 5) (replicate ((8 - n) * 5) 0))
     ∙ (λ i. sets (set (sets (a .block .now) (a .at + 1) (encodedDefinitions (definitionsIn false (u .usize-of-u8 .ensures .0 i) (drop 1 part)))) (a .at) n) (a .at + 1 + n * 5) (replicate ((8 - n) * 5) 0))
     ∙ part-stored false (a .block .now) part (a .at) n refl (s .pre .0)
@@ -51,6 +51,6 @@ give-variables-spec =
     add-give-definitions
     usize-of-u8-requires
     give-definitions-requires
-    enclose-requires
+    complete-definitions-requires
     same-length
     returns)

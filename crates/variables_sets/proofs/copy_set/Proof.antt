@@ -74,7 +74,7 @@ add-end c = search needs
 loop-holds : tie.Need-loop-holds Inv-loop μ-loop
 loop-holds c =
     let pre = c .before .before .pre in
-    (omega arith, refl, refl, refl, pre .2, omega arith, refl, rw add-zero)
+    (omega arith, refl, refl, refl, pre .0 .may, omega arith, refl, rw add-zero)
 
 add-long-at : tie.Need-add-long-at Inv-loop μ-loop
 add-long-at c = search needs

@@ -69,10 +69,11 @@ same-length c = search needs
 returns : tie.Need-returns
 returns c =
     let p = c .before .before .before .before in
-    let h = c .enum-told .given .1 in (
-      ap heardOf (sym (event-of (block p) (begun p .args .byte) (begun p .pre) (small p) (stepped-on p .step .result) (is-step p) Nothing h)),
-      nothing-heard (block p) (begun p .args .byte) (begun p .pre) (small p) (stepped-on p .step .result) (is-step p) _ h (p .put-receiver .ensures),
-    )
+    let h = c .enum-told .given .1 in
+    record {
+      brought = ap heardOf (sym (event-of (block p) (begun p .args .byte) (begun p .pre) (small p) (stepped-on p .step .result) (is-step p) Nothing h));
+      state = nothing-heard (block p) (begun p .args .byte) (begun p .pre) (small p) (stepped-on p .step .result) (is-step p) _ h (p .put-receiver .ensures);
+    }
 
 same-length-2 : tie.Need-same-length-2
 same-length-2 c = search needs
@@ -85,11 +86,13 @@ returns-2 c =
     let p = e .before .before .before .before in
     let at = e .event .given .0 .0 in
     let byte = e .event .given .0 .1 .0 in
-    let h = e .event .given .1 in (
-      ap heardOf (sym (event-of (block p) (begun p .args .byte) (begun p .pre) (small p) (stepped-on p .step .result) (is-step p) (Keep at byte) h)),
-      keep-heard (block p) (begun p .args .byte) (begun p .pre) (small p) (stepped-on p .step .result) (is-step p) _ at byte h
-          (kept .put-byte .ensures ∙ (λ i. set (p .put-receiver .ensures i) (bodyPlace + wide .usize-of-u8 .ensures .0 i) byte)),
-    )
+    let h = e .event .given .1 in
+    record {
+      brought = ap heardOf (sym (event-of (block p) (begun p .args .byte) (begun p .pre) (small p) (stepped-on p .step .result) (is-step p) (Keep at byte) h));
+      state =
+          keep-heard (block p) (begun p .args .byte) (begun p .pre) (small p) (stepped-on p .step .result) (is-step p) _ at byte h
+          (kept .put-byte .ensures ∙ (λ i. set (p .put-receiver .ensures i) (bodyPlace + wide .usize-of-u8 .ensures .0 i) byte));
+    }
 
 same-length-3 : tie.Need-same-length-3
 same-length-3 c = search needs
@@ -101,10 +104,11 @@ returns-3 c =
     let command = e .event2 .given .0 .0 in
     let n = e .event2 .given .0 .1 .0 in
     let sum = e .event2 .given .0 .1 .1 .0 in
-    let h = e .event2 .given .1 in (
-      ap heardOf (sym (event-of (block p) (begun p .args .byte) (begun p .pre) (small p) (stepped-on p .step .result) (is-step p) (Whole command n sum) h)),
-      whole-heard (block p) (begun p .args .byte) (begun p .pre) (small p) (stepped-on p .step .result) (is-step p) _ command n sum h (p .put-receiver .ensures),
-    )
+    let h = e .event2 .given .1 in
+    record {
+      brought = ap heardOf (sym (event-of (block p) (begun p .args .byte) (begun p .pre) (small p) (stepped-on p .step .result) (is-step p) (Whole command n sum) h));
+      state = whole-heard (block p) (begun p .args .byte) (begun p .pre) (small p) (stepped-on p .step .result) (is-step p) _ command n sum h (p .put-receiver .ensures);
+    }
 
 pub hear-spec : {M : Type 1} → statement M
 hear-spec =

@@ -1,8 +1,8 @@
 -- Each key is an operation's number; behind the last of them none is.
 use Prim.Native.Nat.{_%_}
 use Rattle.document.specs.declared.Operation.the-variants.{Unserved}
-use Rattle.codes_table.specs.Numbering.{operations}
-use Rattle.codes_table.proofs.Matches.{beyond}
+use Rattle.codes_rows.specs.Numbering.{operations}
+use Rattle.codes_rows.proofs.Matches.{beyond}
 use Rattle.codes_table.proofs.reading.operation_in.Statement.{statement}
 use Rattle.codes_table.proofs.reading.operation_in.Tie as tie
 

@@ -2,7 +2,7 @@
 use mathlib.Core.Path.{ap, _∙_}
 use native.Mathlib.Omega.{arith}
 use borrow.Author.Needs.{needs}
-use Rattle.codes_table.specs.Rows.{rowAt}
+use Rattle.codes_rows.specs.Rows.{rowAt}
 use Rattle.codes_table.proofs.Commands.{row-at}
 use Rattle.codes_table.proofs.table.entry.Statement.{statement}
 use Rattle.codes_table.proofs.table.entry.Tie as tie

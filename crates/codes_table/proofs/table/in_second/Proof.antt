@@ -3,8 +3,8 @@ use Prim.Native.Nat.{ℕ, _+_}
 use borrow.Author.Needs.{needs}
 use Rattle.document.specs.Kinds.{kindOf}
 use Rattle.document.specs.Services.{serviceOf}
-use Rattle.codes_table.specs.Rows.{rowNumber}
-use Rattle.codes_table.specs.Table.{entryOf}
+use Rattle.codes_rows.specs.Rows.{rowNumber}
+use Rattle.codes_rows.specs.Rule.{entryOf}
 use Rattle.codes_table.proofs.Entries.{entry-at}
 use Rattle.codes_table.proofs.table.in_second.Statement.{statement}
 use Rattle.codes_table.proofs.table.in_second.Tie as tie

@@ -3,8 +3,8 @@ use mathlib.Core.Path.{_≡_, ap, _∙_}
 use Prim.Native.Nat.{ℕ, _+_, _/_, _%_, _<_, _≤_}
 use native.Mathlib.Omega.{arith}
 use borrow.Author.Needs.{needs}
-use Rattle.codes_table.specs.Rows.{rowNumber}
-use Rattle.codes_table.proofs.Matches.{missed}
+use Rattle.codes_rows.specs.Rows.{rowNumber}
+use Rattle.codes_rows.proofs.Matches.{missed}
 use Rattle.codes_table.proofs.table.row_number.Statement.{statement}
 use Rattle.codes_table.proofs.table.row_number.Tie as tie
 

@@ -15,7 +15,8 @@ use Rattle.document.specs.CommandWriter.{commandOnWire, commandRefusal, command
 use Rattle.line_wire.specs.declared.doubling.Progress.{Progress}
 use Rattle.line_wire.specs.Put.{front}
 use Rattle.line_wire.proofs.Writing.{put-append, written-length, written-buffer}
-use Rattle.line_commands.proofs.Commands.{between, command-framed, command-length, behind-sum, formed-short, command-taken, command-written, command-buffer}
+use Rattle.line_measure.proofs.Parts.{between, command-framed, command-length, behind-sum}
+use Rattle.line_commands.proofs.Commands.{formed-short, command-taken, command-written, command-buffer}
 use borrow.Author.Needs.{needs}
 use Rattle.line_commands.proofs.command.write_command.Statement.{statement}
 use Rattle.line_commands.proofs.command.write_command.Tie as tie

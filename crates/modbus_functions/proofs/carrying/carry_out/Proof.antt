@@ -64,17 +64,17 @@ module _ (e : tie.After-enum-told2) where
   values-two : length (bytesAt (frame one) 4 2) ≡ 2
   values-two = length-take-le 2 (drop 4 (frame one)) (rw length-drop (omega (arith, long one)))
 
-sub-turn-in : tie.Need-sub-turn-in
-sub-turn-in c = search needs
+sub-copy-swapped : tie.Need-sub-copy-swapped
+sub-copy-swapped c = search needs
 
-part-turn-in-start : tie.Need-part-turn-in-start
-part-turn-in-start c = search needs
+part-copy-swapped-start : tie.Need-part-copy-swapped-start
+part-copy-swapped-start c = search needs
 
-part-turn-in-end : tie.Need-part-turn-in-end
-part-turn-in-end c = omega (arith, long (start (c .before .before .before)))
+part-copy-swapped-end : tie.Need-part-copy-swapped-end
+part-copy-swapped-end c = omega (arith, long (start (c .before .before .before)))
 
-turn-in-requires : tie.Need-turn-in-requires
-turn-in-requires c κs =
+copy-swapped-requires : tie.Need-copy-swapped-requires
+copy-swapped-requires c κs =
     let e = c .before .before in
     let fit = written e in
     omega (arith, fit .room, first (e .before .before), values-two e)
@@ -94,17 +94,17 @@ module _ (e : tie.After-enum-told3) where
 sub-end : tie.Need-sub-end
 sub-end c = omega (arith, long (start (c .before .before)))
 
-sub-turn-in-2 : tie.Need-sub-turn-in-2
-sub-turn-in-2 c = omega (arith, several (c .before) .frame-length)
+sub-copy-swapped-2 : tie.Need-sub-copy-swapped-2
+sub-copy-swapped-2 c = omega (arith, several (c .before) .frame-length)
 
-part-turn-in-start-2 : tie.Need-part-turn-in-start-2
-part-turn-in-start-2 c = omega (arith, several (c .before) .frame-length)
+part-copy-swapped-start-2 : tie.Need-part-copy-swapped-start-2
+part-copy-swapped-start-2 c = omega (arith, several (c .before) .frame-length)
 
-part-turn-in-end-2 : tie.Need-part-turn-in-end-2
-part-turn-in-end-2 c = search needs
+part-copy-swapped-end-2 : tie.Need-part-copy-swapped-end-2
+part-copy-swapped-end-2 c = search needs
 
-turn-in-requires-2 : tie.Need-turn-in-requires-2
-turn-in-requires-2 c κs =
+copy-swapped-requires-2 : tie.Need-copy-swapped-requires-2
+copy-swapped-requires-2 c κs =
     let e = c .before .before in
     let s = start (e .before .before) in
     omega (arith, several e .room, first (e .before .before), ap length (values-between (frame s) (memory s) (s .pre .1) (several e)), values-length (frame s) (memory s) (s .pre .1) (several e))
@@ -127,8 +127,8 @@ word-in-requires-2 c κs = omega (arith, long (start (c .before .before)))
 word-in-requires-3 : tie.Need-word-in-requires-3
 word-in-requires-3 c κs = omega (arith, long (start (c .before .before .before)))
 
-mix-in-word-requires : tie.Need-mix-in-word-requires
-mix-in-word-requires c κs =
+store-masked-word-requires : tie.Need-store-masked-word-requires
+store-masked-word-requires c κs =
     let e = c .before .before .before in
     omega (arith, masked e .room, first (e .before .before))
 
@@ -147,7 +147,7 @@ returns-2 c =
     let e = w .before .before .before in
     let s = one e in
     carried-as (e .enum-told2 .given .1) (frame s) (memory s) _
-    (w .turn-in .ensures ∙ ap (λ (r : ℕ). stored (memory s) (2 * r) (turned (bytesAt (frame s) 4 2))) (first (e .before .before)))
+    (w .copy-swapped .ensures ∙ ap (λ (r : ℕ). stored (memory s) (2 * r) (turned (bytesAt (frame s) 4 2))) (first (e .before .before)))
 
 same-length-2 : tie.Need-same-length-2
 same-length-2 c = search needs
@@ -159,7 +159,7 @@ returns-3 c =
     let s = many e in
     let values = values-between (frame s) (memory s) (s .pre .1) (several e) in
     carried-as (e .enum-told3 .given .1) (frame s) (memory s) _
-    (w .turn-in2 .ensures ∙ ap₂ (λ (r : ℕ) (vs : List ℕ). stored (memory s) (2 * r) (turned vs)) (first (e .before .before)) values)
+    (w .copy-swapped2 .ensures ∙ ap₂ (λ (r : ℕ) (vs : List ℕ). stored (memory s) (2 * r) (turned vs)) (first (e .before .before)) values)
 
 same-length-3 : tie.Need-same-length-3
 same-length-3 c = search needs
@@ -173,7 +173,7 @@ returns-4 c =
     let kept = words .before .word-in2 in
     let set = words .word-in3 in
     carried-as (e .enum-told4 .given .1) (frame s) (memory s) _
-    (w .mix-in-word .ensures
+    (w .store-masked-word .ensures
     ∙ masked-so (memory s) (first (e .before .before)) (kept .ensures .0) (set .ensures .0)
     (all-of-bytes (memory s) (λ i. e .before .before .before .before .slice-known .given i .fits)) (masked e .room) (kept .ensures .1) (set .ensures .1))
 
@@ -189,20 +189,20 @@ carry-out-spec =
     mul-at
     enum-told
     enum-told-2
-    sub-turn-in
-    part-turn-in-start
-    part-turn-in-end
-    turn-in-requires
+    sub-copy-swapped
+    part-copy-swapped-start
+    part-copy-swapped-end
+    copy-swapped-requires
     enum-told-3
     sub-end
-    sub-turn-in-2
-    part-turn-in-start-2
-    part-turn-in-end-2
-    turn-in-requires-2
+    sub-copy-swapped-2
+    part-copy-swapped-start-2
+    part-copy-swapped-end-2
+    copy-swapped-requires-2
     enum-told-4
     word-in-requires-2
     word-in-requires-3
-    mix-in-word-requires
+    store-masked-word-requires
     enum-told-5
     returns
     same-length

@@ -25,7 +25,7 @@ tell-registers-requires c κs =
     let memory = s .args .memory .now in
     let none = none-as (e .enum-told .given .1) frame memory (s .pre .0) in
     let right = reading-right frame (accepted ReadRegisters frame memory none .value) in
-    (omega (arith, right .0), right .1, omega (arith, reads-inside frame memory none, s .pre .1), s .pre .2)
+    ((omega (arith, right .0), right .1, s .pre .2), omega (arith, reads-inside frame memory none, s .pre .1))
 
 enum-told-2 : tie.Need-enum-told-2
 enum-told-2 c = search needs

@@ -44,22 +44,22 @@ shared-slice-read-out-2 : tie.Need-shared-slice-read-out-2
 shared-slice-read-out-2 c = search needs
 
 slice-write-out-2 : tie.Need-slice-write-out-2
-slice-write-out-2 c = simp length-set (omega (arith, c .before .before .before .before .before .before .before .before .before .pre .3))
+slice-write-out-2 c = simp length-set (omega (arith, c .before .before .before .before .before .before .before .before .before .pre .0 .2))
 
 cast-out : tie.Need-cast-out
 cast-out c = search needs
 
 slice-write-out-3 : tie.Need-slice-write-out-3
-slice-write-out-3 c = simp length-set (omega (arith, c .before .before .before .before .before .before .before .before .before .pre .3))
+slice-write-out-3 c = simp length-set (omega (arith, c .before .before .before .before .before .before .before .before .before .pre .0 .2))
 
-sub-turn-in : tie.Need-sub-turn-in
-sub-turn-in c = search needs
+sub-copy-swapped : tie.Need-sub-copy-swapped
+sub-copy-swapped c = search needs
 
-part-turn-in-start : tie.Need-part-turn-in-start
-part-turn-in-start c = search needs
+part-copy-swapped-start : tie.Need-part-copy-swapped-start
+part-copy-swapped-start c = search needs
 
-part-turn-in-end : tie.Need-part-turn-in-end
-part-turn-in-end c = search needs
+part-copy-swapped-end : tie.Need-part-copy-swapped-end
+part-copy-swapped-end c = search needs
 
 -- ---- both fields are read
 
@@ -83,26 +83,26 @@ module _ (q : tie.After-usize-of-u162) where
   quantity = q .usize-of-u162 .ensures .0 ∙ q .before .word-in2 .ensures .0
 
   inside : 2 * from + 2 * count ≤ length memory
-  inside = omega (arith, start .pre .2, first, quantity)
+  inside = omega (arith, start .pre .1, first, quantity)
 
-turn-in-requires : tie.Need-turn-in-requires
-turn-in-requires c κs =
+copy-swapped-requires : tie.Need-copy-swapped-requires
+copy-swapped-requires c κs =
     let q = c .before .before .before .before in
     let s = start q in
-    simp length-set (omega (arith, s .pre .1, s .pre .3, quantity q, ap length (part (memory q) (from q) (count q)), part-length (memory q) (from q) (count q) (inside q)))
+    simp length-set (omega (arith, s .pre .0 .1, s .pre .0 .2, quantity q, ap length (part (memory q) (from q) (count q)), part-length (memory q) (from q) (count q) (inside q)))
 
 add-result : tie.Need-add-result
 add-result c = search needs
 
 same-length : tie.Need-same-length
-same-length c = ap length (c .before .before .turn-in .ensures) ∙ simp (length-sets, length-set)
+same-length c = ap length (c .before .before .copy-swapped .ensures) ∙ simp (length-sets, length-set)
 
 returns : tie.Need-returns
 returns c =
     let t = c .before .before in
     let q = t .before .before .before .before .before in
     let a = start q .args in
-    registers-told (a .frame .now) (memory q) (a .out .now) _ (from q) (count q) (first q) (quantity q) (inside q) (t .turn-in .ensures)
+    registers-told (a .frame .now) (memory q) (a .out .now) _ (from q) (count q) (first q) (quantity q) (inside q) (t .copy-swapped .ensures)
 
 pub tell-registers-spec : {M : Type 1} → statement M
 tell-registers-spec =
@@ -121,10 +121,10 @@ tell-registers-spec =
     slice-write-out-2
     cast-out
     slice-write-out-3
-    sub-turn-in
-    part-turn-in-start
-    part-turn-in-end
-    turn-in-requires
+    sub-copy-swapped
+    part-copy-swapped-start
+    part-copy-swapped-end
+    copy-swapped-requires
     add-result
     same-length
     returns)

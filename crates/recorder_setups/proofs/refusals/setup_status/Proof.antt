@@ -12,7 +12,7 @@ use Rattle.document.specs.Variables.{lengthGiven, countIn, countWrong, variable
 use Rattle.document.specs.Plan.{headWidth, variablesPart, recordedIn, recorderLayoutWrong, recorderSizeWrong, recorderRangeWrong}
 use Rattle.variables_list.proofs.Wrong.{count-right}
 use Rattle.variables_definitions.specs.Parts.{isWhole}
-use Rattle.variables_definitions.specs.Survey.{surveyed}
+use Rattle.variables_surveys.specs.Survey.{surveyed}
 use Rattle.recorder_setups.specs.Setup.{seenSizeWrong, seenRangeWrong}
 use Rattle.recorder_setups.proofs.SetUps.{tail-part, count-at, whole-same, layout-right, count-decides, size-seen}
 use Rattle.recorder_setups.proofs.refusals.setup_status.Statement.{statement}

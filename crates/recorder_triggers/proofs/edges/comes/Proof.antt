@@ -1,6 +1,6 @@
 -- An edge is two levels: that of this set, and that of the one before.
-use mathlib.Core.Path.{_≡_, refl, sym}
-use mathlib.Core.Bool.{Bool, true, false, not, _&&_}
+use mathlib.Core.Path.{_≡_, sym}
+use mathlib.Core.Bool.{Bool, true, false, not, and-true, and-false}
 use Prim.Native.Nat.{ℕ}
 use Rattle.document.specs.Plan.{Trigger}
 use Rattle.document.specs.Trigger.{fires, isBeyond}
@@ -14,14 +14,6 @@ is-beyond-requires c κs = search needs
 
 is-beyond-requires-2 : tie.Need-is-beyond-requires-2
 is-beyond-requires-2 c κs = search needs
-
-and-true : (b : Bool) → b && true ≡ b
-and-true true = refl
-and-true false = refl
-
-and-false : (b : Bool) → b && false ≡ false
-and-false true = refl
-and-false false = refl
 
 module _ (t : Trigger) (previous this : ℕ) (now : Bool) (e : now ≡ isBeyond t this) where
   -- this set is at or beyond the threshold, and the one before tells

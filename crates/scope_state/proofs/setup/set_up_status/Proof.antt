@@ -10,7 +10,7 @@ use borrow.Author.Needs.{needs}
 use Rattle.document.specs.Areas.{mayBeRead}
 use Rattle.document.specs.Variables.{countIn, countWrong, variablesIn, lengthGiven, anySizeZero, allMay}
 use Rattle.variables_list.proofs.Wrong.{count-right}
-use Rattle.variables_definitions.specs.declared.surveys.Surveyed.{Surveyed}
+use Rattle.variables_surveys.specs.declared.Surveyed.{Surveyed}
 use Rattle.variables_definitions.specs.Parts.{isWhole}
 use Rattle.scope_state.specs.Setup.{setUpStatus}
 use Rattle.scope_state.proofs.setup.set_up_status.Statement.{statement}

@@ -24,8 +24,8 @@ begun w = w .before .before .before .before
 address-width-requires : tie.Need-address-width-requires
 address-width-requires c κs = search needs
 
-alone-requires : tie.Need-alone-requires
-alone-requires c κs = search needs
+status-alone-requires : tie.Need-status-alone-requires
+status-alone-requires c κs = search needs
 
 same-length : tie.Need-same-length
 same-length c = search needs
@@ -39,7 +39,7 @@ returns c =
     λ g same.
     told-as _ _
     (string-layout g (a .service) (a .body .now) (λ e. t .if1 .taken (e ∙ sym (w .address-width .ensures .0))))
-    (said .alone .ensures)
+    (said .status-alone .ensures)
 
 number-requires : tie.Need-number-requires
 number-requires c κs = search needs
@@ -62,8 +62,8 @@ module _ (r : tie.After-may-be-read) where
   read-at : r .may-be-read .result ≡ mayBeRead (number body) 1
   read-at = r .may-be-read .ensures ∙ ap (λ (k : ℕ). mayBeRead k 1) (r .before .number .ensures .value)
 
-alone-requires-2 : tie.Need-alone-requires-2
-alone-requires-2 c κs = search needs
+status-alone-requires-2 : tie.Need-status-alone-requires-2
+status-alone-requires-2 c κs = search needs
 
 same-length-2 : tie.Need-same-length-2
 same-length-2 c = search needs
@@ -76,7 +76,7 @@ returns-2 c =
     λ g same.
     told-as _ _
     (string-outside g (asked r .args .service) (body r) (whole r) (sym (read-at r) ∙ not-true _ (t .if2 .taken)))
-    (said .alone2 .ensures)
+    (said .status-alone2 .ensures)
 
 usize-of-u32-requires : tie.Need-usize-of-u32-requires
 usize-of-u32-requires c κs = search needs
@@ -114,8 +114,8 @@ module _ (l : tie.After-string-length) where
 add-if3 : tie.Need-add-if3
 add-if3 c = search needs
 
-alone-requires-3 : tie.Need-alone-requires-3
-alone-requires-3 c κs = search needs
+status-alone-requires-3 : tie.Need-status-alone-requires-3
+status-alone-requires-3 c κs = search needs
 
 same-length-3 : tie.Need-same-length-3
 same-length-3 c = search needs
@@ -131,7 +131,7 @@ returns-3 c =
     told-as _ _
     (string-unended g (asked (e .before) .args .service) (body (e .before)) (whole (e .before)) (inside e)
     (ap (λ (m : List ℕ). stringEnds m at) same ∙ ends-not (memory l) at (omega (arith, t .if3 .taken, from l, measured l))))
-    (said .alone3 .ensures)
+    (said .status-alone3 .ensures)
 
 cast-done-word : tie.Need-cast-done-word
 cast-done-word c = search needs
@@ -162,18 +162,18 @@ measure-string-spec =
     tie.close
     (tie.spec
     address-width-requires
-    alone-requires
+    status-alone-requires
     same-length
     returns
     number-requires
     may-be-read-requires
-    alone-requires-2
+    status-alone-requires-2
     same-length-2
     returns-2
     usize-of-u32-requires
     string-length-requires
     add-if3
-    alone-requires-3
+    status-alone-requires-3
     same-length-3
     returns-3
     cast-done-word

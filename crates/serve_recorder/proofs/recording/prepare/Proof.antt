@@ -1,11 +1,12 @@
 -- The recorder says its status, and is stored where nothing refuses.
 use mathlib.Core.Path.{_≡_, refl, sym, ap, _∙_}
+use mathlib.Core.Bool.{Bool}
 use mathlib.Core.List.{List}
 use Prim.Native.Nat.{ℕ}
 use borrow.Author.Tests.{ne-eqb}
 use borrow.Author.Needs.{needs}
 use Rattle.document.specs.Numbers.{done}
-use Rattle.recorder_state.specs.declared.state.Recorder.{Recorder}
+use Rattle.document.specs.Recorder.{isRunning}
 use Rattle.recorder_state.specs.State.{recorderOf}
 use Rattle.recorder_state.specs.Preparing.{prepareStatus}
 use Rattle.recorder_state.proofs.Answers.{taken-body}
@@ -13,8 +14,8 @@ use Rattle.state_block.specs.Layout.{dataTo, decodedRecorder}
 use Rattle.serve_recorder.proofs.recording.prepare.Statement.{statement}
 use Rattle.serve_recorder.proofs.recording.prepare.Tie as tie
 
-recorder-in-requires : tie.Need-recorder-in-requires
-recorder-in-requires c κs = search needs
+recorder-runs-requires : tie.Need-recorder-runs-requires
+recorder-runs-requires c κs = search needs
 
 sub-prepare-status : tie.Need-sub-prepare-status
 sub-prepare-status c = search needs
@@ -30,7 +31,7 @@ prepare-status-requires c κs = search needs
 
 -- ---- what is asked, and what the recorder says
 module _ (d : tie.After-prepare-status) where
-  abbrev looked : tie.After-recorder-in
+  abbrev looked : tie.After-recorder-runs
   looked = d .before .before .before
 
   abbrev begun : tie.Start
@@ -43,10 +44,13 @@ module _ (d : tie.After-prepare-status) where
   abbrev told : List ℕ
   told = dataTo block (begun .args .to)
 
-  status : d .prepare-status .result ≡ prepareStatus (recorderOf (decodedRecorder block)) (begun .args .ex) told
+  abbrev running : Bool
+  running = isRunning (recorderOf (decodedRecorder block))
+
+  status : d .prepare-status .result ≡ prepareStatus running (begun .args .ex) told
   status =
       d .prepare-status .ensures
-      ∙ ap (λ (q : Recorder). prepareStatus (recorderOf q) (begun .args .ex) told) (looked .recorder-in .ensures)
+      ∙ ap (λ (b : Bool). prepareStatus b (begun .args .ex) told) (looked .recorder-runs .ensures)
 
 same-length : tie.Need-same-length
 same-length c = search needs
@@ -59,7 +63,7 @@ store-prepared-requires c κs =
     let right = c .before in
     let d = right .before in
     let s = begun d in
-    (s .pre .0, s .pre .1, s .pre .2, taken-body (decodedRecorder (block d)) (s .args .ex) (told d) (sym (status d) ∙ right .if1 .left))
+    (s .pre .0, s .pre .1, s .pre .2, taken-body (running d) (s .args .ex) (told d) (sym (status d) ∙ right .if1 .left))
 
 same-length-2 : tie.Need-same-length-2
 same-length-2 c = search needs
@@ -74,7 +78,7 @@ pub prepare-spec : {M : Type 1} → statement M
 prepare-spec =
     tie.close
     (tie.spec
-    recorder-in-requires
+    recorder-runs-requires
     sub-prepare-status
     part-prepare-status-start
     part-prepare-status-end

@@ -19,7 +19,7 @@ use Rattle.state_parts.proofs.ByteLaws.{all-range}
 use Rattle.state_byte.specs.After.{instrumentsAfter}
 use Rattle.state_block.specs.Places.{bodyPlace, scopePlace}
 use Rattle.state_block.specs.Layout.{dataTo, decodedRecorder, decodedInstruments, encodedInstruments}
-use Rattle.serve_recorder.specs.Operates.{alone, Settles}
+use Rattle.serve_recorder.specs.Operates.{statusAlone, Settles}
 use Rattle.serve_recorder.proofs.Statuses.{recorder-prepared}
 use Rattle.serve_recorder.proofs.Changing.{settles, same-block}
 use Rattle.serve_recorder.proofs.InARow.{between, started-done, started-stored}
@@ -46,8 +46,8 @@ module _ (p : tie.After-prepare) where
   small : (i : ℕ) → getD block i 0 < 256
   small i = p .before .before .slice-known .given i .fits
 
-  answer : (memory : List ℕ) → alone (p .prepare .result) ≡ served (gateOf (decodedInstruments block) memory) (knownAs PrepareAndStart service) told .answer
-  answer memory = ap alone (p .prepare .ensures .0) ∙ recorder-prepared (gateOf (decodedInstruments block) memory) service told
+  answer : (memory : List ℕ) → statusAlone (p .prepare .result) ≡ served (gateOf (decodedInstruments block) memory) (knownAs PrepareAndStart service) told .answer
+  answer memory = ap statusAlone (p .prepare .ensures .0) ∙ recorder-prepared (gateOf (decodedInstruments block) memory) service told
 
   all : AllBytes told
   all = all-range block bodyPlace (begun .args .to - bodyPlace) (all-of-bytes block small)
@@ -89,7 +89,7 @@ returns-2 c =
     subst (λ (l : List ℕ). Settles (served (gateOf (decodedInstruments l) memory) (knownAs Start (service p)) []) (instrumentsAfter Start (decodedInstruments l) (service p) []) l (st .start .result) (st .start .last .0) memory)
     here (st .start .ensures memory (service p) []) in
     settles PrepareAndStart refl (block p) memory (service p) (told p) (st .start .result) _
-    (started-done (block p) (s .pre .0) (small p) ex (told p) (all p) memory (service p) [] (st .start .result) _ did ∙ ap alone (sym (right .if1 .left)) ∙ answer p memory)
+    (started-done (block p) (s .pre .0) (small p) ex (told p) (all p) memory (service p) [] (st .start .result) _ did ∙ ap statusAlone (sym (right .if1 .left)) ∙ answer p memory)
     (started-stored (block p) (s .pre .0) (small p) ex (told p) (all p) memory (service p) [] (st .start .result) _ did
     ∙ (λ i. sets (block p) scopePlace (encodedInstruments (withRecorder (decodedInstruments (block p)) (next i)))))
 

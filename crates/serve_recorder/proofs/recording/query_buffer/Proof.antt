@@ -14,7 +14,7 @@ use Rattle.recorder_state.specs.Calls.{queryStatus, indexOf, QuerySettled}
 use Rattle.line_wire.proofs.Writing.{told-as}
 use Rattle.state_parts.specs.State.{gateOf}
 use Rattle.state_block.specs.Layout.{decodedRecorder, decodedInstruments}
-use Rattle.serve_recorder.specs.Operates.{alone}
+use Rattle.serve_recorder.specs.Operates.{statusAlone}
 use Rattle.serve_recorder.proofs.Statuses.{query-refused, query-answered, buffer-bytes}
 use Rattle.serve_recorder.proofs.recording.query_buffer.Statement.{statement}
 use Rattle.serve_recorder.proofs.recording.query_buffer.Tie as tie
@@ -25,8 +25,8 @@ recorder-in-requires c κs = search needs
 query-requires : tie.Need-query-requires
 query-requires c κs = search needs
 
-alone-requires : tie.Need-alone-requires
-alone-requires c κs = search needs
+status-alone-requires : tie.Need-status-alone-requires
+status-alone-requires c κs = search needs
 
 -- the block that is asked, and what the recorder in it says
 abbrev begun : tie.After-query → tie.Start
@@ -51,9 +51,9 @@ returns c =
     let service = begun q .args .service in
     λ memory body.
     told-as _ _
-    (ap alone (said q .status)
+    (ap statusAlone (said q .status)
     ∙ query-refused (gateOf (decodedInstruments (block q)) memory) service body (λ e. t .if1 .taken (said q .status ∙ e)))
-    (said-so .alone .ensures)
+    (said-so .status-alone .ensures)
 
 buffer-from-requires : tie.Need-buffer-from-requires
 buffer-from-requires c κs = search needs
@@ -84,7 +84,7 @@ query-buffer-spec =
     (tie.spec
     recorder-in-requires
     query-requires
-    alone-requires
+    status-alone-requires
     same-length
     returns
     buffer-from-requires

@@ -10,7 +10,7 @@ use Rattle.state_parts.specs.State.{gateOf, withRecorder}
 use Rattle.state_block.specs.Places.{scopePlace, runPlace}
 use Rattle.state_block.specs.Layout.{decodedRecorder, decodedInstruments, encodedRun, encodedInstruments}
 use Rattle.state_block.proofs.Stored.{run-stored}
-use Rattle.serve_recorder.specs.Operates.{alone}
+use Rattle.serve_recorder.specs.Operates.{statusAlone}
 use Rattle.serve_recorder.proofs.Statuses.{recorder-started}
 use Rattle.serve_recorder.proofs.Changing.{settles, started-run}
 use Rattle.serve_recorder.proofs.recording.start.Statement.{statement}
@@ -45,7 +45,7 @@ returns c =
     ∙ (λ i. sets block scopePlace (encodedInstruments (withRecorder (decodedInstruments block) (started-run (decodedRecorder block) i)))) in
     λ memory s body.
     settles Start refl block memory s body (done .start .result .status) _
-    (ap alone status ∙ recorder-started (gateOf (decodedInstruments block) memory) s body) stored
+    (ap statusAlone status ∙ recorder-started (gateOf (decodedInstruments block) memory) s body) stored
 
 pub start-spec : {M : Type 1} → statement M
 start-spec =

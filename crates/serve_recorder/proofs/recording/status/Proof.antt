@@ -6,7 +6,7 @@ use Rattle.recorder_state.specs.State.{recorderOf}
 use Rattle.recorder_state.specs.Calls.{statusStatus}
 use Rattle.state_parts.specs.State.{gateOf}
 use Rattle.state_block.specs.Layout.{decodedInstruments}
-use Rattle.serve_recorder.specs.Operates.{alone}
+use Rattle.serve_recorder.specs.Operates.{statusAlone}
 use Rattle.serve_recorder.proofs.Statuses.{recorder-asked}
 use Rattle.serve_recorder.proofs.recording.status.Statement.{statement}
 use Rattle.serve_recorder.proofs.recording.status.Tie as tie
@@ -22,7 +22,7 @@ returns c =
     let found = c .before in
     let block = found .before .before .args .state .now in
     λ memory s body.
-    ap alone (c .status .ensures ∙ ap (λ (q : Recorder). statusStatus (recorderOf q)) (found .recorder-in .ensures))
+    ap statusAlone (c .status .ensures ∙ ap (λ (q : Recorder). statusStatus (recorderOf q)) (found .recorder-in .ensures))
     ∙ recorder-asked (gateOf (decodedInstruments block) memory) s body
 
 pub status-spec : {M : Type 1} → statement M

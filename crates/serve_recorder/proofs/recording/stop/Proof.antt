@@ -10,7 +10,7 @@ use Rattle.state_parts.specs.State.{gateOf, withRecorder}
 use Rattle.state_block.specs.Places.{scopePlace, runPlace}
 use Rattle.state_block.specs.Layout.{decodedRecorder, decodedInstruments, encodedRun, encodedInstruments}
 use Rattle.state_block.proofs.Stored.{run-stored}
-use Rattle.serve_recorder.specs.Operates.{alone}
+use Rattle.serve_recorder.specs.Operates.{statusAlone}
 use Rattle.serve_recorder.proofs.Statuses.{recorder-stopped}
 use Rattle.serve_recorder.proofs.Changing.{settles, halted-run}
 use Rattle.serve_recorder.proofs.recording.stop.Statement.{statement}
@@ -45,7 +45,7 @@ returns c =
     ∙ (λ i. sets block scopePlace (encodedInstruments (withRecorder (decodedInstruments block) (halted-run (decodedRecorder block) i)))) in
     λ memory s body.
     settles Stop refl block memory s body (done .stop .result .status) _
-    (ap alone status ∙ recorder-stopped (gateOf (decodedInstruments block) memory) s body) stored
+    (ap statusAlone status ∙ recorder-stopped (gateOf (decodedInstruments block) memory) s body) stored
 
 pub stop-spec : {M : Type 1} → statement M
 stop-spec =

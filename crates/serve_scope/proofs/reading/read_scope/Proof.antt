@@ -28,8 +28,8 @@ asked r = r .before .before .before .before
 read-status-requires : tie.Need-read-status-requires
 read-status-requires c κs = search needs
 
-alone-requires : tie.Need-alone-requires
-alone-requires c κs = search needs
+status-alone-requires : tie.Need-status-alone-requires
+status-alone-requires c κs = search needs
 
 same-length : tie.Need-same-length
 same-length c = search needs
@@ -46,7 +46,7 @@ returns c =
     told-as _ _
     ((λ i. record { status = r .read-status .ensures i; body = sym (no-bytes (decodedScope block) memory wrong) i })
     ∙ scope-read (decodedInstruments block) memory s body)
-    (told .alone .ensures)
+    (told .status-alone .ensures)
 
 begin-requires : tie.Need-begin-requires
 begin-requires c κs = search needs
@@ -117,7 +117,7 @@ read-scope-spec =
     tie.close
     (tie.spec
     read-status-requires
-    alone-requires
+    status-alone-requires
     same-length
     returns
     begin-requires

@@ -1,64 +1,23 @@
 -- Stores that meet are one store.
-use mathlib.Core.List.{List}
-use mathlib.Core.Path.{ap, _∙_}
-use Prim.Native.Nat.{ℕ}
-use lib.Seq.{sets}
-use lib.ListN.{set}
+use mathlib.Core.Path.{refl}
 use borrow.Author.Needs.{needs}
-use Rattle.document.specs.Values.{littleEndian}
 use Rattle.state_block.proofs.writing.put_numbers.Statement.{statement}
 use Rattle.state_block.proofs.writing.put_numbers.Tie as tie
 
-put-byte-requires : tie.Need-put-byte-requires
-put-byte-requires c κs = search needs
+put-ring-requires : tie.Need-put-ring-requires
+put-ring-requires c κs = search needs
 
-put-word-requires : tie.Need-put-word-requires
-put-word-requires c κs = search needs
-
-put-word-requires-2 : tie.Need-put-word-requires-2
-put-word-requires-2 c κs = search needs
-
-put-word-requires-3 : tie.Need-put-word-requires-3
-put-word-requires-3 c κs = search needs
-
-put-long-requires : tie.Need-put-long-requires
-put-long-requires c κs = search needs
-
-put-byte-requires-2 : tie.Need-put-byte-requires-2
-put-byte-requires-2 c κs = search needs
-
-put-byte-requires-3 : tie.Need-put-byte-requires-3
-put-byte-requires-3 c κs = search needs
-
-put-long-requires-2 : tie.Need-put-long-requires-2
-put-long-requires-2 c κs = search needs
+put-trigger-requires : tie.Need-put-trigger-requires
+put-trigger-requires c κs = search needs
 
 same-length : tie.Need-same-length
 same-length c = search needs
 
 returns : tie.Need-returns
 returns c =
-    let args = c .before .before .before .before .before .before .before .before .before .before .before .before .before .before .before .before .before .before .before .before .before .before .before .before .before .before .before .before .before .before .before .before .before .args in
-    let put-byte = c .before .before .before .before .before .before .before .before .before .before .before .before .before .before .before .before .before .before .before .before .before .before .before .before .before .before .before .before .before .before .put-byte in
-    let put-word = c .before .before .before .before .before .before .before .before .before .before .before .before .before .before .before .before .before .before .before .before .before .before .before .before .before .before .put-word in
-    let put-word2 = c .before .before .before .before .before .before .before .before .before .before .before .before .before .before .before .before .before .before .before .before .before .before .put-word2 in
-    let put-word3 = c .before .before .before .before .before .before .before .before .before .before .before .before .before .before .before .before .before .before .put-word3 in
-    let put-long = c .before .before .before .before .before .before .before .before .before .before .before .before .before .before .put-long in
-    let put-byte2 = c .before .before .before .before .before .before .before .before .before .before .put-byte2 in
-    let put-byte3 = c .before .before .before .before .before .before .put-byte3 in
-    let r = args .plan in c .before .before .put-long2 .ensures ∙ ap (λ (k : List ℕ). sets k 125 (littleEndian 4 (r .threshold))) (put-byte3 .ensures ∙ ap (λ (k : List ℕ). set k 124 (r .sign)) (put-byte2 .ensures ∙ ap (λ (k : List ℕ). set k 123 (r .size)) (put-long .ensures ∙ ap (λ (k : List ℕ). sets k 119 (littleEndian 4 (r .address))) (put-word3 .ensures ∙ ap (λ (k : List ℕ). sets k 117 (littleEndian 2 (r .divider))) (put-word2 .ensures ∙ ap (λ (k : List ℕ). sets k 115 (littleEndian 2 (r .«post_trigger»))) (put-word .ensures ∙ ap (λ (k : List ℕ). sets k 113 (littleEndian 2 (r .samples))) (put-byte .ensures)))))))
+    let two = c .before .before in
+    let one = two .before .before .before .before in
+    rw (two .put-trigger .ensures, one .put-ring .ensures) refl
 
 pub put-numbers-spec : {M : Type 1} → statement M
-put-numbers-spec =
-    tie.close
-    (tie.spec
-    put-byte-requires
-    put-word-requires
-    put-word-requires-2
-    put-word-requires-3
-    put-long-requires
-    put-byte-requires-2
-    put-byte-requires-3
-    put-long-requires-2
-    same-length
-    returns)
+put-numbers-spec = tie.close (tie.spec put-ring-requires put-trigger-requires same-length returns)

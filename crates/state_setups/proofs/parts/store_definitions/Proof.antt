@@ -1,16 +1,17 @@
 -- What is left to store gives the whole, and what is left to read is as it was.
 use mathlib.Core.Path.{_≡_, refl, ap, _∙_}
-use mathlib.Core.List.{List}
+use mathlib.Core.List.{List, _∷_}
 use Prim.Native.Nat.{ℕ, _+_, _-_, _*_, _≤_}
 use native.Mathlib.Nat.{sub-zero}
 use native.Mathlib.Omega.{arith}
-use lib.ListN.{length, getD, take, drop, length-set}
+use lib.ListN.{length, getD, take, drop}
 use lib.Seq.{sets}
 use borrow.Author.Needs.{needs}
 use Rattle.document.specs.Values.{littleEndian}
 use Rattle.document.specs.Variables.{definitionWidth, definitionsIn}
 use Rattle.state_block.specs.Layout.{encodedDefinitions}
-use Rattle.state_setups.proofs.Fronts.{byte-same, number-same}
+use Rattle.memory_ranges.proofs.Stored.{byte-agree}
+use Rattle.state_setups.proofs.Fronts.{number-same}
 use Rattle.state_setups.proofs.Turns.{left-one, front-same, definition-stored}
 use Rattle.state_setups.proofs.parts.store_definitions.Statement.{statement}
 use Rattle.state_setups.proofs.parts.store_definitions.Tie as tie
@@ -29,27 +30,17 @@ loop-holds c =
     let p = c .before .before .pre in
     (omega arith, refl, rw sub-zero (p .0), omega arith, rw sub-zero (p .1), refl, rw sub-zero)
 
+slice-read-size : tie.Need-slice-read-size Inv-loop μ-loop
+slice-read-size c = search needs
+
 add-number-at : tie.Need-add-number-at Inv-loop μ-loop
 add-number-at c = search needs
 
 number-at-requires : tie.Need-number-at-requires Inv-loop μ-loop
 number-at-requires c κs = search needs
 
-slice-read-block : tie.Need-slice-read-block Inv-loop μ-loop
-slice-read-block c = search needs
-
-slice-write-block : tie.Need-slice-write-block Inv-loop μ-loop
-slice-write-block c = search needs
-
-add-put-long : tie.Need-add-put-long Inv-loop μ-loop
-add-put-long c = search needs
-
-put-long-requires : tie.Need-put-long-requires Inv-loop μ-loop
-put-long-requires c κs =
-    let turn = c .before .before .before .before in
-    let s = turn .before .before .before .before in
-    let l = turn .before .loop in
-    simp length-set (omega (arith, left-one (s .args .n) (l .k) 5 (turn .loop-test .taken)))
+put-definition-requires : tie.Need-put-definition-requires Inv-loop μ-loop
+put-definition-requires c κs = search needs
 
 add-read : tie.Need-add-read Inv-loop μ-loop
 add-read c = search needs
@@ -68,9 +59,9 @@ loop-less c = search needs
 
 loop-again : tie.Need-loop-again Inv-loop μ-loop
 loop-again c =
-    let put-long = c .before .before .put-long in
-    let number-at = c .before .before .before .before .before .number-at in
-    let turn = c .before .before .before .before .before .before .before in
+    let put = c .before .before in
+    let read = put .before .before in
+    let turn = read .before .before .before in
     let l = turn .before .loop in
     let width = turn .before .before .address-width in
     let a = turn .before .before .before .before .args in
@@ -80,16 +71,16 @@ loop-again c =
     let five = left-one (a .n) (l .k) 5 left in
     let wide = width .ensures .0 in
     let same = l .inv .5 in
-    let sized = byte-same (l .block) source (a .at) same (l .read) (omega (arith, one, l .inv .2)) in
+    let sized = byte-agree (l .block) source (a .at) (l .read) same (omega (arith, one, l .inv .2)) in
     let addressed = number-same (l .block) source (a .at) same (l .read + 1) (width .result) (omega (arith, one, wide, l .inv .2)) in (
       omega arith,
-      put-long .kept .0 ∙ simp length-set (l .inv .1),
+      put .put-definition .kept .0 ∙ l .inv .1,
       omega (arith, one, wide, l .inv .2),
       omega (arith, l .inv .3),
       omega (arith, five, l .inv .4),
-      ap (take (a .at)) (put-long .ensures) ∙ front-same source (l .block) (a .at) (l .write) (getD (l .block) (l .read) 0) (littleEndian 4 (number-at .result)) same (l .inv .3),
-      ap (λ (b : List ℕ). sets b (l .write + 5) (encodedDefinitions (definitionsIn (a .ex) (a .n - (l .k + 1)) (drop (l .read + (1 + width .result)) source)))) (put-long .ensures)
-          ∙ definition-stored (a .ex) source (l .block) (l .read) (l .write) (a .n) (l .k) (width .result) _ _ left wide sized (number-at .ensures .value ∙ addressed)
+      ap (take (a .at)) (put .put-definition .ensures) ∙ front-same source (l .block) (a .at) (l .write) (getD (l .block) (l .read) 0 ∷ littleEndian 4 (read .number-at .result)) same (l .inv .3),
+      ap (λ (b : List ℕ). sets b (l .write + 5) (encodedDefinitions (definitionsIn (a .ex) (a .n - (l .k + 1)) (drop (l .read + (1 + width .result)) source)))) (put .put-definition .ensures)
+          ∙ definition-stored (a .ex) source (l .block) (l .read) (l .write) (a .n) (l .k) (width .result) _ _ left wide sized (read .number-at .ensures .value ∙ addressed)
           ∙ l .inv .6,
     )
 
@@ -110,12 +101,10 @@ store-definitions-spec =
     μ-loop
     address-width-requires
     loop-holds
+    slice-read-size
     add-number-at
     number-at-requires
-    slice-read-block
-    slice-write-block
-    add-put-long
-    put-long-requires
+    put-definition-requires
     add-read
     add-read-2
     add-write

@@ -51,8 +51,8 @@ store-definitions-requires c κs =
     let n = u .usize-of-u8 .ensures .0 in
     (omega (arith, ap (λ (k : ℕ). k * definitionWidth (begun u .args .ex)) n, fits u), omega (arith, n, few u, begun u .pre .2))
 
-enclose-requires : tie.Need-enclose-requires
-enclose-requires c κs =
+complete-definitions-requires : tie.Need-complete-definitions-requires
+complete-definitions-requires c κs =
     let stored = c .before .before .before in
     let u = stored .before .before in
     (few u, omega (arith, stored .store-definitions .kept .0, begun u .pre .2))
@@ -68,7 +68,7 @@ returns c =
     let a = begun u .args in
     let source = block u in
     let n : ℕ = count u in
-    enclosed .enclose .ensures
+    enclosed .complete-definitions .ensures
     ∙ (λ i. sets (set (stored .store-definitions .ensures i) (a .at) n) (a .at + 1 + n * 5) (replicate ((8 - n) * 5) 0))
     ∙ (λ i. sets (set (sets source (a .at + 1) (encodedDefinitions (definitionsIn (a .ex) (u .usize-of-u8 .ensures .0 i) (sym (drop-drop 1 (a .from) source) i)))) (a .at) n) (a .at + 1 + n * 5) (replicate ((8 - n) * 5) 0))
     ∙ part-stored (a .ex) source (drop (a .from) source) (a .at) n (counted u) (few u)
@@ -82,6 +82,6 @@ store-variables-spec =
     add-store-definitions
     add-store-definitions-2
     store-definitions-requires
-    enclose-requires
+    complete-definitions-requires
     same-length
     returns)

@@ -15,7 +15,7 @@ use Rattle.variables_list.proofs.Wrong.{count-right}
 use Rattle.recorder_plans.specs.declared.plan.Plan.{Plan}
 use Rattle.recorder_setups.proofs.SetUps.{Accepted, accepted}
 use Rattle.recorder_state.specs.Preparing.{preparedState}
-use Rattle.recorder_history.proofs.Bytes.{take-sets}
+use Rattle.memory_ranges.proofs.Stored.{take-sets}
 use Rattle.state_block.specs.Layout.{dataTo, encodedNumbers, encodedVariables, encodedRun}
 use Rattle.state_block.specs.Places.{bodyPlace, scopePlace, recorderPlace, planPlace, recordedPlace, runPlace}
 use Rattle.state_setups.proofs.Fronts.{count-same, length-same, variables-same}
@@ -53,37 +53,34 @@ part-read-plan-end c = search needs
 read-plan-requires : tie.Need-read-plan-requires
 read-plan-requires c κs = omega (arith, facts (c .before .before .before) .right)
 
+head-width-requires : tie.Need-head-width-requires
+head-width-requires c κs = search needs
+
 add-from : tie.Need-add-from
 add-from c = search needs
-
-address-width-requires : tie.Need-address-width-requires
-address-width-requires c κs = search needs
-
-add-from-2 : tie.Need-add-from-2
-add-from-2 c = search needs
 
 store-numbers-requires : tie.Need-store-numbers-requires
 store-numbers-requires c κs = search needs
 
 -- what is stored in front of the variables leaves the data as they were
 module _ (n : tie.After-store-numbers) where
-  abbrev width : tie.After-address-width
-  width = n .before .before
+  abbrev head : tie.After-head-width
+  head = n .before .before
 
   abbrev read : tie.After-read-plan
-  read = width .before
+  read = head .before
 
   abbrev begun : tie.Start
   begun = read .before .before .before .before
 
   abbrev from : ℕ
-  from = 19 + width .address-width .result
+  from = bodyPlace + head .head-width .result
 
   abbrev ex : Bool
   ex = begun .args .ex
 
   place : from ≡ bodyPlace + headWidth ex
-  place = omega (arith, width .address-width .ensures .0)
+  place = omega (arith, head .head-width .ensures .0)
 
   numbered : n .store-numbers .last .0 ≡ sets (set (block begun) recorderPlace 1) planPlace (encodedNumbers (read .read-plan .result))
   numbered = n .store-numbers .ensures
@@ -144,9 +141,8 @@ store-prepared-spec =
     part-read-plan-start
     part-read-plan-end
     read-plan-requires
+    head-width-requires
     add-from
-    address-width-requires
-    add-from-2
     store-numbers-requires
     store-variables-requires
     prepare-run-requires

@@ -9,7 +9,7 @@ use borrow.Author.Needs.{needs}
 use Rattle.document.specs.declared.Variable.{Variable}
 use Rattle.document.specs.Variables.{variablesIn, lengthGiven}
 use Rattle.variables_list.specs.State.{noVariables, kept}
-use Rattle.scope_state.proofs.Accepted.{Taken, taken-facts}
+use Rattle.scope_state.proofs.Accepted.{SetupTaken, taken-facts}
 use Rattle.state_block.specs.Layout.{dataTo, encodedVariables, encodedScope}
 use Rattle.state_block.specs.Places.{bodyPlace, scopePlace}
 use Rattle.state_block.proofs.Parts.{scope-length}
@@ -27,7 +27,7 @@ module _ (s : tie.Start) where
   abbrev told : List ℕ
   told = dataTo block (s .args .to)
 
-  facts : Taken (s .args .ex) told
+  facts : SetupTaken (s .args .ex) told
   facts = taken-facts (s .args .ex) told (s .pre .3)
 
   whole : lengthGiven (s .args .ex) told ≤ s .args .to - bodyPlace

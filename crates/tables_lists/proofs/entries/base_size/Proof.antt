@@ -29,8 +29,8 @@ shared-slice-read-size-of c = search needs
 size-of-requires : tie.Need-size-of-requires
 size-of-requires c κs = search needs
 
-usize-of-u8-requires : tie.Need-usize-of-u8-requires
-usize-of-u8-requires c κs = search needs
+u16-of-u8-requires : tie.Need-u16-of-u8-requires
+u16-of-u8-requires c κs = search needs
 
 returns-3 : tie.Need-returns-3
 returns-3 c =
@@ -38,7 +38,7 @@ returns-3 c =
     let o = e .before .before in
     let s = o .before .before in
     rw (code-and-next (s .args .memory .now) (s .args .address) (s .pre) (o .if1 .left), eq-eqb _ 0 (e .if2 .left))
-    (c .usize-of-u8 .ensures .0 ∙ c .before .size-of .ensures)
+    (c .u16-of-u8 .ensures .0 ∙ c .before .size-of .ensures)
 
 pub base-size-spec : {M : Type 1} → statement M
 base-size-spec =
@@ -50,5 +50,5 @@ base-size-spec =
     returns-2
     shared-slice-read-size-of
     size-of-requires
-    usize-of-u8-requires
+    u16-of-u8-requires
     returns-3)

@@ -13,12 +13,15 @@ add-word-at c = search needs
 word-at-requires : tie.Need-word-at-requires
 word-at-requires c κs = search needs
 
+usize-of-u16-requires : tie.Need-usize-of-u16-requires
+usize-of-u16-requires c κs = search needs
+
 returns : tie.Need-returns
 returns c =
     let w = c .before in
-    let s = w .before .before in
-    sym (rw (le-ltb (w .word-at .result) 16384 (omega arith)))
-    ∙ as-read (s .args .memory .now) (s .args .at) _ _ _ (w .word-at .ensures) refl refl
+    let s = w .before .before .before in
+    sym (rw (le-ltb (w .usize-of-u16 .result) 16384 (omega arith)))
+    ∙ as-read (s .args .memory .now) (s .args .at) _ _ _ (w .usize-of-u16 .ensures .0 ∙ w .before .word-at .ensures) refl refl
 
 base-size-requires : tie.Need-base-size-requires
 base-size-requires c κs = search needs
@@ -27,9 +30,9 @@ returns-2 : tie.Need-returns-2
 returns-2 c =
     let b = c .before in
     let w = b .before .before in
-    let s = w .before .before in
-    sym (rw (lt-ltb (w .word-at .result) 16384 (omega arith), eq-eqb _ 0 (c .if2 .taken)))
-    ∙ as-read (s .args .memory .now) (s .args .at) _ _ _ (w .word-at .ensures) (b .base-size .ensures) refl
+    let s = w .before .before .before in
+    sym (rw (lt-ltb (w .usize-of-u16 .result) 16384 (omega arith), eq-eqb _ 0 (c .if2 .taken)))
+    ∙ as-read (s .args .memory .now) (s .args .at) _ _ _ (w .usize-of-u16 .ensures .0 ∙ w .before .word-at .ensures) (b .base-size .ensures) refl
 
 add-word-at-2 : tie.Need-add-word-at-2
 add-word-at-2 c = search needs
@@ -41,9 +44,9 @@ returns-3 : tie.Need-returns-3
 returns-3 c =
     let b = c .before .before in
     let w = b .before .before in
-    let s = w .before .before in
-    sym (rw (lt-ltb (w .word-at .result) 16384 (omega arith), ne-eqb _ 0 (c .before .if2 .left)))
-    ∙ as-read (s .args .memory .now) (s .args .at) _ _ _ (w .word-at .ensures) (b .base-size .ensures) (c .word-at2 .ensures)
+    let s = w .before .before .before in
+    sym (rw (lt-ltb (w .usize-of-u16 .result) 16384 (omega arith), ne-eqb _ 0 (c .before .if2 .left)))
+    ∙ as-read (s .args .memory .now) (s .args .at) _ _ _ (w .usize-of-u16 .ensures .0 ∙ w .before .word-at .ensures) (b .base-size .ensures) (c .word-at2 .ensures)
 
 pub is-entry-good-spec : {M : Type 1} → statement M
 is-entry-good-spec =
@@ -51,6 +54,7 @@ is-entry-good-spec =
     (tie.spec
     add-word-at
     word-at-requires
+    usize-of-u16-requires
     returns
     base-size-requires
     returns-2

@@ -20,14 +20,20 @@ loop-holds c = (search needs, refl)
 sub-loop : tie.Need-sub-loop Inv-loop μ-loop
 sub-loop c = search needs
 
-number-at-requires : tie.Need-number-at-requires Inv-loop μ-loop
-number-at-requires c κs = search needs
+word-at-requires : tie.Need-word-at-requires Inv-loop μ-loop
+word-at-requires c κs = search needs
+
+u32-of-u16-requires : tie.Need-u32-of-u16-requires Inv-loop μ-loop
+u32-of-u16-requires c κs = search needs
 
 add-word-at : tie.Need-add-word-at Inv-loop μ-loop
 add-word-at c = search needs
 
-word-at-requires : tie.Need-word-at-requires Inv-loop μ-loop
-word-at-requires c κs = search needs
+word-at-requires-2 : tie.Need-word-at-requires-2 Inv-loop μ-loop
+word-at-requires-2 c κs = search needs
+
+usize-of-u16-requires : tie.Need-usize-of-u16-requires Inv-loop μ-loop
+usize-of-u16-requires c κs = search needs
 
 is-table-good-requires : tie.Need-is-table-good-requires Inv-loop μ-loop
 is-table-good-requires c κs = search needs
@@ -35,11 +41,13 @@ is-table-good-requires c κs = search needs
 returns : tie.Need-returns Inv-loop μ-loop
 returns c =
     let g = c .before in
-    let n = g .before .before in
+    let size = g .before in
+    let address = size .before .before in
+    let n = address .before in
     let l = n .before .before in
     let a = l .before .before .before .args in
     sym (hit (a .memory .now) (a .list .now) (l .loop .at) (n .before .loop-test .taken) _ _ _
-    (n .number-at .ensures .value) (g .before .word-at .ensures) (g .is-table-good .ensures) (not-true _ (c .if1 .taken)))
+    (address .u32-of-u16 .ensures .0 ∙ n .word-at .ensures) (size .usize-of-u16 .ensures .0 ∙ size .before .word-at2 .ensures) (g .is-table-good .ensures) (not-true _ (c .if1 .taken)))
     ∙ l .loop .inv .1
 
 add-at : tie.Need-add-at Inv-loop μ-loop
@@ -51,12 +59,14 @@ loop-less c = search needs
 loop-again : tie.Need-loop-again Inv-loop μ-loop
 loop-again c =
     let g = c .before in
-    let n = g .before .before in
+    let size = g .before in
+    let address = size .before .before in
+    let n = address .before in
     let l = n .before .before in
     let a = l .before .before .before .args in (
       search needs,
       sym (miss (a .memory .now) (a .list .now) (l .loop .at) (n .before .loop-test .taken) _ _ _
-          (n .number-at .ensures .value) (g .before .word-at .ensures) (g .is-table-good .ensures) (not-false _ (c .if1 .left)))
+          (address .u32-of-u16 .ensures .0 ∙ n .word-at .ensures) (size .usize-of-u16 .ensures .0 ∙ size .before .word-at2 .ensures) (g .is-table-good .ensures) (not-false _ (c .if1 .left)))
           ∙ l .loop .inv .1,
     )
 
@@ -74,9 +84,11 @@ are-tables-good-spec =
     μ-loop
     loop-holds
     sub-loop
-    number-at-requires
-    add-word-at
     word-at-requires
+    u32-of-u16-requires
+    add-word-at
+    word-at-requires-2
+    usize-of-u16-requires
     is-table-good-requires
     returns
     add-at

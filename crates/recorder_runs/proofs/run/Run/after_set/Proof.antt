@@ -17,10 +17,12 @@ watch-on-requires c κs =
     let s = c .before in
     let b = run-bounds (s .args .plan) (s .args .self) (s .pre .1) in
     let e = c .next-place .ensures in (
-      s .pre .0,
-      ap (λ (r : Run). watchSound (s .args .plan .size) (s .args .plan .«post_trigger») (r .running) (r .watch) (r .value)) e ∙ b .watch,
+      record {
+        plan = s .pre .0;
+        watch = ap (λ (r : Run). watchSound (s .args .plan .size) (s .args .plan .«post_trigger») (r .running) (r .watch) (r .value)) e ∙ b .watch;
+        fits = s .pre .3;
+      },
       ap (λ (r : Run). r .running) e ∙ s .pre .2,
-      s .pre .3,
     )
 
 returns : tie.Need-returns

@@ -25,8 +25,8 @@ is-beyond-requires : tie.Need-is-beyond-requires
 is-beyond-requires c κs =
     let u = c .before .before in
     let s = u .before in
-    let t = plan-bounds (s .args .plan) (s .pre .0) .trigger in
-    rw (u .usize-of-u8 .ensures .0) (t .sized, t .small, t .fitting, s .pre .3)
+    let t = plan-bounds (s .args .plan) (s .pre .0 .plan) .trigger in
+    rw (u .usize-of-u8 .ensures .0) (t .sized, t .small, t .fitting, s .pre .0 .fits)
 
 returns : tie.Need-returns
 returns c =
@@ -40,7 +40,7 @@ watch-one : (s : tie.Start) → (s .args .self .watch ≡ 0 → ⊥) → s .args
 watch-one s n =
     let p = s .args .plan in
     let r = s .args .self in
-    omega (arith, awaits (p .size) (p .«post_trigger») (r .running) (r .watch) (r .value) (s .pre .1) (s .pre .2), n)
+    omega (arith, awaits (p .size) (p .«post_trigger») (r .running) (r .watch) (r .value) (s .pre .0 .watch) (s .pre .1), n)
 
 comes-requires : tie.Need-comes-requires
 comes-requires c κs =
@@ -48,13 +48,13 @@ comes-requires c κs =
     let s = u .before in
     let p = s .args .plan in
     let r = s .args .self in
-    let t = plan-bounds p (s .pre .0) .trigger in
+    let t = plan-bounds p (s .pre .0 .plan) .trigger in
     rw (u .usize-of-u8 .ensures .0) (
       t .sized,
       t .small,
       t .fitting,
-      previous-fits (p .size) (p .«post_trigger») (r .running) (r .watch) (r .value) (s .pre .1) (watch-one s (c .if1 .left)),
-      s .pre .3,
+      previous-fits (p .size) (p .«post_trigger») (r .running) (r .watch) (r .value) (s .pre .0 .watch) (watch-one s (c .if1 .left)),
+      s .pre .0 .fits,
     )
 
 returns-2 : tie.Need-returns-2

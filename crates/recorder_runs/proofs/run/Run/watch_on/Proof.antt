@@ -18,8 +18,8 @@ sub-counting c =
     let s = t .before .before in
     let p = s .args .plan in
     let r = s .args .self in
-    left-some (p .size) (p .«post_trigger») (r .running) (r .watch) (r .value) (s .pre .1)
-    (λ e. omega (arith, t .if1 .taken)) (λ e. omega (arith, t .if1 .taken)) (s .pre .2)
+    left-some (p .size) (p .«post_trigger») (r .running) (r .watch) (r .value) (s .pre .0 .watch)
+    (λ e. omega (arith, t .if1 .taken)) (λ e. omega (arith, t .if1 .taken)) (s .pre .1)
 
 counting-requires : tie.Need-counting-requires
 counting-requires c κs = search needs
@@ -30,17 +30,17 @@ returns c =
     let s = t .before .before in
     let r = s .args .self in
     c .counting .ensures
-    ∙ counted-set (planOf (s .args .plan)) (r .full) (r .wait) (r .place) (r .watch) (r .value) (s .args .value) (t .if1 .taken)
+    ∙ counted-set (planOf (s .args .plan)) r (s .args .value) (t .if1 .taken)
 
 does-come-requires : tie.Need-does-come-requires
-does-come-requires c κs = let s = c .before .before in (s .pre .0, s .pre .1, c .if1 .left, s .pre .3)
+does-come-requires c κs = (c .before .before .pre .0, c .if1 .left)
 
 -- the trigger is awaited
 awaited : (s : tie.Start) → (s .args .self .watch ≡ 2 → ⊥) → s .args .self .watch ≤ 1
 awaited s n =
     let p = s .args .plan in
     let r = s .args .self in
-    awaits (p .size) (p .«post_trigger») (r .running) (r .watch) (r .value) (s .pre .1) n
+    awaits (p .size) (p .«post_trigger») (r .running) (r .watch) (r .value) (s .pre .0 .watch) n
 
 u32-of-u16-requires : tie.Need-u32-of-u16-requires
 u32-of-u16-requires c κs = search needs
@@ -56,8 +56,8 @@ returns-2 c =
     let s = n .before .before in
     let r = s .args .self in
     c .counting2 .ensures
-    ∙ ap (λ (k : ℕ). watching (r .full) (r .wait) (r .place) (triggered k)) (c .before .u32-of-u16 .ensures .0)
-    ∙ looked-set (planOf (s .args .plan)) (r .full) (r .wait) (r .place) (r .watch) (r .value) (s .args .value) true
+    ∙ ap (λ (k : ℕ). watching r (triggered k)) (c .before .u32-of-u16 .ensures .0)
+    ∙ looked-set (planOf (s .args .plan)) r (s .args .value) true
     (awaited s (n .if1 .left))
     (sym (y .if2 .taken) ∙ d .does-come .ensures)
 
@@ -72,8 +72,8 @@ returns-3 c =
     let s = n .before .before in
     let r = s .args .self in
     c .primed .ensures
-    ∙ still-running (r .running) (r .full) 1 (r .wait) (r .place) (s .args .value) (s .pre .2)
-    ∙ looked-set (planOf (s .args .plan)) (r .full) (r .wait) (r .place) (r .watch) (r .value) (s .args .value) false
+    ∙ still-running r 1 (s .args .value) (s .pre .1)
+    ∙ looked-set (planOf (s .args .plan)) r (s .args .value) false
     (awaited s (n .if1 .left))
     (sym (y .if2 .left) ∙ d .does-come .ensures)
 

@@ -1,0 +1,2 @@
+-- What the arms of a match know.
+pub mod Matches

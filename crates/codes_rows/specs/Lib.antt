@@ -1,0 +1,4 @@
+-- What the rows hold.
+pub mod Numbering
+pub mod Rule
+pub mod Rows

@@ -1,0 +1,5 @@
+pub mod Rows
+pub mod Calls
+pub mod Modbus
+pub mod Staples
+pub mod Table

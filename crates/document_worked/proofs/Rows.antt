@@ -1,0 +1,44 @@
+-- Every row that goes step by step holds of the definitions over the whole memory, by one computation.
+use mathlib.Core.Path.{_≡_, refl}
+use mathlib.Core.List.{List, _++_, map}
+use Prim.Native.Nat.{ℕ}
+use Rattle.document.specs.Services.{serviceOf}
+use Rattle.document.specs.Message.{heard, finishedBy}
+use Rattle.document.specs.Answer.{answerOnWire}
+use Rattle.document.specs.Plan.{planIn}
+use Rattle.document.specs.Trigger.{fires, isBeyond}
+use Rattle.document.specs.Run.{ranTick, memoryAfterTick}
+use Rattle.document.specs.Permission.{mayBeWritten}
+use Rattle.document.specs.Refusals.{refusal}
+use Rattle.document.specs.Commands.{answered}
+use Rattle.document.specs.Panel.{panelPrepares, panelStarts}
+use Rattle.document.specs.Asides.{beside}
+use Rattle.document.specs.Strings.{beforeZero, hasZero}
+use Rattle.document.specs.Rows.{Row, saidBy, byteByByte, stepByStep}
+use Rattle.document.specs.LineRows.{lineRows, longLineRows}
+use Rattle.document.specs.ReadRows.{readRows}
+use Rattle.document.specs.WriteRows.{writeRows}
+use Rattle.document.specs.ScopeRows.{scopeRows}
+use Rattle.document.specs.SetupRows.{setupRows}
+use Rattle.document.specs.RecorderRows.{recorderRows}
+use Rattle.document.specs.TriggerRows.{triggerRows}
+use Rattle.document.specs.ApplicationRows.{applicationRows}
+use Rattle.document.specs.PanelRows.{panelRows, midstRows}
+use Rattle.document.specs.TableRows.{tableRows, tablesByStep}
+use Rattle.document.proofs.Rows.{holds-eq, rows}
+use Rattle.document_worked.specs.WholeRows as whole
+use Rattle.document_worked.specs.TableRows.{named, nameRows}
+
+abbrev pub given : List (List (List ℕ))
+unfolding lineRows longLineRows midstRows whole.scopeRows tableRows nameRows
+given =
+    map byteByByte (lineRows ++ longLineRows ++ midstRows) ++ map stepByStep (rows ++ whole.scopeRows)
+    ++ map (tablesByStep named) (tableRows ++ nameRows)
+
+abbrev pub said : List (List (List ℕ))
+unfolding lineRows longLineRows midstRows whole.scopeRows tableRows nameRows
+said = map saidBy (lineRows ++ longLineRows ++ midstRows) ++ map saidBy (rows ++ whole.scopeRows) ++ map saidBy (tableRows ++ nameRows)
+
+pub rows-hold : given ≡ said
+unfolding lineRows longLineRows readRows writeRows scopeRows setupRows recorderRows triggerRows applicationRows panelRows midstRows tableRows nameRows whole.scopeRows panelPrepares panelStarts answerOnWire heard finishedBy serviceOf mayBeWritten refusal answered planIn fires isBeyond ranTick memoryAfterTick beside beforeZero hasZero
+rows-hold = holds-eq given said refl

@@ -1,0 +1,4 @@
+pub mod Settled
+pub mod Known
+pub mod Sends
+pub mod Allowed

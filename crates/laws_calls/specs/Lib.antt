@@ -1,0 +1,3 @@
+-- The calls that a gate makes.
+pub mod Calls
+pub mod Promised

@@ -1,0 +1,4 @@
+pub mod ByNumber
+pub mod Refused
+pub mod Outcomes
+pub mod Readings

@@ -1,0 +1,3 @@
+-- The words of both ends of the line.
+pub mod Refused
+pub mod Readings

@@ -1,0 +1,2 @@
+-- What a command message takes.
+pub mod Parts

@@ -1,0 +1,2 @@
+-- What the two commands say and leave.
+pub mod Sending

@@ -1,0 +1,2 @@
+-- What a service finds, and what it leaves.
+pub mod Serves

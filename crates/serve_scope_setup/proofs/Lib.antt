@@ -1,0 +1,2 @@
+-- What the setup says.
+pub mod Statuses

@@ -1,0 +1,2 @@
+-- A survey goes on where the one before it ended.
+pub mod Joined

@@ -1,0 +1,2 @@
+-- What the definitions of a part come to.
+pub mod Survey
