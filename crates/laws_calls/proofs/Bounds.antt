@@ -1,0 +1,179 @@
+-- What a taken call makes of a state and a memory within their bounds is within them again: the one place where calls are told apart
+-- for it. So no call hands out a state that is refused.
+use mathlib.Core.Path.{_≡_, refl, sym, ap, subst, _∙_}
+use mathlib.Core.Bool.{Bool, true, false, cond}
+use mathlib.Core.List.{List, []}
+use Prim.Native.Nat.{ℕ, _≤_}
+use native.Mathlib.Omega.{arith}
+use borrow.Author.Tests.{eqb-true, eqb-false, leb-true}
+use lib.Dec.{eqb, leb}
+use lib.ListN.{length, replicate, length-replicate}
+use lib.Seq.{sets, length-sets}
+use Rattle.document.specs.Areas.{memoryEnd}
+use Rattle.document.specs.Bytes.{AllBytes}
+use Rattle.document.specs.Numbers.{taken, stateRefused}
+use Rattle.document.proofs.Bytes.{each-a-byte}
+use Rattle.document.proofs.Cases.{split, neither}
+use Rattle.recorder_state.specs.declared.state.Recorder.{Recorder}
+use Rattle.recorder_state.specs.State.{recorderOf}
+use Rattle.application_state.specs.State.{Command, applicationOf}
+use Rattle.tables_state.specs.State.{registeredList}
+use Rattle.state_parts.specs.State.{Target, withRecorder, withApplication, withInstruments}
+use Rattle.state_parts.specs.Bounds.{sound}
+use Rattle.state_parts.specs.Within.{RecorderWithin, CommandWithin, MemoryWithin, Within}
+use Rattle.state_parts.proofs.ByteLaws.{all-zeros}
+use Rattle.state_parts.proofs.Keeps.{recorder-started, recorder-ticked, memory-ticked, command-collected, command-ended, within-sound, within-fits, within-registered, no-tables}
+use Rattle.state_block.specs.Places.{stateLength}
+use Rattle.state_block.specs.Layout.{decoded, encoded}
+use Rattle.state_block.proofs.Back.{stored-decoded}
+use Rattle.state_block.proofs.Lent.{lent-within}
+use Rattle.state_byte.proofs.Keeps.{byte-keeps}
+use Rattle.state_byte.proofs.Walks.{walked-keeps}
+use Rattle.state_byte.specs.Walk.{begun}
+use Rattle.call_checks.specs.Promises.{blockSound}
+use Rattle.call_checks.proofs.Numbers.{tick-known, byte-known}
+use Rattle.call_checks.proofs.ApplicationNumbers.{collect-known, report-known}
+use Rattle.call_checks.proofs.Settled.{block-known, long-decides}
+use Rattle.call_register.proofs.Registered.{taken-good, registered-within}
+use Rattle.call_panel.proofs.Kept.{given-within}
+use Rattle.call_modbus.proofs.Answers.{lent-right}
+use Rattle.laws_calls.specs.Calls.{Call, Lent, Left, Outcome, row, numberOf, commandIn, doneBy}
+use Rattle.laws_calls.specs.Calls.Call.{byte, receive, tick, collect, report, prepare, start, frame, register, reset}
+use Rattle.laws_calls.specs.Promised.{Promised}
+use Rattle.laws_calls.specs.Bounds.{BytesLent, HandedOut}
+use Rattle.laws_calls.proofs.Settled.{taken-leaves, call-refused}
+
+-- ---- a state with another recorder and another application command
+
+abbrev pub changed : Target → Recorder → Command → Target
+changed t recorder command = withInstruments t (withApplication (withRecorder (t .instruments) recorder) command)
+
+pub changed-within : (t : Target) (m n : List ℕ) (r : Recorder) (c : Command) → Within t m → RecorderWithin r → CommandWithin c → MemoryWithin n → Within (changed t r c) n
+changed-within t m n r c w recorder command memory =
+    record {
+      link-part = record { receiver = w .link-part .receiver; command = w .link-part .command; size = w .link-part .size; body = w .link-part .body };
+      scope-part = w .scope-part;
+      recorder-part = recorder;
+      application-part = command;
+      tables-part = w .tables-part;
+      memory-part = memory;
+    }
+
+-- ---- when a call is taken
+
+-- a test that refuses is passed
+passed : (t : Bool) → cond t taken stateRefused ≡ taken → t ≡ true
+passed true e = refl
+passed false e = let z : ⊥ = omega (arith, e) in absurd z
+
+-- the memory of a taken call that is lent it is whole
+pub memory-whole : (c : Call) (l : Lent) → row c .on-memory ≡ true → numberOf c l ≡ taken → length (l .memory) ≡ memoryEnd
+memory-whole (byte b) l on fine = byte-known (blockSound (l .block)) (l .memory) (l .buffer) fine .1
+memory-whole (receive bytes) l on fine = byte-known (blockSound (l .block)) (l .memory) (l .buffer) fine .1
+memory-whole tick l on fine = tick-known (blockSound (l .block)) (l .memory) fine .1
+memory-whole collect l on fine = neither on
+memory-whole (report result) l on fine = neither on
+memory-whole (prepare setup) l on fine = neither on
+memory-whole start l on fine = neither on
+memory-whole (frame station bytes) l on fine = lent-right station (l .memory) (l .buffer) fine .memory-length
+memory-whole (register list) l on fine = taken-good (l .block) (l .memory) list fine .whole
+memory-whole reset l on fine = neither on
+
+-- and its block is long enough
+pub block-long : (c : Call) (l : Lent) → row c .on-block ≡ true → numberOf c l ≡ taken → stateLength ≤ length (l .block)
+block-long (byte b) l on fine = block-known (l .block) (byte-known (blockSound (l .block)) (l .memory) (l .buffer) fine .0) .0
+block-long (receive bytes) l on fine = block-known (l .block) (byte-known (blockSound (l .block)) (l .memory) (l .buffer) fine .0) .0
+block-long tick l on fine = block-known (l .block) (tick-known (blockSound (l .block)) (l .memory) fine .0) .0
+block-long collect l on fine = block-known (l .block) (collect-known (blockSound (l .block)) (l .buffer) fine .0) .0
+block-long (report result) l on fine =
+    block-known (l .block) (report-known (blockSound (l .block)) (commandIn (decoded (l .block))) result fine .0) .0
+block-long (prepare setup) l on fine = block-known (l .block) (passed (blockSound (l .block)) fine) .0
+block-long start l on fine = block-known (l .block) (passed (blockSound (l .block)) fine) .0
+block-long (frame station bytes) l on fine = neither on
+block-long (register list) l on fine = taken-good (l .block) (l .memory) list fine .long
+block-long reset l on fine = leb-true stateLength (length (l .block)) (passed (leb stateLength (length (l .block))) fine)
+
+-- ---- within their bounds
+
+-- whatever block of bytes is lent, over a memory within its bounds; of a call that is not lent the memory it is any
+module _ (l : Lent) (bytes : AllBytes (l .block)) (m : List ℕ) (good : MemoryWithin m) where
+  abbrev now : Target
+  now = decoded (l .block)
+
+  lent : blockSound (l .block) ≡ true → Within (decoded (l .block)) m
+  lent ok = let known = block-known (l .block) ok in lent-within (l .block) (known .0) (each-a-byte (l .block) bytes) m (known .1) good
+
+  pub does-within : (c : Call) → row c .on-block ≡ true → cond (row c .on-memory) (l .memory) m ≡ m → AllBytes (row c .brings) → numberOf c l ≡ taken
+      → Within (doneBy c l .state) (cond (row c .on-memory) (doneBy c l .memory) m)
+  does-within (byte b) on is all fine =
+      let w = lent (byte-known (blockSound (l .block)) (l .memory) (l .buffer) fine .0) in
+      byte-keeps now (l .memory) (l .buffer) (subst (Within now) (sym is) w) b (all .0)
+  does-within (receive bs) on is all fine =
+      let w = lent (byte-known (blockSound (l .block)) (l .memory) (l .buffer) fine .0) in
+      walked-keeps bs (begun now (l .memory) (l .buffer)) all (subst (Within now) (sym is) w)
+  does-within tick on is all fine =
+      let w = subst (Within now) (sym is) (lent (tick-known (blockSound (l .block)) (l .memory) fine .0)) in
+      changed-within now (l .memory) _ _ _ w (recorder-ticked (now .instruments .recorder) (l .memory) (w .recorder-part) (w .memory-part)) (w .application-part)
+      (memory-ticked (recorderOf (now .instruments .recorder)) (l .memory) (w .memory-part))
+  does-within collect on is all fine =
+      let w = lent (collect-known (blockSound (l .block)) (l .buffer) fine .0) in
+      changed-within now m m _ _ w (w .recorder-part) (command-collected (now .instruments .application) (w .application-part)) good
+  does-within (report result) on is all fine =
+      let known = report-known (blockSound (l .block)) (commandIn now) result fine in
+      let w = lent (known .0) in
+      changed-within now m m _ _ w (w .recorder-part) (command-ended (now .instruments .application) result (w .application-part) (known .1)) good
+  does-within (prepare setup) on is all fine =
+      let w = lent (passed (blockSound (l .block)) fine) in
+      changed-within now m m _ _ w (given-within (now .instruments .recorder) setup all (w .recorder-part)) (w .application-part) good
+  does-within start on is all fine =
+      let w = lent (passed (blockSound (l .block)) fine) in
+      changed-within now m m _ _ w (recorder-started (now .instruments .recorder) (w .recorder-part)) (w .application-part) good
+  does-within (frame station bs) on is all fine = neither on
+  does-within (register list) on is all fine =
+      within-registered (registeredList list) (l .memory) (registered-within (l .memory) list (taken-good (l .block) (l .memory) list fine .good) all)
+      (subst MemoryWithin (sym is) good)
+  does-within reset on is all fine = within-registered _ m no-tables good
+
+-- ---- no state handed out is outside its bounds
+
+-- a memory of zeros, for a call that is lent none
+zeros : MemoryWithin (replicate memoryEnd 0)
+zeros = record { size = length-replicate {A = ℕ} memoryEnd 0; bytes = all-zeros memoryEnd }
+
+module _ (c : Call) (l : Lent) (o : Outcome) (are : BytesLent c l) (p : Promised l c o) where
+  -- over this memory
+  sound-over : (m : List ℕ) → MemoryWithin m → row c .on-block ≡ true → cond (row c .on-memory) (l .memory) m ≡ m → o .number ≡ taken
+      → blockSound (o .left .block) ≡ true
+  sound-over m good on is fine =
+      let number : numberOf c l ≡ taken = sym (call-refused l c o p .number) ∙ fine in
+      let w = does-within l (are .block) m good c on is (are .brought) number in
+      let long = block-long c l on number in
+      let next : Target = doneBy c l .state in
+      let there : decoded (sets (l .block) 0 (encoded next)) ≡ next = stored-decoded (l .block) next long (within-fits next _ w) in
+      ap (λ (x : Left). blockSound (x .block)) (taken-leaves l c o p fine)
+      ∙ ap (λ (t : Bool). blockSound (cond t (sets (l .block) 0 (encoded next)) (l .block))) on
+      ∙ sym (long-decides (sets (l .block) 0 (encoded next)) (omega (arith, long, length-sets (l .block) 0 (encoded next))) true (sym (ap sound there ∙ within-sound next _ w)))
+
+  given : row c .on-block ≡ true → o .number ≡ taken → blockSound (o .left .block) ≡ true
+  given on fine =
+      split (row c .on-memory)
+      (λ lent.
+      let whole = memory-whole c l lent (sym (call-refused l c o p .number) ∙ fine) in
+      sound-over (l .memory) (record { size = whole; bytes = are .memory }) on (rw lent refl) fine)
+      (λ none. sound-over (replicate memoryEnd 0) zeros on (rw none refl) fine)
+
+  pub handed-out-bounded : HandedOut c l o
+  handed-out-bounded =
+      record {
+        sound-stays = λ ok.
+            split (eqb (o .number) taken)
+            (λ t.
+            let fine = eqb-true (o .number) taken t in
+            split (row c .on-block) (λ on. given on fine)
+            (λ off.
+            ap (λ (x : Left). blockSound (x .block)) (taken-leaves l c o p fine)
+            ∙ ap (λ (t : Bool). blockSound (cond t (sets (l .block) 0 (encoded (doneBy c l .state))) (l .block))) off
+            ∙ ok))
+            (λ f. ap (λ (x : Left). blockSound (x .block)) (call-refused l c o p .unchanged (eqb-false (o .number) taken f)) ∙ ok);
+        sound-given = given;
+      }
