@@ -64,6 +64,7 @@ use Rattle.laws_calls.specs.Calls.{Call, Lent, Left, lengthOf, tookOf, wroteOf,
 use Rattle.laws_calls.specs.Promised.{Promised}
 use Rattle.laws_calls.proofs.Settled as settled
 use Rattle.laws_calls.proofs.Settled.{call-refused}
+use Rattle.laws_calls.proofs.Allowed.{prepare-alike, start-alike}
 use Rattle.laws_ends.specs.Refused.{WriteRefused, BeginRefused, ReadRefused}
 use Rattle.laws_ends.specs.Readings.{ByRead, Readings, Reads}
 use Rattle.laws_ends.proofs.Refused as both-ends
@@ -80,11 +81,10 @@ use Rattle.demands.specs.Recorder.{Begun, RunsOn, FiresAtFirst, OnlyItsP
 use Rattle.demands.specs.Applying.{OnlySaid}
 use Rattle.demands.specs.Ports.{OnlyVariables, SinceReset, SameService}
 use Rattle.demands.proofs.Wire as wire
-use Rattle.demands.proofs.Calls.{refused-kept, left-is, ready}
-use Rattle.demands.proofs.Bytes.{turn-means}
-use Rattle.demands.proofs.Reached.{Reached, reached-begun, bytes-on, plan-fits}
+use Rattle.demands.proofs.Calls.{refused-kept, said-is, ready}
+use Rattle.demands.proofs.Reached.{Reached, kept, reached-begun, bytes-on, plan-fits}
 use Rattle.demands.proofs.Besides.{becomes, touches}
-use Rattle.demands.proofs.Runs.{room-lent, reached-step, run-hands, run-answers}
+use Rattle.demands.proofs.Runs.{byte-behind, reached-step, run-hands, run-answers}
 use Rattle.demands.proofs.Blocks as blocks
 use Rattle.demands.proofs.Blocks.{singly, reached-run}
 use Rattle.demands.proofs.Fresh.{answered-fresh, by-half}
@@ -163,12 +163,8 @@ module _ (block memory : List ℕ) (tables : List Table) (after : List ℕ) (lon
 
   -- "Bytes of it behind the answer keep their values; without an answer, all do.": of the buffer that this call was lent
   pub demand-1-behind : (b : ℕ) (next : Board) (call : Takes (Call.byte b) h next)
-      → BehindKept answerRoom (call .buffer) (lengthOf (call .outcome .left)) (call .outcome .left .buffer)
-  demand-1-behind b next call =
-      let room = room-lent h reached there b next call in
-      let stood = turn-means (decoded (h .block)) b (h .memory) (call .buffer) room reached (there .stands .gate) (there .stands .link-part) in
-      subst (λ (x : Left). BehindKept answerRoom (call .buffer) (lengthOf x) (x .buffer)) (sym (left-is (Call.byte b) h next call))
-      (record { behind = stood .behind; fits = stood .fits })
+      → BehindKept answerRoom (call .made .buffer) (lengthOf (call .made .outcome .left)) (call .made .outcome .left .buffer)
+  demand-1-behind b next call = byte-behind h reached there b next call
 
   -- ---- Demand 2: "Messages, commands and recorder do exactly what AN2471/D and the MCBCOM manual define, as document 01
   -- sets them out.": after any run the answers, the memory, the scope, the recorder and the application are the definition's
@@ -188,16 +184,20 @@ module _ (block memory : List ℕ) (tables : List Table) (after : List ℕ) (lon
 
   -- "The panel gives 0x09's data part (above 64 bytes 0x83) and gets the same statuses, in 01's order."
   module _ (setup : List ℕ) (next : Board) (step : Step h (aside (prepares setup)) next) where
-    pub demand-2-prepare : step .outcome .left .said ≡ panelPrepares (gateIn h) setup .answer .status ∷ []
-    demand-2-prepare = ap (λ (x : Left). x .said) (left-is (Call.prepare setup) h next step)
+    pub demand-2-prepare : step .made .outcome .left .said ≡ panelPrepares (gateIn h) setup .answer .status ∷ []
+    demand-2-prepare =
+        said-is (Call.prepare setup) h next step (kept h reached there)
+        ∙ ap (λ (n : ℕ). n ∷ []) (prepare-alike (decoded (h .block) .instruments) setup [] (h .memory))
 
     -- "A recorder prepared and not started since": of it `document.Panel` has the laws
     pub recorder-prepared : AllBytes setup → preparesAnew (gateIn h) setup ≡ true → gateIn next .recorder ≡ recorderPrepared false setup
     recorder-prepared all = panel-prepared h next reached (there .stands) setup (reached-step h reached there (aside (prepares setup)) next all step .stands)
 
   module _ (next : Board) (step : Step h (aside starts) next) where
-    pub demand-2-start : step .outcome .left .said ≡ panelStarts (gateIn h) .answer .status ∷ []
-    demand-2-start = ap (λ (x : Left). x .said) (left-is Call.start h next step)
+    pub demand-2-start : step .made .outcome .left .said ≡ panelStarts (gateIn h) .answer .status ∷ []
+    demand-2-start =
+        said-is Call.start h next step (kept h reached there)
+        ∙ ap (λ (n : ℕ). n ∷ []) (start-alike (decoded (h .block) .instruments) [] (h .memory))
 
     -- "01's sentence on reading round the buffer speaks again from the next start": the premise of the history below
     pub recorder-begun-by-panel : startsAnew (gateIn h) ≡ true → Begun next
@@ -208,19 +208,19 @@ module _ (block memory : List ℕ) (tables : List Table) (after : List ℕ) (lon
   module _ (bytes : List ℕ) (all : AllBytes bytes) (next : Board) (call : Takes (Call.receive bytes) h next) where
     -- "State, memory and answers equal those of giving the same bytes singly.": the bytes that it takes, each given by a call of its
     -- own, come to the same board
-    pub block-singly : Singly h (came (tookOf (call .outcome .left)) bytes) next
+    pub block-singly : Singly h (came (tookOf (call .made .outcome .left)) bytes) next
     block-singly = blocks.block-singly h reached there bytes all next call
 
     -- "It takes bytes while 132 bytes of room are left, and no longer, and reports bytes taken and bytes written.": as the definition
     -- has it, and every byte of the lent buffer is settled
-    pub demand-2-block : BlockAsDefined (afterAll (since (gate tables memory)) first) bytes (call .buffer) (call .outcome .left) next
+    pub demand-2-block : BlockAsDefined (afterAll (since (gate tables memory)) first) bytes (call .made .buffer) (call .made .outcome .left) next
     demand-2-block = blocks.block-means h reached there bytes all next call
 
     -- it takes all of them, unless the room that is left is too short for another answer
-    pub block-takes-all : answerRoom ≤ length (call .buffer) - wroteOf (call .outcome .left) → tookOf (call .outcome .left) ≡ length bytes
+    pub block-takes-all : answerRoom ≤ length (call .made .buffer) - wroteOf (call .made .outcome .left) → tookOf (call .made .outcome .left) ≡ length bytes
     block-takes-all enough =
         let stood = blocks.block-means h reached there bytes all next call in
-        stood .taken ∙ block-stops bytes reached (length (call .buffer)) (subst (λ (n : ℕ). answerRoom ≤ length (call .buffer) - n) (stood .written) enough)
+        stood .taken ∙ block-stops bytes reached (length (call .made .buffer)) (subst (λ (n : ℕ). answerRoom ≤ length (call .made .buffer) - n) (stood .written) enough)
 
   -- ---- Modbus on the second port (2026-07): demands 2 and 3 read the memory as both ports left it, since a frame is one of the things
   -- that happen
@@ -233,7 +233,7 @@ module _ (block memory : List ℕ) (tables : List Table) (after : List ℕ) (lon
 
   -- a frame changes bytes 0 to 8,191 at most, and nothing of the service port: not the link, in the midst of a message or not
   pub frame-touches : (station : ℕ) (bytes : List ℕ) (next : Board) → Step h (aside (frames station bytes)) next → OnlyVariables station bytes h next
-  frame-touches station bytes next step = frame-only station bytes h next step
+  frame-touches station bytes next step = frame-only station bytes h next (kept h reached there) step
 
   -- ---- Demand 3: "After any bytes since reset, with an even (or no) run of 0x2B just before, a start byte and a well-formed
   -- stuffed message get exactly the answer, and leave the memory, scope and recorder, that a freshly reset link would give over

@@ -2,6 +2,7 @@
 pub mod Wire
 pub mod Pieces
 pub mod Calls
+pub mod Exists
 pub mod Bytes
 pub mod Reached
 pub mod Besides

@@ -10,7 +10,7 @@ use Rattle.document.specs.Areas.{variablesEnd}
 use Rattle.document.specs.Numbers.{taken}
 use Rattle.document.specs.Modbus.{modbusAnswer, modbusRoom}
 use Rattle.document.specs.Asides.Aside.{frames}
-use Rattle.document.proofs.Cases.{split}
+use Rattle.document.proofs.Cases.{split, neither}
 use Rattle.line_wire.proofs.Left.{sets-behind}
 use Rattle.call_modbus.proofs.Answers.{lent-right}
 use Rattle.laws_modbus.proofs.Kept.{frame-keeps-rest}
@@ -22,7 +22,7 @@ use Rattle.demands.specs.Board.{Board}
 use Rattle.demands.specs.Run.{Beside}
 use Rattle.demands.specs.Buffers.{BehindKept}
 use Rattle.demands.specs.Ports.{OnlyVariables}
-use Rattle.demands.proofs.Calls.{next-is}
+use Rattle.demands.proofs.Calls.{Kept, next-is}
 
 -- refused or not, what lies behind the answer is as it was
 module _ (l : Lent) (station : ℕ) (bytes : List ℕ) (o : Outcome) (p : Promised l (Call.frame station bytes) o) where
@@ -47,9 +47,9 @@ module _ (l : Lent) (station : ℕ) (bytes : List ℕ) (o : Outcome) (p : Promis
       (λ f. behind-kept _ (known .unchanged (eqb-false (o .number) taken f)) (λ j. l .buffer) (omega arith))
 
 -- a frame touches nothing else
-pub frame-only : (station : ℕ) (bytes : List ℕ) (h next : Board) → Beside h (frames station bytes) next → OnlyVariables station bytes h next
-frame-only station bytes h next step =
-    let is = next-is (Call.frame station bytes) h next step in
+pub frame-only : (station : ℕ) (bytes : List ℕ) (h next : Board) → Kept h → Beside h (frames station bytes) next → OnlyVariables station bytes h next
+frame-only station bytes h next k step =
+    let is = next-is (Call.frame station bytes) h next step k (λ on. neither on) in
     record {
       block = ap (λ (q : Board). q .block) is;
       memory = ap (λ (q : Board). q .memory) is;

@@ -1,6 +1,6 @@
 -- A run of the calls that are linked into a gate: whatever their promises allow, one call for each thing that happens or for a block
--- of bytes, and refused calls anywhere among them. Each call brings its own buffer, of any room and with anything in it; a refused one
--- its own lengths of block and memory too.
+-- of bytes, and refused calls anywhere among them. Each call is lent as much of block and memory as it likes, and brings its own buffer,
+-- of any room and with anything in it.
 use mathlib.Core.Path.{_≡_}
 use mathlib.Core.Bool.{true}
 use mathlib.Core.List.{List, [], _∷_, _++_, map}
@@ -23,35 +23,32 @@ use Rattle.demands.specs.Pieces.{Piece, lends, handedBack}
 
 -- ---- a call
 
--- all that the gate has, and this buffer
-abbrev pub wholly : Board → List ℕ → Lent
-wholly h buffer = record { block = h .block; memory = h .memory; buffer = buffer }
-
--- it is taken, over all that the gate has
-pub record Takes (c : Call) (h next : Board) : Type 0 where
-  pub buffer : List ℕ
-  pub outcome : Outcome
-  pub promised : Promised (wholly h buffer) c outcome
-  pub fine : outcome .number ≡ taken
-  pub board : next ≡ behind h (outcome .left .block) (outcome .left .memory) (sends c (outcome .left))
-
--- pieces of any length
+-- pieces of what the gate has, of any length, and this buffer
 abbrev pub partly : Board → Piece → Piece → List ℕ → Lent
 partly h block memory buffer = record { block = lends (h .block) block; memory = lends (h .memory) memory; buffer = buffer }
 
--- or refused, with whatever number
-pub record Refuses (h next : Board) : Type 0 where
-  pub call : Call
+-- what it was lent stands in its place again, as its promise has it
+pub record Makes (c : Call) (h next : Board) : Type 0 where
   pub block : Piece
   pub memory : Piece
   pub buffer : List ℕ
   pub outcome : Outcome
-  pub promised : Promised (partly h block memory buffer) call outcome
-  pub refused : outcome .number ≡ taken → ⊥
+  pub promised : Promised (partly h block memory buffer) c outcome
   pub board :
       next
       ≡ behind h (handedBack (h .block) block (outcome .left .block)) (handedBack (h .memory) memory (outcome .left .memory))
-      (sends call (outcome .left))
+      (sends c (outcome .left))
+
+-- it is taken
+pub record Takes (c : Call) (h next : Board) : Type 0 where
+  pub made : Makes c h next
+  pub fine : made .outcome .number ≡ taken
+
+-- or refused, with whatever number
+pub record Refuses (h next : Board) : Type 0 where
+  pub call : Call
+  pub made : Makes call h next
+  pub refused : made .outcome .number ≡ taken → ⊥
 
 -- ---- what happens
 
@@ -92,10 +89,14 @@ pub data Run : Board → List Happening → Board → Type 0 where
   ends : (h : Board) → Run h [] h
   happens : (h next last : Board) (e : Happening) (es : List Happening) → Step h e next → Run next es last → Run h (e ∷ es) last
   blocks : (h next last : Board) (bytes : List ℕ) (es : List Happening) → AllBytes bytes → (taking : Takes (Call.receive bytes) h next)
-      → Run next es last → Run h (came (tookOf (taking .outcome .left)) bytes ++ es) last
+      → Run next es last → Run h (came (tookOf (taking .made .outcome .left)) bytes ++ es) last
   refuses : (h next last : Board) (es : List Happening) → Refuses h next → Run next es last → Run h es last
 
 -- ---- when a call is taken
+
+-- all that the gate has, and this buffer
+abbrev pub wholly : Board → List ℕ → Lent
+wholly h buffer = record { block = h .block; memory = h .memory; buffer = buffer }
 
 -- lent all that the gate has and that much room, no call is refused
 abbrev pub Ready : Board → Type 0

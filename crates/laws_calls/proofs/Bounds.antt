@@ -37,6 +37,7 @@ use Rattle.call_checks.proofs.Settled.{block-known, long-decides}
 use Rattle.call_register.proofs.Registered.{taken-good, registered-within}
 use Rattle.call_panel.proofs.Kept.{given-within}
 use Rattle.call_modbus.proofs.Answers.{lent-right}
+use Rattle.laws_modbus.proofs.Kept.{frame-keeps-length}
 use Rattle.laws_calls.specs.Calls.{Call, Lent, Left, Outcome, row, numberOf, commandIn, doneBy}
 use Rattle.laws_calls.specs.Calls.Call.{byte, receive, tick, collect, report, prepare, start, frame, register, reset}
 use Rattle.laws_calls.specs.Promised.{Promised}
@@ -95,13 +96,10 @@ block-long reset l on fine = leb-true stateLength (length (l .block)) (passed (l
 
 -- ---- within their bounds
 
--- whatever block of bytes is lent, over a memory within its bounds; of a call that is not lent the memory it is any
-module _ (l : Lent) (bytes : AllBytes (l .block)) (m : List ℕ) (good : MemoryWithin m) where
+-- over a memory within its bounds; of a call that is not lent the memory it is any
+module _ (l : Lent) (m : List ℕ) (good : MemoryWithin m) (lent : blockSound (l .block) ≡ true → Within (decoded (l .block)) m) where
   abbrev now : Target
   now = decoded (l .block)
-
-  lent : blockSound (l .block) ≡ true → Within (decoded (l .block)) m
-  lent ok = let known = block-known (l .block) ok in lent-within (l .block) (known .0) (each-a-byte (l .block) bytes) m (known .1) good
 
   pub does-within : (c : Call) → row c .on-block ≡ true → cond (row c .on-memory) (l .memory) m ≡ m → AllBytes (row c .brings) → numberOf c l ≡ taken
       → Within (doneBy c l .state) (cond (row c .on-memory) (doneBy c l .memory) m)
@@ -134,6 +132,19 @@ module _ (l : Lent) (bytes : AllBytes (l .block)) (m : List ℕ) (good : MemoryW
       (subst MemoryWithin (sym is) good)
   does-within reset on is all fine = within-registered _ m no-tables good
 
+-- a call that is not lent the block leaves the memory its length
+pub memory-kept : (c : Call) (l : Lent) → row c .on-block ≡ false → length (doneBy c l .memory) ≡ length (l .memory)
+memory-kept (byte b) l off = neither (sym off)
+memory-kept (receive bytes) l off = neither (sym off)
+memory-kept tick l off = neither (sym off)
+memory-kept collect l off = neither (sym off)
+memory-kept (report result) l off = neither (sym off)
+memory-kept (prepare setup) l off = neither (sym off)
+memory-kept start l off = neither (sym off)
+memory-kept (frame station bytes) l off = frame-keeps-length station bytes (l .memory)
+memory-kept (register list) l off = neither (sym off)
+memory-kept reset l off = neither (sym off)
+
 -- ---- no state handed out is outside its bounds
 
 -- a memory of zeros, for a call that is lent none
@@ -141,12 +152,17 @@ zeros : MemoryWithin (replicate memoryEnd 0)
 zeros = record { size = length-replicate {A = ℕ} memoryEnd 0; bytes = all-zeros memoryEnd }
 
 module _ (c : Call) (l : Lent) (o : Outcome) (are : BytesLent c l) (p : Promised l c o) where
+  -- every block of bytes
+  lent-bytes : (m : List ℕ) → MemoryWithin m → blockSound (l .block) ≡ true → Within (decoded (l .block)) m
+  lent-bytes m good ok =
+      let known = block-known (l .block) ok in lent-within (l .block) (known .0) (each-a-byte (l .block) (are .block)) m (known .1) good
+
   -- over this memory
   sound-over : (m : List ℕ) → MemoryWithin m → row c .on-block ≡ true → cond (row c .on-memory) (l .memory) m ≡ m → o .number ≡ taken
       → blockSound (o .left .block) ≡ true
   sound-over m good on is fine =
       let number : numberOf c l ≡ taken = sym (call-refused l c o p .number) ∙ fine in
-      let w = does-within l (are .block) m good c on is (are .brought) number in
+      let w = does-within l m good (lent-bytes m good) c on is (are .brought) number in
       let long = block-long c l on number in
       let next : Target = doneBy c l .state in
       let there : decoded (sets (l .block) 0 (encoded next)) ≡ next = stored-decoded (l .block) next long (within-fits next _ w) in

@@ -133,13 +133,14 @@ pub record Row : Type 0 where
   pub number : Lent → ℕ
   -- what it does when it is taken
   pub does : Found → Done
-  pub sends : Left → Sent
+  -- what goes out, of what it says and of the buffer behind it
+  pub sends : List ℕ → List ℕ → Sent
   -- the room that it asks for, and what else, beside a sound block and the memory
   pub room : ℕ
   pub due : Lent → Bool
 
-abbrev silent : Left → Sent
-silent x = nothingSent
+abbrev silent : List ℕ → List ℕ → Sent
+silent said told = nothingSent
 
 abbrev always : Lent → Bool
 always l = true
@@ -152,7 +153,7 @@ row (byte b) =
       brings = b ∷ [];
       number = λ l. byteNumber (l .block) (l .memory) (l .buffer);
       does = λ f. turned (turn (f .state) b (f .memory) (f .buffer));
-      sends = λ x. answered (lengthOf x) (x .buffer);
+      sends = λ said told. answered (getD said 0 0) told;
       room = answerRoom;
       due = always;
     }
@@ -163,7 +164,7 @@ row (receive bytes) =
       brings = bytes;
       number = λ l. byteNumber (l .block) (l .memory) (l .buffer);
       does = λ f. walkedOver (walked (begun (f .state) (f .memory) (f .buffer)) bytes);
-      sends = λ x. answered (wroteOf x) (x .buffer);
+      sends = λ said told. answered (getD said 1 0) told;
       room = answerRoom;
       due = always;
     }
@@ -197,7 +198,7 @@ row collect =
             memory = f .memory;
             buffer = collectBuffer (commandIn (f .state)) (f .buffer);
           };
-      sends = λ x. record { answers = []; commands = handedOut (lengthOf x) (x .buffer); modbus-answers = [] };
+      sends = λ said told. record { answers = []; commands = handedOut (getD said 0 0) told; modbus-answers = [] };
       room = mostData;
       due = always;
     }
@@ -248,7 +249,7 @@ row (frame station bytes) =
             memory = modbusMemory station bytes (f .memory);
             buffer = modbusBuffer station bytes (f .memory) (f .buffer);
           };
-      sends = λ x. record { answers = []; commands = []; modbus-answers = handedOut (lengthOf x) (x .buffer) };
+      sends = λ said told. record { answers = []; commands = []; modbus-answers = handedOut (getD said 0 0) told };
       room = modbusRoom;
       due = λ l. isStation station;
     }
@@ -301,7 +302,7 @@ abbrev pub numberOf : Call → Lent → ℕ
 numberOf c l = row c .number l
 
 abbrev pub sends : Call → Left → Sent
-sends c x = row c .sends x
+sends c x = row c .sends (x .said) (x .buffer)
 
 -- ---- refused or not
 
