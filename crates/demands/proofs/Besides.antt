@@ -49,7 +49,7 @@ use Rattle.laws_calls.proofs.Bounds.{changed, changed-within}
 use Rattle.laws_calls.proofs.Sends.{collect-sends, frame-sends}
 use Rattle.demands.specs.Board.{Board, gateIn, behind}
 use Rattle.demands.specs.Pieces.{lends}
-use Rattle.demands.specs.Run.{wholly, Takes, Beside}
+use Rattle.demands.specs.Run.{wholly, Takes, Step}
 use Rattle.demands.specs.AsDefined.{linkIn}
 use Rattle.demands.specs.Touches.{Touches}
 use Rattle.demands.proofs.Calls.{served, taken-number, state-same, next-is}
@@ -154,7 +154,7 @@ module _ (h : Board) (s : Since) (r : Reached h s) where
             ∙ ap (λ (l : List ℕ). h .modbus-answers ++ ifAny l) (sym (leaves (s .gate) a .silent quiet (h .memory)));
       }
 
-  pub becomes : (a : Aside) (next : Board) → AllBytes (row a .brings) → Beside h a next → Becomes h s a next
+  pub becomes : (a : Aside) (next : Board) → AllBytes (row a .brings) → Step h (aside a) next → Becomes h s a next
   unfolding beside
   becomes tick next are step =
       let is = next-of Call.tick next step tt in

@@ -44,7 +44,7 @@ use Rattle.line_commands.specs.CommandWritten.{CommandWritten}
 use Rattle.document_outcomes.specs.Starts.{isStart, Begins}
 use Rattle.document_outcomes.proofs.Recording.{start-begins}
 use Rattle.laws_happenings.specs.Asides.{waitingIn, preparesAnew, startsAnew, row}
-use Rattle.laws_happenings.specs.Bytes.{bytesOf, besideBytes, AreBytes}
+use Rattle.laws_happenings.specs.Bytes.{bytesOf, besideBytes, IsBytes, AreBytes}
 use Rattle.laws_happenings.specs.Recording.{events, ticksOf, AllUnstarted, AllUndisturbed}
 use Rattle.document_outcomes.specs.Sending.{sends, unrefusedSoFar}
 use Rattle.document_outcomes.proofs.Sending.{while-pending}
@@ -60,17 +60,21 @@ use Rattle.state_block.specs.Layout.{decoded}
 use Rattle.call_checks.specs.Promises.{Checked}
 use Rattle.call_reader.specs.declared.calls.ReadByte.{ReadByte}
 use Rattle.call_reader.specs.Promises.{BeginDone, ReadDone}
+use Rattle.laws_calls.specs.Calls as call
 use Rattle.laws_calls.specs.Calls.{Call, Lent, Left, lengthOf, tookOf, wroteOf, Outcome, CallRefused}
 use Rattle.laws_calls.specs.Promised.{Promised}
+use Rattle.laws_calls.specs.Bounds.{BytesLent, HandedOut}
 use Rattle.laws_calls.proofs.Settled as settled
 use Rattle.laws_calls.proofs.Settled.{call-refused}
+use Rattle.laws_calls.proofs.Bounds.{handed-out-bounded}
 use Rattle.laws_calls.proofs.Allowed.{prepare-alike, start-alike}
 use Rattle.laws_ends.specs.Refused.{WriteRefused, BeginRefused, ReadRefused}
 use Rattle.laws_ends.specs.Readings.{ByRead, Readings, Reads}
 use Rattle.laws_ends.proofs.Refused as both-ends
 use Rattle.laws_ends.proofs.Readings as readings
 use Rattle.demands.specs.Board.{Board, gateIn, begun}
-use Rattle.demands.specs.Run.{Takes, Refuses, Reset, Step, Singly, came, Run, Ready}
+use Rattle.demands.specs.Run.{Takes, Refuses, Reset, Step, Singly, came, Run, Ready, Due}
+use Rattle.demands.specs.Cut.{Cut}
 use Rattle.demands.specs.Refused.{CheckRefused, WireRefused}
 use Rattle.demands.specs.AsDefined.{blank, AsDefined}
 use Rattle.demands.specs.Touches.{Touches}
@@ -82,11 +86,13 @@ use Rattle.demands.specs.Applying.{OnlySaid}
 use Rattle.demands.specs.Ports.{OnlyVariables, SinceReset, SameService}
 use Rattle.demands.proofs.Wire as wire
 use Rattle.demands.proofs.Calls.{refused-kept, said-is, ready}
+use Rattle.demands.proofs.Exists.{takes, can-happen}
 use Rattle.demands.proofs.Reached.{Reached, kept, reached-begun, bytes-on, plan-fits}
 use Rattle.demands.proofs.Besides.{becomes, touches}
 use Rattle.demands.proofs.Runs.{byte-behind, reached-step, run-hands, run-answers}
 use Rattle.demands.proofs.Blocks as blocks
 use Rattle.demands.proofs.Blocks.{singly, reached-run}
+use Rattle.demands.proofs.Cuts.{cut}
 use Rattle.demands.proofs.Fresh.{answered-fresh, by-half}
 use Rattle.demands.proofs.Recorded.{recorded}
 use Rattle.demands.proofs.Recorder.{start-begun, panel-begun, panel-prepared, tick-touches, run-fires, run-stops}
@@ -103,6 +109,11 @@ use Rattle.demands.proofs.Independent.{service-runs, modbus-runs}
 -- of each call that a gate makes: `laws_calls.Calls` has their numbers and what they leave
 pub demand-1-call : (l : Lent) (c : Call) (o : Outcome) → Promised l c o → CallRefused c l o
 demand-1-call = call-refused
+
+-- "1 a state outside the bounds listed in docs/, which no state handed out ever is": from any block within its bounds, since reset or
+-- kept elsewhere and checked
+pub demand-1-handed-out : (c : Call) (l : Lent) (o : Outcome) → BytesLent c l → Promised l c o → HandedOut c l o
+demand-1-handed-out = handed-out-bounded
 
 -- "show that two outcomes allowed by one promise are equal"
 pub one-outcome : (l : Lent) (c : Call) (o k : Outcome) → Promised l c o → Promised l c k → o ≡ k
@@ -160,6 +171,23 @@ module _ (block memory : List ℕ) (tables : List Table) (after : List ℕ) (lon
   -- the gate has and its room is taken; a report waits for its command
   pub demand-1-run : Ready h
   demand-1-run = ready h (there .long) (there .within)
+
+  -- ---- runs exist: what is said of them is said of something
+
+  -- each call that is lent its room can be taken, a whole block of bytes too
+  pub run-calls : (c : Call) (buffer : List ℕ) → AllBytes (call.row c .brings) → call.row c .room ≤ length buffer
+      → call.row c .due (decoded (h .block)) (h .memory) ≡ true → (next : Board) × Takes c h next
+  run-calls c buffer brings room due = (_, takes c h buffer (kept h reached there) brings room due)
+
+  -- and each thing can happen; a report waits for its command, and a frame for a gate that has its station
+  pub run-goes-on : (e : Happening) → IsBytes e → Due h e → (next : Board) × Step h e next
+  run-goes-on = can-happen h (kept h reached there)
+
+  -- a byte comes by a call of its own or in a block: a run can be cut at each thing that happens in it, a byte inside a block too, so
+  -- all that is said below of a byte that comes by a call of its own is said of every byte
+  pub run-cut : (earlier : List Happening) (e : Happening) (later : List Happening) (last : Board) → AreBytes (earlier ++ (e ∷ later))
+      → Run h (earlier ++ (e ∷ later)) last → Cut h earlier e later last
+  run-cut = cut h reached there
 
   -- "Bytes of it behind the answer keep their values; without an answer, all do.": of the buffer that this call was lent
   pub demand-1-behind : (b : ℕ) (next : Board) (call : Takes (Call.byte b) h next)

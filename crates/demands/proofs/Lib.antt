@@ -9,6 +9,7 @@ pub mod Besides
 pub mod Runs
 pub mod Walks
 pub mod Blocks
+pub mod Cuts
 pub mod Fresh
 pub mod Recorded
 pub mod Recorder

@@ -10,6 +10,7 @@ use Rattle.document.specs.Areas.{variablesEnd}
 use Rattle.document.specs.Numbers.{taken}
 use Rattle.document.specs.Modbus.{modbusAnswer, modbusRoom}
 use Rattle.document.specs.Asides.Aside.{frames}
+use Rattle.document.specs.Happenings.Happening.{aside}
 use Rattle.document.proofs.Cases.{split, neither}
 use Rattle.line_wire.proofs.Left.{sets-behind}
 use Rattle.call_modbus.proofs.Answers.{lent-right}
@@ -19,7 +20,7 @@ use Rattle.laws_calls.specs.Promised.{Promised}
 use Rattle.laws_calls.proofs.Settled.{taken-leaves, call-refused}
 use Rattle.laws_calls.proofs.Sends.{modbus-fits}
 use Rattle.demands.specs.Board.{Board}
-use Rattle.demands.specs.Run.{Beside}
+use Rattle.demands.specs.Run.{Step}
 use Rattle.demands.specs.Buffers.{BehindKept}
 use Rattle.demands.specs.Ports.{OnlyVariables}
 use Rattle.demands.proofs.Calls.{Kept, next-is}
@@ -47,7 +48,7 @@ module _ (l : Lent) (station : ℕ) (bytes : List ℕ) (o : Outcome) (p : Promis
       (λ f. behind-kept _ (known .unchanged (eqb-false (o .number) taken f)) (λ j. l .buffer) (omega arith))
 
 -- a frame touches nothing else
-pub frame-only : (station : ℕ) (bytes : List ℕ) (h next : Board) → Kept h → Beside h (frames station bytes) next → OnlyVariables station bytes h next
+pub frame-only : (station : ℕ) (bytes : List ℕ) (h next : Board) → Kept h → Step h (aside (frames station bytes)) next → OnlyVariables station bytes h next
 frame-only station bytes h next k step =
     let is = next-is (Call.frame station bytes) h next step k (λ on. neither on) in
     record {

@@ -2,6 +2,7 @@
 pub mod Board
 pub mod Pieces
 pub mod Run
+pub mod Cut
 pub mod AsDefined
 pub mod Touches
 pub mod Refused

@@ -10,10 +10,10 @@ use Rattle.document.specs.Numbers.{taken}
 use Rattle.document.specs.Stores.{stored}
 use Rattle.document.specs.Bytes.{AllBytes}
 use Rattle.document.specs.Tables.{Table, tablesIn}
-use Rattle.document.specs.Asides.{Aside}
 use Rattle.document.specs.Asides.Aside.{tick, writes, collects, reports, prepares, starts, frames}
 use Rattle.document.specs.Happenings.{Happening}
 use Rattle.document.specs.Happenings.Happening.{byte, aside}
+use Rattle.state_block.specs.Layout.{decoded}
 use Rattle.call_checks.specs.Promises.{ResetDone}
 use Rattle.call_register.specs.Promises.{RegisterDone}
 use Rattle.laws_calls.specs.Calls.{Call, Lent, tookOf, row, numberOf, sends, Outcome}
@@ -52,19 +52,31 @@ pub record Refuses (h next : Board) : Type 0 where
 
 -- ---- what happens
 
--- beside the bytes: a call that is taken; or the gate's own program writes its memory
-abbrev pub Beside : Board → Aside → Board → Type 0
-Beside h tick next = Takes Call.tick h next
-Beside h (writes address bytes) next = next ≡ withMemory h (stored (h .memory) address bytes)
-Beside h collects next = Takes Call.collect h next
-Beside h (reports result) next = Takes (Call.report result) h next
-Beside h (prepares setup) next = Takes (Call.prepare setup) h next
-Beside h starts next = Takes Call.start h next
-Beside h (frames station bytes) next = Takes (Call.frame station bytes) h next
+-- by a call that is taken; or the gate's own program writes its memory
+pub data Doing : Type 0 where
+  calls : Call → Doing
+  stores : ℕ → List ℕ → Doing
+
+abbrev pub doing : Happening → Doing
+doing (byte b) = calls (Call.byte b)
+doing (aside tick) = calls Call.tick
+doing (aside (writes address bytes)) = stores address bytes
+doing (aside collects) = calls Call.collect
+doing (aside (reports result)) = calls (Call.report result)
+doing (aside (prepares setup)) = calls (Call.prepare setup)
+doing (aside starts) = calls Call.start
+doing (aside (frames station bytes)) = calls (Call.frame station bytes)
+
+abbrev pub broughtBy : Doing → List ℕ
+broughtBy (calls c) = row c .brings
+broughtBy (stores address bytes) = bytes
+
+abbrev pub Does : Board → Doing → Board → Type 0
+Does h (calls c) next = Takes c h next
+Does h (stores address bytes) next = next ≡ withMemory h (stored (h .memory) address bytes)
 
 abbrev pub Step : Board → Happening → Board → Type 0
-Step h (byte b) next = Takes (Call.byte b) h next
-Step h (aside a) next = Beside h a next
+Step h e next = Does h (doing e) next
 
 -- ---- a run
 
@@ -100,4 +112,12 @@ wholly h buffer = record { block = h .block; memory = h .memory; buffer = buffer
 
 -- lent all that the gate has and that much room, no call is refused
 abbrev pub Ready : Board → Type 0
-Ready h = (c : Call) (buffer : List ℕ) → row c .room ≤ length buffer → row c .due (wholly h buffer) ≡ true → numberOf c (wholly h buffer) ≡ taken
+Ready h = (c : Call) (buffer : List ℕ) → row c .room ≤ length buffer → row c .due (decoded (h .block)) (h .memory) ≡ true → numberOf c (wholly h buffer) ≡ taken
+
+-- what something that happens asks for, beside bytes and room: a report waits for its command, and a frame for its station
+abbrev pub DueTo : Board → Doing → Type 0
+DueTo h (calls c) = row c .due (decoded (h .block)) (h .memory) ≡ true
+DueTo h (stores address bytes) = Unit {0}
+
+abbrev pub Due : Board → Happening → Type 0
+Due h e = DueTo h (doing e)

@@ -24,7 +24,7 @@ pub record Fit (l : Lent) : Type 0 where
 
 pub record Known (c : Call) (l : Lent) : Type 0 where
   pub none-sent : sends c (kept l (leaves c l)) ≡ nothingSent
-  pub asked-taken : Fit l → row c .room ≤ length (l .buffer) → row c .due l ≡ true → numberOf c l ≡ taken
+  pub asked-taken : Fit l → row c .room ≤ length (l .buffer) → row c .due (decoded (l .block)) (l .memory) ≡ true → numberOf c l ≡ taken
 
 pub known : (c : Call) (l : Lent) → Known c l
 known (byte b) l = record { none-sent = refl; asked-taken = λ fit room due. rw (fit .sound, fit .memory, le-ltb (length (l .buffer)) answerRoom room) refl }

@@ -135,15 +135,15 @@ pub record Row : Type 0 where
   pub does : Found → Done
   -- what goes out, of what it says and of the buffer behind it
   pub sends : List ℕ → List ℕ → Sent
-  -- the room that it asks for, and what else, beside a sound block and the memory
+  -- the room that it asks for, and what else of the state and the memory, beside that they are right
   pub room : ℕ
-  pub due : Lent → Bool
+  pub due : Target → List ℕ → Bool
 
 abbrev silent : List ℕ → List ℕ → Sent
 silent said told = nothingSent
 
-abbrev always : Lent → Bool
-always l = true
+abbrev always : Target → List ℕ → Bool
+always t memory = true
 
 abbrev pub row : Call → Row
 row (byte b) =
@@ -212,7 +212,7 @@ row (report result) =
       sends = silent;
       room = 0;
       -- a report waits for its command
-      due = λ l. leb result 0xFD && isCollected (commandIn (decoded (l .block)));
+      due = λ t memory. leb result 0xFD && isCollected (commandIn t);
     }
 row (prepare setup) =
     record {
@@ -251,7 +251,7 @@ row (frame station bytes) =
           };
       sends = λ said told. record { answers = []; commands = []; modbus-answers = handedOut (getD said 0 0) told };
       room = modbusRoom;
-      due = λ l. isStation station;
+      due = λ t memory. isStation station;
     }
 row (register list) =
     record {
@@ -262,7 +262,7 @@ row (register list) =
       does = λ f. storing f (freshWith (registeredList list)) [];
       sends = silent;
       room = 0;
-      due = λ l. eqb (registerRefusal (l .memory) list) taken;
+      due = λ t memory. eqb (registerRefusal memory list) taken;
     }
 row reset =
     record {
