@@ -14,4 +14,9 @@ pub mod Recorder
 pub mod Applying
 pub mod Ports
 pub mod Independent
+pub mod Noise
+pub mod EndToEnd
+pub mod Results
+pub mod Sums
+pub mod Names
 pub mod Demands
