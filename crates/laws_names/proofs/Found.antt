@@ -16,7 +16,7 @@ use Rattle.document.specs.Gate.{Gate}
 use Rattle.document.proofs.Bytes.{each-a-byte}
 use Rattle.document.proofs.Cases.{both}
 use Rattle.laws_names.specs.Names.{stringAt, namedAt, namesAt, namesOf, namesIn, arePlacesGood}
-use Rattle.laws_names.specs.Steps.{stringRead, wordIn, namedIn, pieceRead, namesAsked, tableRead, mostLooks, namesRead}
+use Rattle.laws_names.specs.Steps.{stringRead, parameterIn, namedIn, pieceRead, namesAsked, tableRead, mostLooks, namesRead}
 use Rattle.laws_names.proofs.Asked.{piece-read}
 use Rattle.laws_names.proofs.Strings.{string-read}
 use Rattle.laws_names.proofs.Tables.{Place, place, tables-told}
@@ -40,11 +40,11 @@ module _ (g : Gate) (whole : length (g .memory) ≡ memoryEnd) (bytes : AllBytes
       two-bytes (drop entry (g .memory)) (λ i. rw (getD-drop entry (g .memory) i 0) (each-a-byte (g .memory) bytes (entry + i)))
 
   -- a parameter of an entry that was read, and its place in the memory
-  word-read : (entry place : ℕ) → place + 2 ≤ entrySize → wordIn (bytesAt (g .memory) entry entrySize) place ≡ number (bytesAt (g .memory) (entry + place) 2)
+  word-read : (entry place : ℕ) → place + 2 ≤ entrySize → parameterIn (bytesAt (g .memory) entry entrySize) place ≡ number (bytesAt (g .memory) (entry + place) 2)
   word-read entry place inside =
       ap number (two-of-piece place entrySize (drop entry (g .memory)) inside ∙ ap (take 2) (drop-drop place entry (g .memory)))
 
-  string-at : (entry place : ℕ) → place + 2 ≤ entrySize → stringRead g (wordIn (bytesAt (g .memory) entry entrySize) place) ≡ stringAt (g .memory) (number (bytesAt (g .memory) (entry + place) 2))
+  string-at : (entry place : ℕ) → place + 2 ≤ entrySize → stringRead g (parameterIn (bytesAt (g .memory) entry entrySize) place) ≡ stringAt (g .memory) (number (bytesAt (g .memory) (entry + place) 2))
   string-at entry place inside =
       ap (stringRead g) (word-read entry place inside) ∙ string-read g whole (number (bytesAt (g .memory) (entry + place) 2)) (pointer (entry + place))
 

@@ -76,16 +76,16 @@ abbrev pub stringRead : Gate → ℕ → List ℕ
 stringRead g address = bytesRead g address (lengthAsked g address)
 
 -- 7. "two string pointers in each table entry called name and type", and behind them "addr" and "info"
-abbrev pub wordIn : List ℕ → ℕ → ℕ
-wordIn entry place = number (bytesAt entry place 2)
+abbrev pub parameterIn : List ℕ → ℕ → ℕ
+parameterIn entry place = number (bytesAt entry place 2)
 
 abbrev pub namedIn : Gate → List ℕ → Named
 namedIn g entry =
     record {
-      name = stringRead g (wordIn entry 0);
-      type = stringRead g (wordIn entry 2);
-      address = wordIn entry 4;
-      info = wordIn entry 6;
+      name = stringRead g (parameterIn entry 0);
+      type = stringRead g (parameterIn entry 2);
+      address = parameterIn entry 4;
+      info = parameterIn entry 6;
     }
 
 -- 4. "read the whole table content", here entry by entry, and 10. "Repeat steps 8 and 9 for each table entry": n of them
