@@ -8,7 +8,6 @@ use native.Mathlib.Omega.{arith}
 use lib.ListN.{length, drop}
 use lib.Seq.{sets}
 use Rattle.document.specs.Bytes.{AllBytes}
-use Rattle.document.specs.Numbers.{taken}
 use Rattle.document.specs.Stores.{stored}
 use Rattle.document.specs.Areas.{variablesEnd}
 use Rattle.document.specs.Recorder.{ticked as ticks, tickedMemory}
@@ -29,10 +28,10 @@ use Rattle.application_state.proofs.Means.{new-few, collected-means, ended-mean
 use Rattle.recorder_taking.specs.Tick.{tickedState}
 use Rattle.recorder_taking.proofs.Ticked.{ticked-means}
 use Rattle.tables_state.specs.State.{tablesOf}
-use Rattle.state_parts.specs.State.{Target, withRecorder, withApplication, withInstruments, gateOf}
+use Rattle.state_parts.specs.State.{Target, gateOf}
 use Rattle.state_parts.specs.Within.{RecorderWithin, CommandWithin, MemoryWithin, Within}
 use Rattle.state_parts.proofs.Keeps.{recorder-started, recorder-ticked, command-collected, command-ended, memory-stored, memory-ticked}
-use Rattle.state_block.specs.Layout.{decodedApplication, decoded, encoded}
+use Rattle.state_block.specs.Layout.{decoded, encoded}
 use Rattle.call_checks.specs.Promises.{blockSound}
 use Rattle.call_checks.proofs.ApplicationNumbers.{collect-known, report-known}
 use Rattle.call_modbus.proofs.Answers.{lent-right}
@@ -94,6 +93,13 @@ module _ (h : Board) (s : Since) (r : Reached h s) where
   -- the board behind a taken call that brings bytes
   next-of : (c : Call) (next : Board) (t : Takes c h next) → AllBytes (call.row c .brings) → next ≡ served c h (t .made .buffer)
   next-of c next t are = next-is c h next t (kept-of h s r) (λ on. are)
+
+  -- a report that is taken had its command, and its result is one
+  pub report-taken : (result : ℕ) (next : Board) → Takes (Call.report result) h next → (result ≤ 0xFD) × (isCollected (commandIn (decoded (h .block))) ≡ true)
+  report-taken result next t =
+      let block : List ℕ = lends (h .block) (t .made .block) in
+      let known = report-known (blockSound block) (commandIn (decoded block)) result (taken-number (Call.report result) h next t (kept-of h s r)) in
+      (known .1, ap (λ (q : Target). isCollected (commandIn q)) (sym (state-same (Call.report result) h next t (kept-of h s r) refl)) ∙ known .2)
 
   -- the parts of the board are those of the gate
   recorder-is : recorderOf (decoded (h .block) .instruments .recorder) ≡ s .gate .recorder
@@ -193,11 +199,11 @@ module _ (h : Board) (s : Since) (r : Reached h s) where
       (r .within .recorder-part) (command-collected c (r .within .application-part)) recorder-is
       (collected-means c ∙ ap afterCollect command-is) (λ same. refl) (λ never. neither (ap isKept never))
   becomes (reports result) next are step =
-      let known = report-known (blockSound (lends (h .block) (step .made .block))) (commandIn (decoded (lends (h .block) (step .made .block)))) result (taken-number (Call.report result) h next step (kept-of h s r)) in
+      let known = report-taken result next step in
       let c : Command = now .instruments .application in
       becomes-state (reports result) next (now .instruments .recorder) (endedCommand result c) refl refl (next-of (Call.report result) next step are)
-      (r .within .recorder-part) (command-ended c result (r .within .application-part) (known .1)) recorder-is
-      (ended-means c result (ap (λ (t : Target). isCollected (commandIn t)) (sym (state-same (Call.report result) h next step (kept-of h s r) refl)) ∙ known .2) ∙ ap (afterReport result) command-is) (λ same. refl) (λ never. neither (ap isKept never))
+      (r .within .recorder-part) (command-ended c result (r .within .application-part) (known .0)) recorder-is
+      (ended-means c result (known .1) ∙ ap (afterReport result) command-is) (λ same. refl) (λ never. neither (ap isKept never))
   becomes (prepares setup) next are step =
       let k : RecorderState = now .instruments .recorder in
       becomes-state (prepares setup) next (givenNext k setup) (now .instruments .application) refl refl (next-of (Call.prepare setup) next step are)

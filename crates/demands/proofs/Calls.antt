@@ -1,20 +1,19 @@
 -- A call along a run: refused, it leaves the board as it was; taken, whatever pieces it was lent, it leaves what the table of calls says
 -- over all that the gate has; and when it is taken.
 use mathlib.Core.Path.{_≡_, refl, sym, ap, subst, _∙_}
-use mathlib.Core.Bool.{Bool, true, false, cond}
-use mathlib.Core.List.{List, [], append-nil}
+use mathlib.Core.Bool.{true, cond}
+use mathlib.Core.List.{List, append-nil}
 use Prim.Native.Nat.{ℕ, _≤_}
 use native.Mathlib.Omega.{arith}
 use borrow.Author.Tests.{eq-eqb, le-leb}
 use lib.ListN.{length, take}
-use lib.Seq.{sets, length-sets}
+use lib.Seq.{sets}
 use Rattle.document.specs.Areas.{memoryEnd}
 use Rattle.document.specs.Bytes.{AllBytes}
 use Rattle.document.specs.Numbers.{taken}
 use Rattle.document.proofs.Cases.{split}
 use Rattle.line_wire.proofs.Left.{sets-front}
 use Rattle.state_parts.specs.State.{Target}
-use Rattle.state_parts.specs.Bounds.{fresh}
 use Rattle.state_parts.specs.Within.{Within}
 use Rattle.state_parts.proofs.Keeps.{within-sound, within-fits}
 use Rattle.state_block.specs.Places.{stateLength}

@@ -1,8 +1,8 @@
 -- A run can be cut at each thing that happens in it, at a byte inside a block too: what is said of a byte that comes by a call of its own
 -- is said of every byte.
-use mathlib.Core.Path.{_≡_, refl, sym, ap, subst}
+use mathlib.Core.Path.{_≡_, refl, ap, subst}
 use mathlib.Core.List.{List, [], _∷_, _++_}
-use Prim.Native.Nat.{ℕ, suc, _+_}
+use Prim.Native.Nat.{ℕ}
 use native.Mathlib.Omega.{arith}
 use lib.ListN.{length, drop, length-append}
 use Rattle.document.specs.Happenings.{Happening, Since}

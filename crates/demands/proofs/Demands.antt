@@ -14,7 +14,7 @@ use lib.ListN.{length, drop}
 use Rattle.document.specs.Numbers.{mostData, answerRoom, taken, done, busy, sumWrong}
 use Rattle.document.specs.Bytes.{AllBytes}
 use Rattle.document.specs.Areas.{variablesEnd}
-use Rattle.document.specs.Message.{Message, sumRight, wellFormed, onWire, finishedBy}
+use Rattle.document.specs.Message.{Message, sumRight, summed, wellFormed, onWire, finishedBy}
 use Rattle.document.specs.Answer.{Answer}
 use Rattle.document.specs.AnswerWriter.{answerRefusal}
 use Rattle.document.specs.CommandWriter.{commandRefusal}
@@ -31,7 +31,7 @@ use Rattle.document.specs.Commands.{answered}
 use Rattle.document.specs.Panel.{panelPrepares, panelStarts}
 use Rattle.document.specs.Modbus.{modbusRoom}
 use Rattle.document.specs.Asides.{Aside}
-use Rattle.document.specs.Asides.Aside.{tick, prepares, starts, frames}
+use Rattle.document.specs.Asides.Aside.{tick, reports, prepares, starts, frames}
 use Rattle.document.specs.Happenings.{Happening, Since, after as happened, afterAll, fromReset as since}
 use Rattle.document.specs.Happenings.Happening.{byte, aside}
 use Rattle.recorder_history.specs.History.{memoriesLeft, TriggersNext, Unstopped}
@@ -61,7 +61,7 @@ use Rattle.call_checks.specs.Promises.{Checked}
 use Rattle.call_reader.specs.declared.calls.ReadByte.{ReadByte}
 use Rattle.call_reader.specs.Promises.{BeginDone, ReadDone}
 use Rattle.laws_calls.specs.Calls as call
-use Rattle.laws_calls.specs.Calls.{Call, Lent, Left, lengthOf, tookOf, wroteOf, Outcome, CallRefused}
+use Rattle.laws_calls.specs.Calls.{Call, Lent, lengthOf, tookOf, wroteOf, Outcome, CallRefused}
 use Rattle.laws_calls.specs.Promised.{Promised}
 use Rattle.laws_calls.specs.Bounds.{BytesLent, HandedOut}
 use Rattle.laws_calls.proofs.Settled as settled
@@ -69,9 +69,15 @@ use Rattle.laws_calls.proofs.Settled.{call-refused}
 use Rattle.laws_calls.proofs.Bounds.{handed-out-bounded}
 use Rattle.laws_calls.proofs.Allowed.{prepare-alike, start-alike}
 use Rattle.laws_ends.specs.Refused.{WriteRefused, BeginRefused, ReadRefused}
-use Rattle.laws_ends.specs.Readings.{ByRead, Readings, Reads}
+use Rattle.laws_ends.specs.Readings.{ByRead, Readings, Reads, SixExactly}
+use Rattle.laws_ends.specs.Exchange.{Wrote, ReadSince, Expects}
 use Rattle.laws_ends.proofs.Refused as both-ends
 use Rattle.laws_ends.proofs.Readings as readings
+use Rattle.laws_ends.proofs.Exchange.{wrote-wire}
+use Rattle.modbus_check_sums.specs.Flips.{Sent}
+use Rattle.laws_modbus.specs.Damage.{Damaged}
+use Rattle.laws_names.specs.Names.{namesIn}
+use Rattle.laws_names.specs.Steps.{namesRead}
 use Rattle.demands.specs.Board.{Board, gateIn, begun}
 use Rattle.demands.specs.Run.{Takes, Refuses, Reset, Step, Singly, came, Run, Ready, Due}
 use Rattle.demands.specs.Cut.{Cut}
@@ -82,8 +88,10 @@ use Rattle.demands.specs.Buffers.{BehindKept, BlockAsDefined}
 use Rattle.demands.specs.Fresh.{AnsweredFresh, NothingByHalf}
 use Rattle.demands.specs.Recorded.{Recorded}
 use Rattle.demands.specs.Recorder.{Begun, RunsOn, FiresAtFirst, OnlyItsPlace}
-use Rattle.demands.specs.Applying.{OnlySaid}
+use Rattle.demands.specs.Applying.{OnlySaid, TellsResult}
 use Rattle.demands.specs.Ports.{OnlyVariables, SinceReset, SameService}
+use Rattle.demands.specs.Sums.{SumExactly}
+use Rattle.demands.specs.EndToEnd.{EndToEnd}
 use Rattle.demands.proofs.Wire as wire
 use Rattle.demands.proofs.Calls.{refused-kept, said-is, ready}
 use Rattle.demands.proofs.Exists.{takes, can-happen}
@@ -97,8 +105,14 @@ use Rattle.demands.proofs.Fresh.{answered-fresh, by-half}
 use Rattle.demands.proofs.Recorded.{recorded}
 use Rattle.demands.proofs.Recorder.{start-begun, panel-begun, panel-prepared, tick-touches, run-fires, run-stops}
 use Rattle.demands.proofs.Applying.{only-said, sent-waits}
-use Rattle.demands.proofs.Ports.{modbus-behind, frame-only}
+use Rattle.demands.proofs.Behind.{modbus-behind, collect-kept}
+use Rattle.demands.proofs.Ports.{frame-only}
 use Rattle.demands.proofs.Independent.{service-runs, modbus-runs}
+use Rattle.demands.proofs.Noise.{noise-unheard}
+use Rattle.demands.proofs.EndToEnd.{answer-comes-back}
+use Rattle.demands.proofs.Results.{told-result}
+use Rattle.demands.proofs.Sums.{finished-exactly}
+use Rattle.demands.proofs.Names.{names-come}
 
 -- ---- Demand 1: "The line may bring anything at any moment without a fault. No entry relies on its caller. Each refusal has one
 -- number from the document, given exactly when the document says, and changes no byte lent to the call (a refusal sent on the
@@ -125,7 +139,7 @@ demand-1-check = wire.check-refused
 -- "Bytes of it behind the answer keep their values; without an answer, all do.": and 256 bytes are room for every answer
 pub demand-1-modbus-behind : (l : Lent) (station : ℕ) (bytes : List ℕ) (o : Outcome) → Promised l (Call.frame station bytes) o
     → BehindKept modbusRoom (l .buffer) (lengthOf (o .left)) (o .left .buffer)
-demand-1-modbus-behind = modbus-behind
+demand-1-modbus-behind l station bytes o p = modbus-behind l o station bytes p
 
 -- both ends of the line: the answer writer, the command writer, the answer reader
 pub demand-1-answer : (a : Answer) (before : List ℕ) (r : Written) (after : List ℕ) → AnswerWritten a before r after
@@ -263,6 +277,11 @@ module _ (block memory : List ℕ) (tables : List Table) (after : List ℕ) (lon
   pub frame-touches : (station : ℕ) (bytes : List ℕ) (next : Board) → Step h (aside (frames station bytes)) next → OnlyVariables station bytes h next
   frame-touches station bytes next step = frame-only station bytes h next (kept h reached there) step
 
+  -- noise there: a right frame in which two bits, any odd number of bits, or any of 16 neighbours are flipped gets silence, and the board
+  -- stays as it was, whatever its station and however long it is
+  pub modbus-noise : (station : ℕ) (sent got : List ℕ) → Sent sent got → Damaged sent got → (next : Board) → Step h (aside (frames station got)) next → next ≡ h
+  modbus-noise station sent got was damaged next step = noise-unheard station got h next (kept h reached there) step sent was damaged
+
   -- ---- Demand 3: "After any bytes since reset, with an even (or no) run of 0x2B just before, a start byte and a well-formed
   -- stuffed message get exactly the answer, and leave the memory, scope and recorder, that a freshly reset link would give over
   -- these as they stand at the last byte." The application is compared with them (2026-01).
@@ -388,6 +407,38 @@ module _ (block memory : List ℕ) (tables : List Table) (after : List ℕ) (lon
       ap (λ (g : Gate). isPending (g .application)) (reached-run h last hs on reached more there .stands .gate)
       ∙ between hs reached (ap (λ (g : Gate). isPending (g .application)) (sym (there .stands .gate)) ∙ pending) quiet
 
+  -- "then the result": from its report on 0xC6 answers it, whatever happens, until another 0x10 is accepted
+  module _ (result : ℕ) (reported : Board) (report : Step h (aside (reports result)) reported) (hs : List Happening) (before : Board) (more : AreBytes hs) where
+    pub result-told : Run reported hs before → sentOf (happened (afterAll (since (gate tables memory)) first) (aside (reports result))) hs ≡ []
+        → (b : ℕ) (last : Board) → b < 256 → Step before (byte b) last
+        → (m : Message) (others : List Message) → finishedBy (bytesOf first ++ bytesOf hs) b ≡ m ∷ others → TellsResult result m before last
+    result-told on unsent b last small step m others finished =
+        told-result h reached there result reported report hs before more on unsent b last small step m others
+        (ap (λ (l : List ℕ). finishedBy (l ++ bytesOf hs) b) reached-bytes ∙ finished)
+
+  -- ---- end to end: what the command writer wrote comes over the line, behind any even run of 0x2B and with whatever happens beside it. The
+  -- answer over the gate as it stands at the last byte is sent, and the answer reader, to which it comes byte by byte, gives its status and
+  -- its data at its last byte, and nothing before. It must expect so many data as come with a success; of an error it gives the status
+  -- and no data, whatever it expects
+  module _ (command : ℕ) (body : List ℕ) (hs : List Happening) (before : Board) (b : ℕ) (last : Board) (n : ℕ) (more : AreBytes hs) (small : b < 256) where
+    pub end-to-end : oddRun (bytesOf first) ≡ false → Wrote command body (bytesOf hs ++ (b ∷ [])) → Run h hs before → Step before (byte b) last
+        → Expects n (answered (gateIn before) (summed command body) .answer) → EndToEnd n (answered (gateIn before) (summed command body) .answer) h last
+    end-to-end even written on step =
+        let wire = wrote-wire command body (bytesOf hs ++ (b ∷ [])) written in
+        answer-comes-back h before last _ (summed command body)
+        (demand-3-even hs before b last (summed command body) more small (wire .formed) even (sym (wire .wire)) on step) n
+
+  -- 0x82 "Given exactly when .. the sum is not 0 modulo 256", of the byte that finishes a message
+  pub sum-exactly : (b : ℕ) (last : Board) → b < 256 → Step h (byte b) last → (m : Message) (more : List Message) → finishedBy (bytesOf first) b ≡ m ∷ more
+      → SumExactly m h last
+  sum-exactly b last small step m more finished =
+      finished-exactly h last reached (there .stands) b (end-stands b last small step m more finished) m more (finished-there b last small step m more finished)
+
+  -- "Names instead of addresses" (2026-03): after any run the steps of source document 000, over the port, find each entry of each table
+  -- that was registered, with its name, its type, its address and its info, as the memory then holds them
+  pub names-over-port : namesRead (gateIn h) ≡ namesIn (h .memory) tables
+  names-over-port = names-come block memory tables after reset h reached there tables-stay
+
 -- ---- Two ports, one memory (2026-07): two runs since reset, with the same tables, of which one or both may have traffic on the other port
 
 module _ (tables : List Table) (memory memory′ : List ℕ) (hs ks : List Happening) (h k : Board)
@@ -419,3 +470,12 @@ recorder-starts = start-begins
 pub reader-run : (block : List ℕ) (n r : ℕ) (begun : List ℕ) → BeginDone block n r begun → r ≡ taken → (bs last : List ℕ) → Readings begun bs last
     → (b : ℕ) (next : List ℕ) (call : ByRead last b next) → mostData ≤ length (call .buffer) → Reads n bs b (call .buffer) (call .result) next (call .told)
 reader-run = readings.readings-give
+
+-- "6 a finished answer whose sum is wrong": since a reading began, a call says 6 exactly then
+pub reader-sum-exactly : (n : ℕ) (bs last : List ℕ) → ReadSince n bs last → (b : ℕ) (next : List ℕ) (call : ByRead last b next)
+    → SixExactly n bs b (call .buffer) (call .result)
+reader-sum-exactly n bs last since = readings.six-exactly (since .lent) n (since .number) (since .begun) (since .promised) (since .fine) bs last (since .run)
+
+-- ---- "Bytes behind the command, or all when nothing is new, keep their values.": refused or not (2026-01)
+pub collect-behind : (l : Lent) (o : Outcome) → Promised l Call.collect o → BehindKept mostData (l .buffer) (lengthOf (o .left)) (o .left .buffer)
+collect-behind = collect-kept

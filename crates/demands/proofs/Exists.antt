@@ -7,7 +7,6 @@ use native.Mathlib.Omega.{arith}
 use lib.ListN.{length, take, replicate, length-replicate}
 use lib.Seq.{take-length}
 use Rattle.document.specs.Bytes.{AllBytes}
-use Rattle.document.specs.Numbers.{taken}
 use Rattle.document.specs.Stores.{stored}
 use Rattle.document.specs.Asides.Aside.{tick, writes, collects, reports, prepares, starts, frames}
 use Rattle.document.specs.Happenings.{Happening}
@@ -19,7 +18,7 @@ use Rattle.laws_calls.specs.Promised.{Promised}
 use Rattle.laws_calls.proofs.Allowed.{allowed}
 use Rattle.demands.specs.Board.{Board, withMemory, behind}
 use Rattle.demands.specs.Pieces.{Piece, lends, handedBack}
-use Rattle.demands.specs.Run.{wholly, Makes, Takes, partly, Doing, doing, broughtBy, Does, DueTo, Step, Due}
+use Rattle.demands.specs.Run.{wholly, Makes, Takes, Doing, doing, broughtBy, Does, DueTo, Step, Due}
 use Rattle.demands.specs.Run.Doing.{calls, stores}
 use Rattle.demands.proofs.Calls.{served, Kept, ready, next-is}
 

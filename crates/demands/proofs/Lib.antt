@@ -14,6 +14,12 @@ pub mod Fresh
 pub mod Recorded
 pub mod Recorder
 pub mod Applying
+pub mod Behind
 pub mod Ports
 pub mod Independent
+pub mod Noise
+pub mod EndToEnd
+pub mod Results
+pub mod Sums
+pub mod Names
 pub mod Demands

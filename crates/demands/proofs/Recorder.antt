@@ -1,7 +1,7 @@
 -- The recorder of a board along a run: an accepted start, a tick, and the ticks behind a trigger.
 use mathlib.Core.Path.{_≡_, sym, ap, _∙_, subst}
 use mathlib.Core.Bool.{true, false}
-use mathlib.Core.List.{List, [], _∷_, _++_}
+use mathlib.Core.List.{List, _∷_}
 use Prim.Native.Nat.{ℕ, suc, _+_, _*_}
 use lib.Dec.{ltb}
 use lib.ListN.{length, take, drop}

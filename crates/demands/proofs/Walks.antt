@@ -28,12 +28,10 @@ use Rattle.state_block.specs.Places.{stateLength}
 use Rattle.state_block.specs.Layout.{decoded, encoded}
 use Rattle.state_block.proofs.Back.{stored-decoded}
 use Rattle.call_byte.proofs.Stores.{target-over}
-use Rattle.call_byte.proofs.Turns.{byte-taken}
-use Rattle.laws_calls.specs.Calls.{Call, leaves}
-use Rattle.laws_calls.specs.Promised.Promised.{by-byte}
+use Rattle.laws_calls.specs.Calls.{Call}
 use Rattle.demands.specs.Board.{Board}
 use Rattle.demands.specs.AsDefined.{linkIn}
-use Rattle.demands.specs.Run.{wholly, Step, Singly, came}
+use Rattle.demands.specs.Run.{Step, Singly, came}
 use Rattle.demands.specs.Run.Singly.{ends, happens}
 use Rattle.demands.proofs.Calls.{served}
 use Rattle.demands.proofs.Exists.{takes}

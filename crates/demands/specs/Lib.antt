@@ -12,3 +12,5 @@ pub mod Recorded
 pub mod Recorder
 pub mod Applying
 pub mod Ports
+pub mod Sums
+pub mod EndToEnd

@@ -1,7 +1,7 @@
 -- What the table says of a call, its promise allows: every call has an outcome, and one that the table takes can be taken.
 use mathlib.Core.Path.{_≡_, refl, sym, ap, subst, _∙_}
 use mathlib.Core.Bool.{cond}
-use mathlib.Core.List.{List, [], _∷_}
+use mathlib.Core.List.{List, []}
 use Prim.Native.Nat.{ℕ}
 use lib.Dec.{eqb, leb}
 use lib.ListN.{length}
@@ -20,7 +20,7 @@ use Rattle.call_byte.specs.declared.Taken.{Taken}
 use Rattle.call_block.specs.declared.BlockTaken.{BlockTaken}
 use Rattle.laws_calls.specs.Calls.{Call, Lent, Left, Outcome, tookOf, wroteOf, lengthOf, numberOf, leaves, outcome}
 use Rattle.laws_calls.specs.Calls.Call.{byte, receive, tick, collect, report, prepare, start, frame, register, reset}
-use Rattle.laws_calls.specs.Promised.{came, Promised}
+use Rattle.laws_calls.specs.Promised.{Promised}
 use Rattle.laws_calls.specs.Promised.Promised.{by-byte, by-block, by-tick, by-collect, by-report, by-prepare, by-start, by-modbus, by-register, by-reset}
 use Rattle.laws_calls.proofs.Settled.{settled}
 

@@ -2,7 +2,7 @@
 -- for it. So no call hands out a state that is refused.
 use mathlib.Core.Path.{_≡_, refl, sym, ap, subst, _∙_}
 use mathlib.Core.Bool.{Bool, true, false, cond}
-use mathlib.Core.List.{List, []}
+use mathlib.Core.List.{List}
 use Prim.Native.Nat.{ℕ, _≤_}
 use native.Mathlib.Omega.{arith}
 use borrow.Author.Tests.{eqb-true, eqb-false, leb-true}
@@ -16,7 +16,7 @@ use Rattle.document.proofs.Bytes.{each-a-byte}
 use Rattle.document.proofs.Cases.{split, neither}
 use Rattle.recorder_state.specs.declared.state.Recorder.{Recorder}
 use Rattle.recorder_state.specs.State.{recorderOf}
-use Rattle.application_state.specs.State.{Command, applicationOf}
+use Rattle.application_state.specs.State.{Command}
 use Rattle.tables_state.specs.State.{registeredList}
 use Rattle.state_parts.specs.State.{Target, withRecorder, withApplication, withInstruments}
 use Rattle.state_parts.specs.Bounds.{sound}
