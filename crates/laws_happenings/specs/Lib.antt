@@ -2,6 +2,7 @@
 pub mod Along
 pub mod Asides
 pub mod Bytes
+pub mod Due
 pub mod Resync
 pub mod Recording
 pub mod Applying
