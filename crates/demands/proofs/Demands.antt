@@ -44,7 +44,8 @@ use Rattle.line_commands.specs.CommandWritten.{CommandWritten}
 use Rattle.document_outcomes.specs.Starts.{isStart, Begins}
 use Rattle.document_outcomes.proofs.Recording.{start-begins}
 use Rattle.laws_happenings.specs.Asides.{waitingIn, preparesAnew, startsAnew, row}
-use Rattle.laws_happenings.specs.Bytes.{bytesOf, besideBytes, IsBytes, AreBytes}
+use Rattle.laws_happenings.specs.Bytes.{bytesOf, besideBytes, AreBytes}
+use Rattle.laws_happenings.specs.Due.{AllDue}
 use Rattle.laws_happenings.specs.Recording.{events, ticksOf, AllUnstarted, AllUndisturbed}
 use Rattle.document_outcomes.specs.Sending.{sends, unrefusedSoFar}
 use Rattle.document_outcomes.proofs.Sending.{while-pending}
@@ -79,7 +80,7 @@ use Rattle.laws_modbus.specs.Damage.{Damaged}
 use Rattle.laws_names.specs.Names.{namesIn}
 use Rattle.laws_names.specs.Steps.{namesRead}
 use Rattle.demands.specs.Board.{Board, gateIn, begun}
-use Rattle.demands.specs.Run.{Takes, Refuses, Reset, Step, Singly, came, Run, Ready, Due}
+use Rattle.demands.specs.Run.{Takes, Refuses, Reset, Step, Singly, came, Run, Ready}
 use Rattle.demands.specs.Cut.{Cut}
 use Rattle.demands.specs.Refused.{CheckRefused, WireRefused}
 use Rattle.demands.specs.AsDefined.{blank, AsDefined}
@@ -94,10 +95,11 @@ use Rattle.demands.specs.Sums.{SumExactly}
 use Rattle.demands.specs.EndToEnd.{EndToEnd}
 use Rattle.demands.proofs.Wire as wire
 use Rattle.demands.proofs.Calls.{refused-kept, said-is, ready}
-use Rattle.demands.proofs.Exists.{takes, can-happen}
+use Rattle.demands.proofs.Exists.{takes}
 use Rattle.demands.proofs.Reached.{Reached, kept, reached-begun, bytes-on, plan-fits}
 use Rattle.demands.proofs.Besides.{becomes, touches}
 use Rattle.demands.proofs.Runs.{byte-behind, reached-step, run-hands, run-answers}
+use Rattle.demands.proofs.RunsExist.{run-there}
 use Rattle.demands.proofs.Blocks as blocks
 use Rattle.demands.proofs.Blocks.{singly, reached-run}
 use Rattle.demands.proofs.Cuts.{cut}
@@ -193,9 +195,9 @@ module _ (block memory : List ℕ) (tables : List Table) (after : List ℕ) (lon
       → call.row c .due (decoded (h .block)) (h .memory) ≡ true → (next : Board) × Takes c h next
   run-calls c buffer brings room due = (_, takes c h buffer (kept h reached there) brings room due)
 
-  -- and each thing can happen; a report waits for its command, and a frame for a gate that has its station
-  pub run-goes-on : (e : Happening) → IsBytes e → Due h e → (next : Board) × Step h e next
-  run-goes-on = can-happen h (kept h reached there)
+  -- and whatever is due can happen, one thing after the other
+  pub runs-exist : (hs : List Happening) → AreBytes hs → AllDue (afterAll (since (gate tables memory)) first) hs → (last : Board) × Run h hs last
+  runs-exist hs = run-there hs h reached there
 
   -- a byte comes by a call of its own or in a block: a run can be cut at each thing that happens in it, a byte inside a block too, so
   -- all that is said below of a byte that comes by a call of its own is said of every byte

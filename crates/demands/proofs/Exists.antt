@@ -1,5 +1,5 @@
 -- From every board within its bounds each call that is lent enough can be taken, and each thing can happen: so runs exist.
-use mathlib.Core.Path.{_≡_, refl, sym, ap, subst, _∙_}
+use mathlib.Core.Path.{_≡_, refl, ap, subst, _∙_}
 use mathlib.Core.Bool.{true}
 use mathlib.Core.List.{List, [], append-nil}
 use Prim.Native.Nat.{ℕ, _≤_}
@@ -7,20 +7,20 @@ use native.Mathlib.Omega.{arith}
 use lib.ListN.{length, take, replicate, length-replicate}
 use lib.Seq.{take-length}
 use Rattle.document.specs.Bytes.{AllBytes}
+use Rattle.document.specs.Numbers.{taken}
 use Rattle.document.specs.Stores.{stored}
 use Rattle.document.specs.Asides.Aside.{tick, writes, collects, reports, prepares, starts, frames}
 use Rattle.document.specs.Happenings.{Happening}
 use Rattle.document.specs.Happenings.Happening.{byte, aside}
 use Rattle.laws_happenings.specs.Bytes.{IsBytes}
 use Rattle.state_block.specs.Layout.{decoded}
-use Rattle.laws_calls.specs.Calls.{Call, Lent, Outcome, row, sends, outcome}
-use Rattle.laws_calls.specs.Promised.{Promised}
+use Rattle.laws_calls.specs.Calls.{Call, Outcome, row, numberOf, sends, outcome}
 use Rattle.laws_calls.proofs.Allowed.{allowed}
 use Rattle.demands.specs.Board.{Board, withMemory, behind}
 use Rattle.demands.specs.Pieces.{Piece, lends, handedBack}
-use Rattle.demands.specs.Run.{wholly, Makes, Takes, Doing, doing, broughtBy, Does, DueTo, Step, Due}
+use Rattle.demands.specs.Run.{wholly, Makes, Takes, partly, Refuses, Doing, doing, broughtBy, Does, DueTo, Step, Due}
 use Rattle.demands.specs.Run.Doing.{calls, stores}
-use Rattle.demands.proofs.Calls.{served, Kept, ready, next-is}
+use Rattle.demands.proofs.Calls.{refused-kept, served, Kept, ready, next-is}
 
 -- all of it
 abbrev whole : List ℕ → Piece
@@ -29,34 +29,48 @@ whole l = record { size = length l; behind = [] }
 whole-lent : (l : List ℕ) → lends l (whole l) ≡ l
 whole-lent l = ap (take (length l)) (append-nil l) ∙ take-length l
 
-module _ (c : Call) (h : Board) (buffer : List ℕ) where
+-- a call over whatever pieces
+module _ (c : Call) (h : Board) (block memory : Piece) (buffer : List ℕ) where
   abbrev o : Outcome
-  o = outcome c (wholly h buffer)
+  o = outcome c (partly h block memory buffer)
 
   abbrev back : Board
   back =
-      behind h (handedBack (h .block) (whole (h .block)) (outcome c (wholly h buffer) .left .block))
-      (handedBack (h .memory) (whole (h .memory)) (outcome c (wholly h buffer) .left .memory)) (sends c (outcome c (wholly h buffer) .left))
+      behind h (handedBack (h .block) block (outcome c (partly h block memory buffer) .left .block))
+      (handedBack (h .memory) memory (outcome c (partly h block memory buffer) .left .memory)) (sends c (outcome c (partly h block memory buffer) .left))
 
   makes : Makes c h back
   makes =
       record {
-        block = whole (h .block);
-        memory = whole (h .memory);
+        block = block;
+        memory = memory;
         buffer = buffer;
         outcome = o;
-        promised =
-            subst (λ (l : Lent). Promised l c (outcome c (wholly h buffer)))
-            (λ j. record { block = sym (whole-lent (h .block)) j; memory = sym (whole-lent (h .memory)) j; buffer = buffer })
-            (allowed (wholly h buffer) c);
+        promised = allowed (partly h block memory buffer) c;
         board = refl;
       }
+
+  -- it leaves the board where it is refused
+  pub refuses : (numberOf c (partly h block memory buffer) ≡ taken → ⊥) → Refuses h h
+  unfolding makes
+  refuses refused =
+      let call : Refuses h back = record { call = c; made = makes; refused = refused } in
+      subst (λ (q : Board). Refuses h q) (refused-kept h back call) call
+
+module _ (c : Call) (h : Board) (buffer : List ℕ) where
+  all-lent : partly h (whole (h .block)) (whole (h .memory)) buffer ≡ wholly h buffer
+  all-lent = λ j. record { block = whole-lent (h .block) j; memory = whole-lent (h .memory) j; buffer = buffer }
 
   pub takes : Kept h → AllBytes (row c .brings) → row c .room ≤ length buffer → row c .due (decoded (h .block)) (h .memory) ≡ true → Takes c h (served c h buffer)
   unfolding makes
   takes k brings room due =
-      let call : Takes c h back = record { made = makes; fine = ready h (k .long) (k .within) c buffer room due } in
-      subst (λ (q : Board). Takes c h q) (next-is c h back call k (λ on. brings)) call
+      let next : Board = back c h (whole (h .block)) (whole (h .memory)) buffer in
+      let call : Takes c h next =
+      record {
+        made = makes c h (whole (h .block)) (whole (h .memory)) buffer;
+        fine = ap (numberOf c) all-lent ∙ ready h (k .long) (k .within) c buffer room due;
+      } in
+      subst (λ (q : Board). Takes c h q) (next-is c h next call k (λ on. brings)) call
 
 -- ---- what can happen
 

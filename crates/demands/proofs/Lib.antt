@@ -7,6 +7,7 @@ pub mod Bytes
 pub mod Reached
 pub mod Besides
 pub mod Runs
+pub mod RunsExist
 pub mod Walks
 pub mod Blocks
 pub mod Cuts
