@@ -12,6 +12,7 @@ pub mod Fresh
 pub mod Recorded
 pub mod Recorder
 pub mod Applying
+pub mod Trace
 pub mod Ports
 pub mod Independent
 pub mod Demands

@@ -9,5 +9,6 @@ pub mod Buffers
 pub mod Fresh
 pub mod Recorded
 pub mod Recorder
+pub mod Trace
 pub mod Applying
 pub mod Ports
