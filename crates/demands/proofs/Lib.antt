@@ -9,6 +9,7 @@ pub mod Runs
 pub mod Walks
 pub mod Blocks
 pub mod Fresh
+pub mod Followed
 pub mod Recorded
 pub mod Recorder
 pub mod Applying

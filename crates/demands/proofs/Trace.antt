@@ -40,7 +40,7 @@ use Rattle.document_outcomes.proofs.Sending.{as-served}
 use Rattle.laws_happenings.specs.Bytes.{bytesOf, AreBytes}
 use Rattle.laws_happenings.specs.Recording.{eventsAt, events, AllUnstarted, AllUndisturbed}
 use Rattle.laws_happenings.proofs.Resync.{bytes-after}
-use Rattle.laws_happenings.proofs.Follows.{Followed, followed-all, unstarted}
+use Rattle.laws_happenings.proofs.Follows.{unstarted}
 use Rattle.demands.specs.Board.{Board, gateIn}
 use Rattle.demands.specs.Run.{Step, Run}
 use Rattle.demands.specs.AsDefined.{AsDefined}
@@ -50,6 +50,7 @@ use Rattle.demands.specs.Trace.{TraceKept, TraceStays, takesSet, Watches
 use Rattle.demands.proofs.Reached.{Reached, plan-fits}
 use Rattle.demands.proofs.Runs.{reached-step}
 use Rattle.demands.proofs.Blocks.{reached-run}
+use Rattle.demands.proofs.Followed.{followed, recorder-then, memory-then}
 use Rattle.demands.proofs.Applying.{only-said}
 
 -- ---- one list of what happens behind another
@@ -94,23 +95,6 @@ module _ (g : Gate) (m : Message) where
     unfolding serviceOf served
     prepared-queried true is = as-served g m so-far 0xC9 is ∙ rw has refl
     prepared-queried false is = as-served g m so-far 0xC4 is ∙ rw has refl
-
--- ---- a recorder from a board on, until it is set up or started anew
-
-module _ (h : Board) (s : Since) (now : AsDefined h s) (size : length (h .memory) ≡ memoryEnd) (p : Plan) (r : DocumentRun) (has : gateIn h .recorder ≡ planned p r)
-    (hs : List Happening) (last : Board) (end : AsDefined last (afterAll s hs)) (quiet : AllUnstarted s hs) where
-  followed : Followed p (AllUndisturbed s hs) (afterAll s hs .gate) (record { run = r; memory = h .memory }) (events s hs)
-  followed =
-      let same-memory : s .gate .memory ≡ h .memory = ap (λ (g : Gate). g .memory) (sym (now .gate)) in
-      followed-all p hs s (record { run = r; memory = h .memory })
-      (record { recorder = ap (λ (g : Gate). g .recorder) (sym (now .gate)) ∙ has; memory = same-memory; size = ap length same-memory ∙ size })
-      quiet
-
-  recorder-then : gateIn last .recorder ≡ planned p (history.after p (record { run = r; memory = h .memory }) (events s hs) .run)
-  recorder-then = ap (λ (g : Gate). g .recorder) (end .gate) ∙ followed .follows .recorder
-
-  memory-then : last .memory ≡ history.after p (record { run = r; memory = h .memory }) (events s hs) .memory
-  memory-then = ap (λ (g : Gate). g .memory) (end .gate) ∙ followed .follows .memory
 
 -- ---- along a run
 
