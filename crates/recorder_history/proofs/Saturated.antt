@@ -1,15 +1,16 @@
 -- A coil that reads 0x8000, the lowest number or a high one: "Sign 1 reads both as two's complement of the trigger size, sign 0 as
--- unsigned." So a rising trigger fires there or not by its sign alone.
-use mathlib.Core.Path.{_≡_, ap, _∙_}
+-- unsigned." So with a threshold from 0 to 0x7FFF a rising trigger of 2 bytes fires there with sign 0 and not with sign 1.
+use mathlib.Core.Path.{_≡_, refl, ap, _∙_}
 use mathlib.Core.Bool.{true, false}
-use mathlib.Core.List.{List}
+use mathlib.Core.List.{List, []}
 use Prim.Native.Nat.{ℕ, _-_, _*_, _^_, _<_, _≤_}
 use native.Mathlib.Omega.{arith}
 use borrow.Author.Tests.{le-leb, lt-ltb, le-ltb}
 use Rattle.document.specs.Plan.{Plan, Trigger}
 use Rattle.document.specs.Trigger.{triggerValue, isBeyond}
-use Rattle.recorder_history.specs.History.{beyondIn}
+use Rattle.recorder_history.specs.History.{begun, beyondIn, TriggersNext}
 use Rattle.recorder_history.specs.Trace.{RisingWord}
+use Rattle.recorder_history.proofs.Beyond.{first-triggers}
 
 -- ---- at every width
 
@@ -35,3 +36,7 @@ module _ (p : Plan) (m : List ℕ) (reads : triggerValue (p .trigger) m ≡ 0x80
   saturated-short t clear =
       ap (isBeyond (p .trigger)) reads
       ∙ signed-short (p .trigger) 0x8000 (t .rising) (t .signed) (rw (t .word) clear) (rw (t .word) (omega arith))
+
+  -- after a start the trigger then comes at the first tick: what `Stop.stops` and `Trace.trigger-kept` ask
+  pub saturated-triggers : RisingWord (p .trigger) 0 → p .trigger .threshold ≤ 0x8000 → TriggersNext p (begun m)
+  saturated-triggers t above = first-triggers p m [] refl (saturated-beyond t above) tt
