@@ -371,8 +371,8 @@ module _ (block memory : List ℕ) (tables : List Table) (after : List ℕ) (lon
 
   -- an accepted start; then `hs` happens, and `mid` is the board behind it
   module _ (p : Plan) (just : gateIn h .recorder ≡ planned p started) (hs : List Happening) (mid : Board) (more : AreBytes hs) (on : Run h hs mid) where
-    -- "Why was its trace gone?": where the trigger comes at the next tick, and post-trigger is below 'samples', its own set is read among
-    -- the last ones after whatever happens, until the recorder is set up or started anew, or the gate's own program writes the buffer
+    -- when a trace is gone: where the trigger comes at the next tick, and post-trigger is below 'samples', its own set is read among the
+    -- last ones after whatever happens, until the recorder is set up or started anew, or the gate's own program writes the buffer
     pub trace-kept : (run-now : DocumentRun) → gateIn mid .recorder ≡ planned p run-now → TriggersNext p (record { run = run-now; memory = mid .memory })
         → p .postTrigger < p .samples → (fs : List Happening) (last : Board) → AreBytes fs → Run mid (aside tick ∷ fs) last
         → AllUndisturbed reached (hs ++ aside tick ∷ fs)
