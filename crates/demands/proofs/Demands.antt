@@ -6,7 +6,7 @@
 -- known (`laws_calls.Promised.Promised` names it), and that promise is the contract that the prover holds the compiled function to. What
 -- the calls are compared with is document 01 and the requests as definitions (`document`), never a program.
 use mathlib.Core.Path.{_≡_, refl, sym, ap, subst, _∙_}
-use mathlib.Core.Bool.{true, false}
+use mathlib.Core.Bool.{Bool, true, false, cond}
 use mathlib.Core.List.{List, [], _∷_, _++_}
 use Prim.Native.Nat.{ℕ, suc, _-_, _*_, _<_, _≤_}
 use lib.Dec.{ltb}
@@ -18,8 +18,11 @@ use Rattle.document.specs.Message.{Message, sumRight, summed, wellFormed, onWir
 use Rattle.document.specs.Answer.{Answer}
 use Rattle.document.specs.AnswerWriter.{answerRefusal}
 use Rattle.document.specs.CommandWriter.{commandRefusal}
+use Rattle.document.specs.Variables.{addressWidth}
 use Rattle.document.specs.Plan.{Plan}
-use Rattle.document.specs.Run.{Run as DocumentRun, started}
+use Rattle.document.specs.Trigger.{triggerValue}
+use Rattle.document.specs.Run.{Run as DocumentRun, started, setOf}
+use Rattle.document.specs.Run.Watch.{previous, triggered}
 use Rattle.document.specs.Recorder.{recorderPrepared}
 use Rattle.document.specs.Recorder.Recorder.{planned}
 use Rattle.document.specs.Sets.{setsTaken}
@@ -27,6 +30,7 @@ use Rattle.document.specs.Application.{isPending}
 use Rattle.document.specs.Application.Application.{waiting}
 use Rattle.document.specs.Tables.{Table}
 use Rattle.document.specs.Gate.{Gate, says, registered as gate}
+use Rattle.document.specs.Refusals.{refusal}
 use Rattle.document.specs.Commands.{answered}
 use Rattle.document.specs.Panel.{panelPrepares, panelStarts}
 use Rattle.document.specs.Modbus.{modbusRoom}
@@ -35,6 +39,7 @@ use Rattle.document.specs.Asides.Aside.{tick, reports, prepares, starts, frames
 use Rattle.document.specs.Happenings.{Happening, Since, after as happened, afterAll, fromReset as since}
 use Rattle.document.specs.Happenings.Happening.{byte, aside}
 use Rattle.recorder_history.specs.History.{memoriesLeft, TriggersNext, Unstopped}
+use Rattle.recorder_history.specs.Trace.{indexAfter, RisingWord}
 use Rattle.line_wire.specs.declared.Written.{Written}
 use Rattle.line_wire.specs.AnswerWritten.{AnswerWritten}
 use Rattle.line_receiver.specs.Report.{Beside, sinceReset}
@@ -89,6 +94,7 @@ use Rattle.demands.specs.Buffers.{BehindKept, BlockAsDefined}
 use Rattle.demands.specs.Fresh.{AnsweredFresh, NothingByHalf}
 use Rattle.demands.specs.Recorded.{Recorded}
 use Rattle.demands.specs.Recorder.{Begun, RunsOn, FiresAtFirst, OnlyItsPlace}
+use Rattle.demands.specs.Trace.{TraceKept, TraceStays, takesSet, Watches, Indexed, statusAnswer, queryAnswer}
 use Rattle.demands.specs.Applying.{OnlySaid, TellsResult}
 use Rattle.demands.specs.Ports.{OnlyVariables, SinceReset, SameService}
 use Rattle.demands.specs.Sums.{SumExactly}
@@ -107,6 +113,7 @@ use Rattle.demands.proofs.Fresh.{answered-fresh, by-half}
 use Rattle.demands.proofs.Recorded.{recorded}
 use Rattle.demands.proofs.Recorder.{start-begun, panel-begun, panel-prepared, tick-touches, run-fires, run-stops}
 use Rattle.demands.proofs.Applying.{only-said, sent-waits}
+use Rattle.demands.proofs.Trace as trace
 use Rattle.demands.proofs.Behind.{modbus-behind, collect-kept}
 use Rattle.demands.proofs.Ports.{frame-only}
 use Rattle.demands.proofs.Independent.{service-runs, modbus-runs}
@@ -408,6 +415,70 @@ module _ (block memory : List ℕ) (tables : List Table) (after : List ℕ) (lon
   command-pending hs last more on quiet pending =
       ap (λ (g : Gate). isPending (g .application)) (reached-run h last hs on reached more there .stands .gate)
       ∙ between hs reached (ap (λ (g : Gate). isPending (g .application)) (sym (there .stands .gate)) ∙ pending) quiet
+
+  -- ---- the recorder's trace
+
+  -- an accepted start; then `hs` happens, and `mid` is the board behind it
+  module _ (p : Plan) (just : gateIn h .recorder ≡ planned p started) (hs : List Happening) (mid : Board) (more : AreBytes hs) (on : Run h hs mid) where
+    -- when a trace is gone: where the trigger comes at the next tick, and post-trigger is below 'samples', its own set is read among the
+    -- last ones after whatever happens, until the recorder is set up or started anew, or the gate's own program writes the buffer
+    pub trace-kept : (run-now : DocumentRun) → gateIn mid .recorder ≡ planned p run-now → TriggersNext p (record { run = run-now; memory = mid .memory })
+        → p .postTrigger < p .samples → (fs : List Happening) (last : Board) → AreBytes fs → Run mid (aside tick ∷ fs) last
+        → AllUndisturbed reached (hs ++ aside tick ∷ fs)
+        → TraceKept p last (length (setsTaken p (memoriesLeft (h .memory) (events reached (hs ++ aside tick ∷ fs))))) (setOf p (mid .memory))
+    trace-kept run-now has triggers few fs last later then quiet =
+        trace.set-kept h reached there p just hs mid more on fs last later then quiet run-now has triggers few
+
+    module _ (quiet : AllUnstarted reached hs) where
+      -- "The start index is 0 until 'samples' sets are taken, then the place that would be written next."
+      pub recorder-start-index : Indexed p mid (length (setsTaken p (memoriesLeft (h .memory) (events reached hs))))
+      recorder-start-index = trace.indexed h reached there p just hs mid more on quiet
+
+      -- and the byte that finishes an accepted 0xC4 (0xC9) gets just that
+      pub start-index-told : (ex : Bool) (b : ℕ) (last : Board) → b < 256 → Step mid (byte b) last → (m : Message) (rest : List Message)
+          → finishedBy (bytesOf first ++ bytesOf hs) b ≡ m ∷ rest → m .command ≡ cond ex 0xC9 0xC4 → refusal (gateIn mid) m ≡ done
+          → OnlySaid (queryAnswer (addressWidth ex) (indexAfter (p .samples) (length (setsTaken p (memoriesLeft (h .memory) (events reached hs)))))) mid last
+      start-index-told ex b last small step m rest finished =
+          trace.index-told h reached there p just hs mid more on quiet ex b last small step m rest (ap (λ (l : List ℕ). finishedBy (l ++ bytesOf hs) b) reached-bytes ∙ finished)
+
+      -- with mode 0 it runs until a stop
+      pub recorder-mode-0 : p .trigger .mode ≡ 0 → Unstopped (events reached hs) → RunsOn p mid true
+      recorder-mode-0 = trace.mode-0-on h reached there p just hs mid more on quiet
+
+  -- a coil at 0x8000 when the recorder starts, a rising trigger of 2 bytes: the trigger comes at the first set where the sign is 0 and
+  -- the threshold not above it; with sign 1 and a threshold that is not below 0 it does not
+  module _ (p : Plan) (just : gateIn h .recorder ≡ planned p started) (reads : triggerValue (p .trigger) (h .memory) ≡ 0x8000) (last : Board) (step : Step h (aside tick) last) where
+    pub saturated-fires : RisingWord (p .trigger) 0 → p .trigger .threshold ≤ 0x8000 → Watches p last (triggered (p .postTrigger))
+    saturated-fires = trace.saturated-comes h reached there p just last step reads
+
+    pub saturated-signed : RisingWord (p .trigger) 1 → p .trigger .threshold < 0x8000 → Watches p last (previous 0x8000)
+    saturated-signed = trace.saturated-waits h reached there p just last step reads
+
+  -- a stopped recorder's trace stays, whatever either port brings
+  pub stopped-stays : (p : Plan) (run-now : DocumentRun) → gateIn h .recorder ≡ planned p run-now → run-now .running ≡ false → (hs : List Happening) (last : Board)
+      → AreBytes hs → Run h hs last → AllUndisturbed reached hs → TraceStays h last
+  stopped-stays = trace.trace-stays h reached there
+
+  -- a tick that takes no set, since the recorder waits or is stopped or there is none, leaves every byte of the memory
+  pub tick-takes-nothing : (last : Board) → Step h (aside tick) last → takesSet (gateIn h .recorder) ≡ false → last .memory ≡ h .memory
+  tick-takes-nothing = trace.memory-stays h reached there
+
+  -- "A recorder prepared and not started since" (2026-06): it is that after whatever happens
+  module _ (setup : List ℕ) (has : gateIn h .recorder ≡ recorderPrepared false setup) (hs : List Happening) (mid : Board) (more : AreBytes hs) (on : Run h hs mid) (quiet : AllUnstarted reached hs) where
+    pub prepared-stays : gateIn mid .recorder ≡ recorderPrepared false setup
+    prepared-stays = trace.prepared-then h reached there setup has hs mid more on quiet
+
+    module _ (b : ℕ) (last : Board) (small : b < 256) (step : Step mid (byte b) last) (m : Message) (rest : List Message)
+        (finished : finishedBy (bytesOf first ++ bytesOf hs) b ≡ m ∷ rest) (so-far : unrefusedSoFar m ≡ true) where
+      finished-mid : finishedBy (reached .bytes ++ bytesOf hs) b ≡ m ∷ rest
+      finished-mid = ap (λ (l : List ℕ). finishedBy (l ++ bytesOf hs) b) reached-bytes ∙ finished
+
+      -- it "answers 0x02 to 0xC3 and start index 0 to 0xC4"
+      pub prepared-status : m .command ≡ 0xC3 → OnlySaid (statusAnswer false) mid last
+      prepared-status = trace.prepared-stopped h reached there setup has hs mid more on quiet b last small step m rest finished-mid so-far
+
+      pub prepared-index : (ex : Bool) → m .command ≡ cond ex 0xC9 0xC4 → OnlySaid (queryAnswer (addressWidth ex) 0) mid last
+      prepared-index = trace.prepared-at-0 h reached there setup has hs mid more on quiet b last small step m rest finished-mid so-far
 
   -- "then the result": from its report on 0xC6 answers it, whatever happens, until another 0x10 is accepted
   module _ (result : ℕ) (reported : Board) (report : Step h (aside (reports result)) reported) (hs : List Happening) (before : Board) (more : AreBytes hs) where

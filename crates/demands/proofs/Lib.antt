@@ -12,10 +12,12 @@ pub mod Walks
 pub mod Blocks
 pub mod Cuts
 pub mod Fresh
+pub mod Followed
 pub mod Recorded
 pub mod Recorder
 pub mod Applying
 pub mod Behind
+pub mod Trace
 pub mod Ports
 pub mod Independent
 pub mod Noise

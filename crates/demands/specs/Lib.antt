@@ -10,6 +10,7 @@ pub mod Buffers
 pub mod Fresh
 pub mod Recorded
 pub mod Recorder
+pub mod Trace
 pub mod Applying
 pub mod Ports
 pub mod Sums
