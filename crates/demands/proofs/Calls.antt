@@ -23,7 +23,7 @@ use Rattle.call_checks.proofs.Settled.{long-decides}
 use Rattle.laws_calls.specs.Calls.{Call, Lent, Left, Sent, Found, Done, foundBy, doneBy, row, numberOf, leaves, sends, kept}
 use Rattle.laws_calls.proofs.Settled.{taken-leaves, call-refused}
 use Rattle.laws_calls.proofs.Known.{known}
-use Rattle.laws_calls.proofs.Bounds.{memory-whole, block-long, does-within, memory-kept}
+use Rattle.laws_calls.proofs.Bounds.{lengths, does-within}
 use Rattle.demands.specs.Board.{Board, behind}
 use Rattle.demands.specs.Pieces.{Piece, lends, handedBack}
 use Rattle.demands.specs.Run.{wholly, Makes, Takes, partly, Refuses, Ready}
@@ -92,10 +92,10 @@ module _ (c : Call) (h next : Board) (t : Takes c h next) (k : Kept h) where
   taken-number = sym (call-refused l c (t .made .outcome) (t .made .promised) .number) ∙ t .fine
 
   memory-same : row c .on-memory ≡ true → lends (h .memory) (t .made .memory) ≡ h .memory
-  memory-same on = wholly-lent (h .memory) (t .made .memory) (memory-whole c l on taken-number ∙ sym (k .within .memory-part .size))
+  memory-same on = wholly-lent (h .memory) (t .made .memory) (lengths l c taken-number .memory on ∙ sym (k .within .memory-part .size))
 
   pub state-same : row c .on-block ≡ true → decoded (lends (h .block) (t .made .block)) ≡ decoded (h .block)
-  state-same on = piece-state h k (t .made .block) (block-long c l on taken-number)
+  state-same on = piece-state h k (t .made .block) (lengths l c taken-number .block on)
 
   -- what it finds is there as it stands in the whole
   done-same : doneBy c (lent c h next (t .made)) ≡ doneBy c (wholly h (t .made .buffer))
@@ -131,7 +131,7 @@ module _ (c : Call) (h next : Board) (t : Takes c h next) (k : Kept h) where
         let next : Target = doneBy c l .state in
         let size = encoded-length next (within-fits next _ (within-next on)) in
         rw on
-        (stored-back (h .block) (t .made .block) (encoded next) (omega (arith, size, k .long)) (omega (arith, size, block-long c l on taken-number))
+        (stored-back (h .block) (t .made .block) (encoded next) (omega (arith, size, k .long)) (omega (arith, size, lengths l c taken-number .block on))
         ∙ ap (λ (d : Done). sets (h .block) 0 (encoded (d .state))) done-same))
         (λ off. rw off (lent-back (h .block) (t .made .block)))
 
@@ -139,7 +139,7 @@ module _ (c : Call) (h next : Board) (t : Takes c h next) (k : Kept h) where
     memory-size on =
         split (row c .on-block)
         (λ lent. (rw on at (within-next lent .memory-part .size)) ∙ sym (k .within .memory-part .size))
-        (λ none. memory-kept c l none ∙ ap length (memory-same on))
+        (λ none. lengths l c taken-number .kept none ∙ ap length (memory-same on))
 
     memory-back : handedBack (h .memory) (t .made .memory) (leaves c (lent c h next (t .made)) .memory) ≡ leaves c (wholly h (t .made .buffer)) .memory
     memory-back =

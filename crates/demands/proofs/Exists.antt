@@ -1,4 +1,4 @@
--- From every board within its bounds each call that is lent enough can be taken, and each thing can happen: so runs exist.
+-- From every board within its bounds each call that is lent enough can be taken, and refused whenever its number says so.
 use mathlib.Core.Path.{_≡_, refl, ap, subst, _∙_}
 use mathlib.Core.Bool.{true}
 use mathlib.Core.List.{List, [], append-nil}
@@ -9,16 +9,12 @@ use lib.Seq.{take-length}
 use Rattle.document.specs.Bytes.{AllBytes}
 use Rattle.document.specs.Numbers.{taken}
 use Rattle.document.specs.Stores.{stored}
-use Rattle.document.specs.Asides.Aside.{tick, writes, collects, reports, prepares, starts, frames}
-use Rattle.document.specs.Happenings.{Happening}
-use Rattle.document.specs.Happenings.Happening.{byte, aside}
-use Rattle.laws_happenings.specs.Bytes.{IsBytes}
 use Rattle.state_block.specs.Layout.{decoded}
 use Rattle.laws_calls.specs.Calls.{Call, Outcome, row, numberOf, sends, outcome}
 use Rattle.laws_calls.proofs.Allowed.{allowed}
 use Rattle.demands.specs.Board.{Board, withMemory, behind}
 use Rattle.demands.specs.Pieces.{Piece, lends, handedBack}
-use Rattle.demands.specs.Run.{wholly, Makes, Takes, partly, Refuses, Doing, doing, broughtBy, Does, DueTo, Step, Due}
+use Rattle.demands.specs.Run.{wholly, Makes, Takes, partly, Refuses, Doing, broughtBy, Does, DueTo}
 use Rattle.demands.specs.Run.Doing.{calls, stores}
 use Rattle.demands.proofs.Calls.{refused-kept, served, Kept, ready, next-is}
 
@@ -82,17 +78,3 @@ module _ (h : Board) (k : Kept h) where
   pub can-do : (d : Doing) → AllBytes (broughtBy d) → DueTo h d → (next : Board) × Does h d next
   can-do (calls c) are due = (served c h (roomFor c), takes c h (roomFor c) k are (omega (arith, length-replicate {A = ℕ} (row c .room) 0)) due)
   can-do (stores address bytes) are due = (withMemory h (stored (h .memory) address bytes), refl)
-
--- what is brought is bytes
-step-bytes : (e : Happening) → IsBytes e → AllBytes (broughtBy (doing e))
-step-bytes (byte b) small = (small, tt)
-step-bytes (aside tick) are = are
-step-bytes (aside (writes address bytes)) are = are
-step-bytes (aside collects) are = are
-step-bytes (aside (reports result)) are = are
-step-bytes (aside (prepares setup)) are = are
-step-bytes (aside starts) are = are
-step-bytes (aside (frames station bytes)) are = are
-
-pub can-happen : (h : Board) → Kept h → (e : Happening) → IsBytes e → Due h e → (next : Board) × Step h e next
-can-happen h k e are due = can-do h k (doing e) (step-bytes e are) due

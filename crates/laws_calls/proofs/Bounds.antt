@@ -67,32 +67,44 @@ passed : (t : Bool) → cond t taken stateRefused ≡ taken → t ≡ true
 passed true e = refl
 passed false e = let z : ⊥ = omega (arith, e) in absurd z
 
--- the memory of a taken call that is lent it is whole
-pub memory-whole : (c : Call) (l : Lent) → row c .on-memory ≡ true → numberOf c l ≡ taken → length (l .memory) ≡ memoryEnd
-memory-whole (byte b) l on fine = byte-known (blockSound (l .block)) (l .memory) (l .buffer) fine .1
-memory-whole (receive bytes) l on fine = byte-known (blockSound (l .block)) (l .memory) (l .buffer) fine .1
-memory-whole tick l on fine = tick-known (blockSound (l .block)) (l .memory) fine .1
-memory-whole collect l on fine = neither on
-memory-whole (report result) l on fine = neither on
-memory-whole (prepare setup) l on fine = neither on
-memory-whole start l on fine = neither on
-memory-whole (frame station bytes) l on fine = lent-right station (l .memory) (l .buffer) fine .memory-length
-memory-whole (register list) l on fine = taken-good (l .block) (l .memory) list fine .whole
-memory-whole reset l on fine = neither on
+-- what a taken call was lent is long enough; and one that is not lent the block leaves the memory its length
+pub record Lengths (c : Call) (l : Lent) : Type 0 where
+  pub block : row c .on-block ≡ true → stateLength ≤ length (l .block)
+  pub memory : row c .on-memory ≡ true → length (l .memory) ≡ memoryEnd
+  pub kept : row c .on-block ≡ false → length (doneBy c l .memory) ≡ length (l .memory)
 
--- and its block is long enough
-pub block-long : (c : Call) (l : Lent) → row c .on-block ≡ true → numberOf c l ≡ taken → stateLength ≤ length (l .block)
-block-long (byte b) l on fine = block-known (l .block) (byte-known (blockSound (l .block)) (l .memory) (l .buffer) fine .0) .0
-block-long (receive bytes) l on fine = block-known (l .block) (byte-known (blockSound (l .block)) (l .memory) (l .buffer) fine .0) .0
-block-long tick l on fine = block-known (l .block) (tick-known (blockSound (l .block)) (l .memory) fine .0) .0
-block-long collect l on fine = block-known (l .block) (collect-known (blockSound (l .block)) (l .buffer) fine .0) .0
-block-long (report result) l on fine =
-    block-known (l .block) (report-known (blockSound (l .block)) (commandIn (decoded (l .block))) result fine .0) .0
-block-long (prepare setup) l on fine = block-known (l .block) (passed (blockSound (l .block)) fine) .0
-block-long start l on fine = block-known (l .block) (passed (blockSound (l .block)) fine) .0
-block-long (frame station bytes) l on fine = neither on
-block-long (register list) l on fine = taken-good (l .block) (l .memory) list fine .long
-block-long reset l on fine = leb-true stateLength (length (l .block)) (passed (leb stateLength (length (l .block))) fine)
+module _ (l : Lent) where
+  long : blockSound (l .block) ≡ true → stateLength ≤ length (l .block)
+  long ok = block-known (l .block) ok .0
+
+  -- of a call that is lent the block, and of one that is lent it alone
+  both-lent : (c : Call) → row c .on-block ≡ true → stateLength ≤ length (l .block) → length (l .memory) ≡ memoryEnd → Lengths c l
+  both-lent c on block memory = record { block = λ lent. block; memory = λ lent. memory; kept = λ off. neither (sym off ∙ on) }
+
+  block-lent : (c : Call) → row c .on-block ≡ true → row c .on-memory ≡ false → stateLength ≤ length (l .block) → Lengths c l
+  block-lent c on none block = record { block = λ lent. block; memory = λ lent. neither (sym none ∙ lent); kept = λ off. neither (sym off ∙ on) }
+
+  pub lengths : (c : Call) → numberOf c l ≡ taken → Lengths c l
+  lengths (byte b) fine =
+      let known = byte-known (blockSound (l .block)) (l .memory) (l .buffer) fine in both-lent (byte b) refl (long (known .0)) (known .1)
+  lengths (receive bytes) fine =
+      let known = byte-known (blockSound (l .block)) (l .memory) (l .buffer) fine in both-lent (receive bytes) refl (long (known .0)) (known .1)
+  lengths tick fine = let known = tick-known (blockSound (l .block)) (l .memory) fine in both-lent tick refl (long (known .0)) (known .1)
+  lengths collect fine = block-lent collect refl refl (long (collect-known (blockSound (l .block)) (l .buffer) fine .0))
+  lengths (report result) fine =
+      block-lent (report result) refl refl (long (report-known (blockSound (l .block)) (commandIn (decoded (l .block))) result fine .0))
+  lengths (prepare setup) fine = block-lent (prepare setup) refl refl (long (passed (blockSound (l .block)) fine))
+  lengths start fine = block-lent start refl refl (long (passed (blockSound (l .block)) fine))
+  lengths (frame station bytes) fine =
+      record {
+        block = λ lent. neither lent;
+        memory = λ lent. lent-right station (l .memory) (l .buffer) fine .memory-length;
+        kept = λ off. frame-keeps-length station bytes (l .memory);
+      }
+  lengths (register list) fine =
+      let known = taken-good (l .block) (l .memory) list fine in both-lent (register list) refl (known .long) (known .whole)
+  lengths reset fine =
+      block-lent reset refl refl (leb-true stateLength (length (l .block)) (passed (leb stateLength (length (l .block))) fine))
 
 -- ---- within their bounds
 
@@ -132,19 +144,6 @@ module _ (l : Lent) (m : List ℕ) (good : MemoryWithin m) (lent : blockSound (l
       (subst MemoryWithin (sym is) good)
   does-within reset on is all fine = within-registered _ m no-tables good
 
--- a call that is not lent the block leaves the memory its length
-pub memory-kept : (c : Call) (l : Lent) → row c .on-block ≡ false → length (doneBy c l .memory) ≡ length (l .memory)
-memory-kept (byte b) l off = neither (sym off)
-memory-kept (receive bytes) l off = neither (sym off)
-memory-kept tick l off = neither (sym off)
-memory-kept collect l off = neither (sym off)
-memory-kept (report result) l off = neither (sym off)
-memory-kept (prepare setup) l off = neither (sym off)
-memory-kept start l off = neither (sym off)
-memory-kept (frame station bytes) l off = frame-keeps-length station bytes (l .memory)
-memory-kept (register list) l off = neither (sym off)
-memory-kept reset l off = neither (sym off)
-
 -- ---- no state handed out is outside its bounds
 
 -- a memory of zeros, for a call that is lent none
@@ -163,7 +162,7 @@ module _ (c : Call) (l : Lent) (o : Outcome) (are : BytesLent c l) (p : Promised
   sound-over m good on is fine =
       let number : numberOf c l ≡ taken = sym (call-refused l c o p .number) ∙ fine in
       let w = does-within l m good (lent-bytes m good) c on is (are .brought) number in
-      let long = block-long c l on number in
+      let long = lengths l c number .block on in
       let next : Target = doneBy c l .state in
       let there : decoded (sets (l .block) 0 (encoded next)) ≡ next = stored-decoded (l .block) next long (within-fits next _ w) in
       ap (λ (x : Left). blockSound (x .block)) (taken-leaves l c o p fine)
@@ -174,7 +173,7 @@ module _ (c : Call) (l : Lent) (o : Outcome) (are : BytesLent c l) (p : Promised
   given on fine =
       split (row c .on-memory)
       (λ lent.
-      let whole = memory-whole c l lent (sym (call-refused l c o p .number) ∙ fine) in
+      let whole = lengths l c (sym (call-refused l c o p .number) ∙ fine) .memory lent in
       sound-over (l .memory) (record { size = whole; bytes = are .memory }) on (rw lent refl) fine)
       (λ none. sound-over (replicate memoryEnd 0) zeros on (rw none refl) fine)
 
