@@ -22,6 +22,7 @@ use Rattle.demands.specs.Buffers.{BlockAsDefined}
 use Rattle.demands.proofs.Calls.{refused-kept, said-is, buffer-is, next-is}
 use Rattle.demands.proofs.Reached.{Reached, kept}
 use Rattle.demands.proofs.Runs.{reached-step, reached-singly}
+use Rattle.demands.proofs.Joined.{are-parts}
 use Rattle.demands.proofs.Walks.{boardAt, Walks, walk-goes}
 
 module _ (h : Board) (s : Since) (r : Reached h s) (bytes : List ℕ) (all : AllBytes bytes) (next : Board) (t : Takes (Call.receive bytes) h next) where
@@ -106,10 +107,6 @@ behind h mid last es fs (Singly.ends _) on = on
 behind h mid last es fs (Singly.happens _ next _ e rest step run) on = Singly.happens h next last e (rest ++ fs) step (behind next mid last rest fs run on)
 behind h mid last es fs (Singly.refuses _ next _ _ refused run) on = Singly.refuses h next last (es ++ fs) refused (behind next mid last es fs run on)
 
-are-behind : (es fs : List Happening) → AreBytes (es ++ fs) → AreBytes fs
-are-behind [] fs are = are
-are-behind (e ∷ es) fs are = are-behind es fs (are .1)
-
 -- a run in which bytes come in blocks is one in which they come singly
 pub singly : (h last : Board) (hs : List Happening) → Run h hs last → (s : Since) → AreBytes hs → Reached h s → Singly h hs last
 singly h last hs (ends _) s are r = Singly.ends h
@@ -118,7 +115,7 @@ singly h last hs (happens _ next _ e es step run) s are r =
 singly h last hs (blocks _ next _ bytes es all taking run) s are r =
     let these : List Happening = came (tookOf (taking .made .outcome .left)) bytes in
     behind h next last these es (block-singly h s r bytes all next taking)
-    (singly next last es run (afterAll s these) (are-behind these es are) (block-reached h s r bytes all next taking))
+    (singly next last es run (afterAll s these) (are-parts these es are .1) (block-reached h s r bytes all next taking))
 singly h last hs (refuses _ next _ _ refused run) s are r =
     Singly.refuses h next last hs refused (singly next last hs run s are (subst (λ (q : Board). Reached q s) (sym (refused-kept h next refused)) r))
 

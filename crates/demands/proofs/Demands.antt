@@ -101,7 +101,7 @@ use Rattle.demands.specs.Sums.{SumExactly}
 use Rattle.demands.specs.EndToEnd.{EndToEnd}
 use Rattle.demands.proofs.Wire as wire
 use Rattle.demands.proofs.Calls.{refused-kept, said-is, ready}
-use Rattle.demands.proofs.Exists.{takes}
+use Rattle.demands.proofs.Exists.{takes-all}
 use Rattle.demands.proofs.Reached.{Reached, kept, reached-begun, bytes-on, plan-fits}
 use Rattle.demands.proofs.Besides.{becomes, touches}
 use Rattle.demands.proofs.Runs.{byte-behind, reached-step, run-hands, run-answers}
@@ -197,10 +197,10 @@ module _ (block memory : List ℕ) (tables : List Table) (after : List ℕ) (lon
 
   -- ---- runs exist: what is said of them is said of something
 
-  -- each call that is lent its room can be taken, a whole block of bytes too
-  pub run-calls : (c : Call) (buffer : List ℕ) → AllBytes (call.row c .brings) → call.row c .room ≤ length buffer
-      → call.row c .due (decoded (h .block)) (h .memory) ≡ true → (next : Board) × Takes c h next
-  run-calls c buffer brings room due = (_, takes c h buffer (kept h reached there) brings room due)
+  -- each call that is lent its room can be taken, a whole block of bytes too, with this buffer
+  pub run-calls : (c : Call) (buffer : List ℕ) → call.row c .room ≤ length buffer → call.row c .due (decoded (h .block)) (h .memory) ≡ true
+      → (next : Board) × (call : Takes c h next) × (call .made .buffer ≡ buffer)
+  run-calls c buffer room due = (_, takes-all c h buffer (there .long) (there .within) room due, refl)
 
   -- and whatever is due can happen, one thing after the other
   pub runs-exist : (hs : List Happening) → AreBytes hs → AllDue (afterAll (since (gate tables memory)) first) hs → (last : Board) × Run h hs last

@@ -9,6 +9,8 @@ use lib.Seq.{take-length}
 use Rattle.document.specs.Bytes.{AllBytes}
 use Rattle.document.specs.Numbers.{taken}
 use Rattle.document.specs.Stores.{stored}
+use Rattle.state_parts.specs.Within.{Within}
+use Rattle.state_block.specs.Places.{stateLength}
 use Rattle.state_block.specs.Layout.{decoded}
 use Rattle.laws_calls.specs.Calls.{Call, Outcome, row, numberOf, sends, outcome}
 use Rattle.laws_calls.proofs.Allowed.{allowed}
@@ -35,7 +37,7 @@ module _ (c : Call) (h : Board) (block memory : Piece) (buffer : List ℕ) where
       behind h (handedBack (h .block) block (outcome c (partly h block memory buffer) .left .block))
       (handedBack (h .memory) memory (outcome c (partly h block memory buffer) .left .memory)) (sends c (outcome c (partly h block memory buffer) .left))
 
-  makes : Makes c h back
+  abbrev makes : Makes c h back
   makes =
       record {
         block = block;
@@ -48,25 +50,27 @@ module _ (c : Call) (h : Board) (block memory : Piece) (buffer : List ℕ) where
 
   -- it leaves the board where it is refused
   pub refuses : (numberOf c (partly h block memory buffer) ≡ taken → ⊥) → Refuses h h
-  unfolding makes
   refuses refused =
       let call : Refuses h back = record { call = c; made = makes; refused = refused } in
       subst (λ (q : Board). Refuses h q) (refused-kept h back call) call
 
 module _ (c : Call) (h : Board) (buffer : List ℕ) where
-  all-lent : partly h (whole (h .block)) (whole (h .memory)) buffer ≡ wholly h buffer
+  pub all-lent : partly h (whole (h .block)) (whole (h .memory)) buffer ≡ wholly h buffer
   all-lent = λ j. record { block = whole-lent (h .block) j; memory = whole-lent (h .memory) j; buffer = buffer }
 
-  pub takes : Kept h → AllBytes (row c .brings) → row c .room ≤ length buffer → row c .due (decoded (h .block)) (h .memory) ≡ true → Takes c h (served c h buffer)
-  unfolding makes
-  takes k brings room due =
-      let next : Board = back c h (whole (h .block)) (whole (h .memory)) buffer in
-      let call : Takes c h next =
+  -- lent all, and this buffer
+  abbrev pub takes-all : stateLength ≤ length (h .block) → Within (decoded (h .block)) (h .memory) → row c .room ≤ length buffer
+      → row c .due (decoded (h .block)) (h .memory) ≡ true → Takes c h (back c h (whole (h .block)) (whole (h .memory)) buffer)
+  takes-all long within room due =
       record {
         made = makes c h (whole (h .block)) (whole (h .memory)) buffer;
-        fine = ap (numberOf c) all-lent ∙ ready h (k .long) (k .within) c buffer room due;
-      } in
-      subst (λ (q : Board). Takes c h q) (next-is c h next call k (λ on. brings)) call
+        fine = ap (numberOf c) all-lent ∙ ready h long within c buffer room due;
+      }
+
+  pub takes : Kept h → AllBytes (row c .brings) → row c .room ≤ length buffer → row c .due (decoded (h .block)) (h .memory) ≡ true → Takes c h (served c h buffer)
+  takes k brings room due =
+      let call = takes-all (k .long) (k .within) room due in
+      subst (λ (q : Board). Takes c h q) (next-is c h _ call k (λ on. brings)) call
 
 -- ---- what can happen
 

@@ -8,6 +8,7 @@ pub mod Reached
 pub mod Besides
 pub mod Runs
 pub mod RunsExist
+pub mod Joined
 pub mod Walks
 pub mod Blocks
 pub mod Cuts
@@ -26,3 +27,6 @@ pub mod Results
 pub mod Sums
 pub mod Names
 pub mod Demands
+pub mod Example
+pub mod ExampleRecorder
+pub mod ExampleLine

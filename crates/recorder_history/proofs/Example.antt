@@ -10,7 +10,7 @@ use Rattle.document.specs.Plan.{Plan}
 use Rattle.document.specs.Trigger.{fires, isBeyond}
 use Rattle.document.specs.Run.{startIndex, ranTick, memoryAfterTick}
 use Rattle.document.specs.Sets.{setsTaken, readRound}
-use Rattle.recorder_history.specs.History.{PlanFits, Event, begun, after, memoriesLeft}
+use Rattle.recorder_history.specs.History.{PlanFits, Event, begun, after, AllLeaveBuffer, memoriesLeft}
 use Rattle.recorder_history.specs.History.Event.{tick, others}
 
 abbrev plan : Plan
@@ -52,6 +52,11 @@ ring-reads = refl
 pub stops-then : after plan (begun zeros) events .run .running ≡ false
 unfolding ranTick memoryAfterTick fires isBeyond
 stops-then = refl
+
+-- the history's premise is met: each of these leaves the buffer
+pub buffer-left : AllLeaveBuffer plan (begun zeros) events
+unfolding ranTick memoryAfterTick fires isBeyond
+buffer-left = ((refl, refl), (tt, (tt, ((refl, refl), (tt, (tt, ((refl, refl), (tt, (tt, (tt, (tt, (tt, tt))))))))))))
 
 -- ---- a rising trigger of 2 bytes with threshold 0x7000, and 0x8000 under it at every tick: "fires with sign 0, not with sign 1", at
 -- the first set (2026-02)
