@@ -326,8 +326,8 @@ module _ (block memory : List ℕ) (tables : List Table) (after : List ℕ) (lon
       subst (λ (l : List ℕ). NothingByHalf h last (l ++ (b ∷ []))) reached-bytes
       (by-half h last reached b (there .stands) (end .stands) (bytes-on h reached there (byte b ∷ []) (small, tt)))
 
-  -- ---- The recorder's history, from one accepted start (which leaves `planned p started`) to the next, with commands on the line
-  -- in between: "So long as nobody else writes the buffer, reading round from it as many places as sets were taken since the
+  -- ---- The recorder's history, from one accepted start (which leaves `planned p started`) to the next, or to an accepted preparing,
+  -- with commands on the line in between: "So long as nobody else writes the buffer, reading round from it as many places as sets were taken since the
   -- start, at most 'samples', gives the last sets of that history, oldest first."
 
   module _ (p : Plan) (just : gateIn h .recorder ≡ planned p started) (hs : List Happening) (last : Board) (more : AreBytes hs) where
