@@ -1,7 +1,7 @@
 -- Application commands along a run: what is said while one is pending.
 use mathlib.Core.Path.{_≡_, refl, sym, ap, _∙_}
 use mathlib.Core.Bool.{true}
-use mathlib.Core.List.{List, [], _∷_, _++_}
+use mathlib.Core.List.{List, _∷_, _++_}
 use Prim.Native.Nat.{ℕ}
 use Rattle.document.specs.Message.{Message, finishedBy}
 use Rattle.document.specs.Answer.{answerOnWire}
@@ -28,7 +28,7 @@ module _ (h last : Board) (s : Since) (now : AsDefined h s) (b : ℕ) (end : AsD
   gate-then : gateIn last ≡ answered (s .gate) m .gate
   gate-then = end .gate ∙ ap (λ (ms : List Message). afterMessages grown ms .gate) finished
 
-  answers-then : last .answers ≡ h .answers ++ answerOnWire (answered (s .gate) m .answer)
+  pub answers-then : last .answers ≡ h .answers ++ answerOnWire (answered (s .gate) m .answer)
   answers-then =
       end .answers
       ∙ ap (λ (ms : List Message). answersOnWire (afterMessages grown ms .answers)) finished

@@ -8,11 +8,10 @@ use native.Mathlib.Omega.{arith}
 use lib.ListN.{length, drop}
 use lib.Seq.{sets}
 use Rattle.document.specs.Bytes.{AllBytes}
-use Rattle.document.specs.Numbers.{taken}
 use Rattle.document.specs.Stores.{stored}
 use Rattle.document.specs.Areas.{variablesEnd}
 use Rattle.document.specs.Recorder.{ticked as ticks, tickedMemory}
-use Rattle.document.specs.Application.{newCommand, afterCollect, afterReport}
+use Rattle.document.specs.Application.{newCommand, isCollected, afterCollect, afterReport}
 use Rattle.document.specs.Gate.{Gate}
 use Rattle.document.specs.Modbus.{modbusMemory}
 use Rattle.document.specs.Asides.{Aside, beside}
@@ -29,10 +28,10 @@ use Rattle.application_state.proofs.Means.{new-few, collected-means, ended-mean
 use Rattle.recorder_taking.specs.Tick.{tickedState}
 use Rattle.recorder_taking.proofs.Ticked.{ticked-means}
 use Rattle.tables_state.specs.State.{tablesOf}
-use Rattle.state_parts.specs.State.{Target, withRecorder, withApplication, withInstruments, gateOf}
+use Rattle.state_parts.specs.State.{Target, gateOf}
 use Rattle.state_parts.specs.Within.{RecorderWithin, CommandWithin, MemoryWithin, Within}
 use Rattle.state_parts.proofs.Keeps.{recorder-started, recorder-ticked, command-collected, command-ended, memory-stored, memory-ticked}
-use Rattle.state_block.specs.Layout.{decodedApplication, decoded, encoded}
+use Rattle.state_block.specs.Layout.{decoded, encoded}
 use Rattle.call_checks.specs.Promises.{blockSound}
 use Rattle.call_checks.proofs.ApplicationNumbers.{collect-known, report-known}
 use Rattle.call_modbus.proofs.Answers.{lent-right}
@@ -43,15 +42,17 @@ use Rattle.laws_happenings.specs.Asides.{CommandStep, commandAfter, ifAny, hand
 use Rattle.laws_happenings.specs.Asides.CommandStep.{kept, collected, reported}
 use Rattle.laws_happenings.specs.Asides.RecorderStep.{stays, ticked, prepared, started}
 use Rattle.laws_happenings.proofs.Asides.{leaves}
-use Rattle.laws_calls.specs.Calls.{Call, numberOf}
-use Rattle.laws_calls.proofs.Settled.{call-refused}
+use Rattle.laws_calls.specs.Calls.{Call, commandIn}
+use Rattle.laws_calls.specs.Calls as call
+use Rattle.laws_calls.proofs.Bounds.{changed, changed-within}
 use Rattle.laws_calls.proofs.Sends.{collect-sends, frame-sends}
 use Rattle.demands.specs.Board.{Board, gateIn, behind}
-use Rattle.demands.specs.Run.{wholly, Takes, Beside}
+use Rattle.demands.specs.Pieces.{lends}
+use Rattle.demands.specs.Run.{wholly, Takes, Step}
 use Rattle.demands.specs.AsDefined.{linkIn}
 use Rattle.demands.specs.Touches.{Touches}
-use Rattle.demands.proofs.Calls.{next-is}
-use Rattle.demands.proofs.Reached.{Reached, there, reached-stored}
+use Rattle.demands.proofs.Calls.{served, taken-number, state-same, next-is}
+use Rattle.demands.proofs.Reached.{Reached, kept as kept-of, there, reached-stored}
 
 -- of two steps that differ
 abbrev isStays : RecorderStep → Bool
@@ -64,10 +65,6 @@ abbrev isKept : CommandStep → Bool
 isKept kept = true
 isKept collected = false
 isKept (reported result) = false
-
--- the state in a board's block, with this recorder and this application command
-abbrev pub changed : Target → RecorderState → Command → Target
-changed t recorder command = withInstruments t (withApplication (withRecorder (t .instruments) recorder) command)
 
 -- a board behind an aside
 pub record Becomes (h : Board) (s : Since) (a : Aside) (next : Board) : Type 0 where
@@ -93,9 +90,16 @@ module _ (h : Board) (s : Since) (r : Reached h s) where
   abbrev now : Target
   now = decoded (h .block)
 
-  -- a taken call's number, over all that the board has
-  pub number-taken : (c : Call) (next : Board) (t : Takes c h next) → numberOf c (wholly h (t .buffer)) ≡ taken
-  number-taken c next t = sym (call-refused (wholly h (t .buffer)) c (t .outcome) (t .promised) .number) ∙ t .fine
+  -- the board behind a taken call that brings bytes
+  next-of : (c : Call) (next : Board) (t : Takes c h next) → AllBytes (call.row c .brings) → next ≡ served c h (t .made .buffer)
+  next-of c next t are = next-is c h next t (kept-of h s r) (λ on. are)
+
+  -- a report that is taken had its command, and its result is one
+  pub report-taken : (result : ℕ) (next : Board) → Takes (Call.report result) h next → (result ≤ 0xFD) × (isCollected (commandIn (decoded (h .block))) ≡ true)
+  report-taken result next t =
+      let block : List ℕ = lends (h .block) (t .made .block) in
+      let known = report-known (blockSound block) (commandIn (decoded block)) result (taken-number (Call.report result) h next t (kept-of h s r)) in
+      (known .1, ap (λ (q : Target). isCollected (commandIn q)) (sym (state-same (Call.report result) h next t (kept-of h s r) refl)) ∙ known .2)
 
   -- the parts of the board are those of the gate
   recorder-is : recorderOf (decoded (h .block) .instruments .recorder) ≡ s .gate .recorder
@@ -156,10 +160,10 @@ module _ (h : Board) (s : Since) (r : Reached h s) where
             ∙ ap (λ (l : List ℕ). h .modbus-answers ++ ifAny l) (sym (leaves (s .gate) a .silent quiet (h .memory)));
       }
 
-  pub becomes : (a : Aside) (next : Board) → AllBytes (row a .brings) → Beside h a next → Becomes h s a next
+  pub becomes : (a : Aside) (next : Board) → AllBytes (row a .brings) → Step h (aside a) next → Becomes h s a next
   unfolding beside
   becomes tick next are step =
-      let is = next-is Call.tick h next step in
+      let is = next-of Call.tick next step tt in
       record {
         recorder = tickedState (now .instruments .recorder) (h .memory);
         command = now .instruments .application;
@@ -185,37 +189,37 @@ module _ (h : Board) (s : Since) (r : Reached h s) where
       (ap (λ (q : Board). q .answers) is) (ap (λ (q : Board). q .commands) is)
       (ap (λ (q : Board). q .modbus-answers) is ∙ sym (append-nil (h .modbus-answers)))
   becomes collects next are step =
-      let known = collect-known (blockSound (h .block)) (step .buffer) (number-taken Call.collect next step) in
+      let known = collect-known (blockSound (lends (h .block) (step .made .block))) (step .made .buffer) (taken-number Call.collect h next step (kept-of h s r)) in
       let c : Command = now .instruments .application in
-      let fits : length (newCommand (applicationOf c)) ≤ length (step .buffer) =
+      let fits : length (newCommand (applicationOf c)) ≤ length (step .made .buffer) =
       omega (arith, new-few c, r .within .application-part .size, known .1) in
       becomes-state collects next (now .instruments .recorder) (collectedCommand c) refl refl
-      (next-is Call.collect h next step
-      ∙ ap (behind h (sets (h .block) 0 (encoded (changed now (now .instruments .recorder) (collectedCommand c)))) (h .memory)) (collect-sends (wholly h (step .buffer)) fits))
+      (next-of Call.collect next step tt
+      ∙ ap (behind h (sets (h .block) 0 (encoded (changed now (now .instruments .recorder) (collectedCommand c)))) (h .memory)) (collect-sends (wholly h (step .made .buffer)) fits))
       (r .within .recorder-part) (command-collected c (r .within .application-part)) recorder-is
       (collected-means c ∙ ap afterCollect command-is) (λ same. refl) (λ never. neither (ap isKept never))
   becomes (reports result) next are step =
-      let known = report-known (blockSound (h .block)) (applicationOf (decodedApplication (h .block))) result (number-taken (Call.report result) next step) in
+      let known = report-taken result next step in
       let c : Command = now .instruments .application in
-      becomes-state (reports result) next (now .instruments .recorder) (endedCommand result c) refl refl (next-is (Call.report result) h next step)
-      (r .within .recorder-part) (command-ended c result (r .within .application-part) (known .1)) recorder-is
-      (ended-means c result (known .2) ∙ ap (afterReport result) command-is) (λ same. refl) (λ never. neither (ap isKept never))
+      becomes-state (reports result) next (now .instruments .recorder) (endedCommand result c) refl refl (next-of (Call.report result) next step are)
+      (r .within .recorder-part) (command-ended c result (r .within .application-part) (known .0)) recorder-is
+      (ended-means c result (known .1) ∙ ap (afterReport result) command-is) (λ same. refl) (λ never. neither (ap isKept never))
   becomes (prepares setup) next are step =
       let k : RecorderState = now .instruments .recorder in
-      becomes-state (prepares setup) next (givenNext k setup) (now .instruments .application) refl refl (next-is (Call.prepare setup) h next step)
+      becomes-state (prepares setup) next (givenNext k setup) (now .instruments .application) refl refl (next-of (Call.prepare setup) next step are)
       (given-within k setup are (r .within .recorder-part)) (r .within .application-part)
       (sym (ap (λ (g : Gate). g .recorder) (prepare-means (s .gate) k (sym recorder-is) setup))) command-is (λ never. neither (ap isStays never)) (λ same. refl)
   becomes starts next are step =
       let k : RecorderState = now .instruments .recorder in
-      becomes-state starts next (startedState k) (now .instruments .application) refl refl (next-is Call.start h next step)
+      becomes-state starts next (startedState k) (now .instruments .application) refl refl (next-of Call.start next step tt)
       (recorder-started k (r .within .recorder-part)) (r .within .application-part)
       (sym (ap (λ (g : Gate). g .recorder) (start-means (s .gate) k (sym recorder-is)))) command-is (λ never. neither (ap isStays never)) (λ same. refl)
   becomes (frames station bytes) next are step =
-      let room = lent-right station (h .memory) (step .buffer) (number-taken (Call.frame station bytes) next step) .room in
+      let room = lent-right station (lends (h .memory) (step .made .memory)) (step .made .buffer) (taken-number (Call.frame station bytes) h next step (kept-of h s r)) .room in
       let m = r .within .memory-part in
       let is =
-      next-is (Call.frame station bytes) h next step
-      ∙ ap (behind h (h .block) (modbusMemory station bytes (h .memory))) (frame-sends (wholly h (step .buffer)) station bytes room) in
+      next-of (Call.frame station bytes) next step are
+      ∙ ap (behind h (h .block) (modbusMemory station bytes (h .memory))) (frame-sends (wholly h (step .made .buffer)) station bytes room) in
       becomes-memory (frames station bytes) next refl refl (ap (λ (q : Board). q .block) is)
       (subst MemoryWithin (sym (ap (λ (q : Board). q .memory) is))
       (record { size = frame-keeps-length station bytes (h .memory) ∙ m .size; bytes = frame-keeps-bytes station bytes (h .memory) are (m .bytes) }))
@@ -230,16 +234,7 @@ module _ (h : Board) (s : Since) (r : Reached h s) where
     t = changed (decoded (h .block)) (b .recorder) (b .command)
 
     within : Within (changed (decoded (h .block)) (b .recorder) (b .command)) (next .memory)
-    within =
-        let w = r .within in
-        record {
-          link-part = record { receiver = w .link-part .receiver; command = w .link-part .command; size = w .link-part .size; body = w .link-part .body };
-          scope-part = w .scope-part;
-          recorder-part = b .recorder-within;
-          application-part = b .command-within;
-          tables-part = w .tables-part;
-          memory-part = b .memory-within;
-        }
+    within = changed-within (decoded (h .block)) (h .memory) (next .memory) (b .recorder) (b .command) (r .within) (b .recorder-within) (b .command-within) (b .memory-within)
 
     gate-after : gateOf (changed (decoded (h .block)) (b .recorder) (b .command) .instruments) (next .memory) ≡ beside (s .gate) a
     gate-after =

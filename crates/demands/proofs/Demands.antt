@@ -6,7 +6,7 @@
 -- known (`laws_calls.Promised.Promised` names it), and that promise is the contract that the prover holds the compiled function to. What
 -- the calls are compared with is document 01 and the requests as definitions (`document`), never a program.
 use mathlib.Core.Path.{_≡_, refl, sym, ap, subst, _∙_}
-use mathlib.Core.Bool.{true, false}
+use mathlib.Core.Bool.{Bool, true, false, cond}
 use mathlib.Core.List.{List, [], _∷_, _++_}
 use Prim.Native.Nat.{ℕ, suc, _-_, _*_, _<_, _≤_}
 use lib.Dec.{ltb}
@@ -14,12 +14,15 @@ use lib.ListN.{length, drop}
 use Rattle.document.specs.Numbers.{mostData, answerRoom, taken, done, busy, sumWrong}
 use Rattle.document.specs.Bytes.{AllBytes}
 use Rattle.document.specs.Areas.{variablesEnd}
-use Rattle.document.specs.Message.{Message, sumRight, wellFormed, onWire, finishedBy}
+use Rattle.document.specs.Message.{Message, sumRight, summed, wellFormed, onWire, finishedBy}
 use Rattle.document.specs.Answer.{Answer}
 use Rattle.document.specs.AnswerWriter.{answerRefusal}
 use Rattle.document.specs.CommandWriter.{commandRefusal}
+use Rattle.document.specs.Variables.{addressWidth}
 use Rattle.document.specs.Plan.{Plan}
-use Rattle.document.specs.Run.{Run as DocumentRun, started}
+use Rattle.document.specs.Trigger.{triggerValue}
+use Rattle.document.specs.Run.{Run as DocumentRun, started, setOf}
+use Rattle.document.specs.Run.Watch.{previous, triggered}
 use Rattle.document.specs.Recorder.{recorderPrepared}
 use Rattle.document.specs.Recorder.Recorder.{planned}
 use Rattle.document.specs.Sets.{setsTaken}
@@ -27,14 +30,16 @@ use Rattle.document.specs.Application.{isPending}
 use Rattle.document.specs.Application.Application.{waiting}
 use Rattle.document.specs.Tables.{Table}
 use Rattle.document.specs.Gate.{Gate, says, registered as gate}
+use Rattle.document.specs.Refusals.{refusal}
 use Rattle.document.specs.Commands.{answered}
 use Rattle.document.specs.Panel.{panelPrepares, panelStarts}
 use Rattle.document.specs.Modbus.{modbusRoom}
 use Rattle.document.specs.Asides.{Aside}
-use Rattle.document.specs.Asides.Aside.{tick, prepares, starts, frames}
+use Rattle.document.specs.Asides.Aside.{tick, reports, prepares, starts, frames}
 use Rattle.document.specs.Happenings.{Happening, Since, after as happened, afterAll, fromReset as since}
 use Rattle.document.specs.Happenings.Happening.{byte, aside}
 use Rattle.recorder_history.specs.History.{memoriesLeft, TriggersNext, Unstopped}
+use Rattle.recorder_history.specs.Trace.{indexAfter, RisingWord}
 use Rattle.line_wire.specs.declared.Written.{Written}
 use Rattle.line_wire.specs.AnswerWritten.{AnswerWritten}
 use Rattle.line_receiver.specs.Report.{Beside, sinceReset}
@@ -45,6 +50,7 @@ use Rattle.document_outcomes.specs.Starts.{isStart, Begins}
 use Rattle.document_outcomes.proofs.Recording.{start-begins}
 use Rattle.laws_happenings.specs.Asides.{waitingIn, preparesAnew, startsAnew, row}
 use Rattle.laws_happenings.specs.Bytes.{bytesOf, besideBytes, AreBytes}
+use Rattle.laws_happenings.specs.Due.{AllDue}
 use Rattle.laws_happenings.specs.Recording.{events, ticksOf, AllUnstarted, AllUndisturbed}
 use Rattle.document_outcomes.specs.Sending.{sends, unrefusedSoFar}
 use Rattle.document_outcomes.proofs.Sending.{while-pending}
@@ -60,16 +66,27 @@ use Rattle.state_block.specs.Layout.{decoded}
 use Rattle.call_checks.specs.Promises.{Checked}
 use Rattle.call_reader.specs.declared.calls.ReadByte.{ReadByte}
 use Rattle.call_reader.specs.Promises.{BeginDone, ReadDone}
-use Rattle.laws_calls.specs.Calls.{Call, Lent, Left, lengthOf, tookOf, wroteOf, Outcome, CallRefused}
+use Rattle.laws_calls.specs.Calls as call
+use Rattle.laws_calls.specs.Calls.{Call, Lent, lengthOf, tookOf, wroteOf, Outcome, CallRefused}
 use Rattle.laws_calls.specs.Promised.{Promised}
+use Rattle.laws_calls.specs.Bounds.{BytesLent, HandedOut}
 use Rattle.laws_calls.proofs.Settled as settled
 use Rattle.laws_calls.proofs.Settled.{call-refused}
+use Rattle.laws_calls.proofs.Bounds.{handed-out-bounded}
+use Rattle.laws_calls.proofs.Allowed.{prepare-alike, start-alike}
 use Rattle.laws_ends.specs.Refused.{WriteRefused, BeginRefused, ReadRefused}
-use Rattle.laws_ends.specs.Readings.{ByRead, Readings, Reads}
+use Rattle.laws_ends.specs.Readings.{ByRead, Readings, Reads, SixExactly}
+use Rattle.laws_ends.specs.Exchange.{Wrote, ReadSince, Expects}
 use Rattle.laws_ends.proofs.Refused as both-ends
 use Rattle.laws_ends.proofs.Readings as readings
+use Rattle.laws_ends.proofs.Exchange.{wrote-wire}
+use Rattle.modbus_check_sums.specs.Flips.{Sent}
+use Rattle.laws_modbus.specs.Damage.{Damaged}
+use Rattle.laws_names.specs.Names.{namesIn}
+use Rattle.laws_names.specs.Steps.{namesRead}
 use Rattle.demands.specs.Board.{Board, gateIn, begun}
 use Rattle.demands.specs.Run.{Takes, Refuses, Reset, Step, Singly, came, Run, Ready}
+use Rattle.demands.specs.Cut.{Cut}
 use Rattle.demands.specs.Refused.{CheckRefused, WireRefused}
 use Rattle.demands.specs.AsDefined.{blank, AsDefined}
 use Rattle.demands.specs.Touches.{Touches}
@@ -77,22 +94,34 @@ use Rattle.demands.specs.Buffers.{BehindKept, BlockAsDefined}
 use Rattle.demands.specs.Fresh.{AnsweredFresh, NothingByHalf}
 use Rattle.demands.specs.Recorded.{Recorded}
 use Rattle.demands.specs.Recorder.{Begun, RunsOn, FiresAtFirst, OnlyItsPlace}
-use Rattle.demands.specs.Applying.{OnlySaid}
+use Rattle.demands.specs.Trace.{TraceKept, TraceStays, takesSet, Watches, Indexed, statusAnswer, queryAnswer}
+use Rattle.demands.specs.Applying.{OnlySaid, TellsResult}
 use Rattle.demands.specs.Ports.{OnlyVariables, SinceReset, SameService}
+use Rattle.demands.specs.Sums.{SumExactly}
+use Rattle.demands.specs.EndToEnd.{EndToEnd}
 use Rattle.demands.proofs.Wire as wire
-use Rattle.demands.proofs.Calls.{refused-kept, left-is, ready}
-use Rattle.demands.proofs.Bytes.{turn-means}
-use Rattle.demands.proofs.Reached.{Reached, reached-begun, bytes-on, plan-fits}
+use Rattle.demands.proofs.Calls.{refused-kept, said-is, ready}
+use Rattle.demands.proofs.Exists.{takes-all}
+use Rattle.demands.proofs.Reached.{Reached, kept, reached-begun, bytes-on, plan-fits}
 use Rattle.demands.proofs.Besides.{becomes, touches}
-use Rattle.demands.proofs.Runs.{room-lent, reached-step, run-hands, run-answers}
+use Rattle.demands.proofs.Runs.{byte-behind, reached-step, run-hands, run-answers}
+use Rattle.demands.proofs.RunsExist.{run-there}
 use Rattle.demands.proofs.Blocks as blocks
 use Rattle.demands.proofs.Blocks.{singly, reached-run}
+use Rattle.demands.proofs.Cuts.{cut}
 use Rattle.demands.proofs.Fresh.{answered-fresh, by-half}
 use Rattle.demands.proofs.Recorded.{recorded}
 use Rattle.demands.proofs.Recorder.{start-begun, panel-begun, panel-prepared, tick-touches, run-fires, run-stops}
 use Rattle.demands.proofs.Applying.{only-said, sent-waits}
-use Rattle.demands.proofs.Ports.{modbus-behind, frame-only}
+use Rattle.demands.proofs.Trace as trace
+use Rattle.demands.proofs.Behind.{modbus-behind, collect-kept}
+use Rattle.demands.proofs.Ports.{frame-only}
 use Rattle.demands.proofs.Independent.{service-runs, modbus-runs}
+use Rattle.demands.proofs.Noise.{noise-unheard}
+use Rattle.demands.proofs.EndToEnd.{answer-comes-back}
+use Rattle.demands.proofs.Results.{told-result}
+use Rattle.demands.proofs.Sums.{finished-exactly}
+use Rattle.demands.proofs.Names.{names-come}
 
 -- ---- Demand 1: "The line may bring anything at any moment without a fault. No entry relies on its caller. Each refusal has one
 -- number from the document, given exactly when the document says, and changes no byte lent to the call (a refusal sent on the
@@ -104,6 +133,11 @@ use Rattle.demands.proofs.Independent.{service-runs, modbus-runs}
 pub demand-1-call : (l : Lent) (c : Call) (o : Outcome) → Promised l c o → CallRefused c l o
 demand-1-call = call-refused
 
+-- "1 a state outside the bounds listed in docs/, which no state handed out ever is": from any block within its bounds, since reset or
+-- kept elsewhere and checked
+pub demand-1-handed-out : (c : Call) (l : Lent) (o : Outcome) → BytesLent c l → Promised l c o → HandedOut c l o
+demand-1-handed-out = handed-out-bounded
+
 -- "show that two outcomes allowed by one promise are equal"
 pub one-outcome : (l : Lent) (c : Call) (o k : Outcome) → Promised l c o → Promised l c k → o ≡ k
 one-outcome = settled.one-outcome
@@ -114,7 +148,7 @@ demand-1-check = wire.check-refused
 -- "Bytes of it behind the answer keep their values; without an answer, all do.": and 256 bytes are room for every answer
 pub demand-1-modbus-behind : (l : Lent) (station : ℕ) (bytes : List ℕ) (o : Outcome) → Promised l (Call.frame station bytes) o
     → BehindKept modbusRoom (l .buffer) (lengthOf (o .left)) (o .left .buffer)
-demand-1-modbus-behind = modbus-behind
+demand-1-modbus-behind l station bytes o p = modbus-behind l o station bytes p
 
 -- both ends of the line: the answer writer, the command writer, the answer reader
 pub demand-1-answer : (a : Answer) (before : List ℕ) (r : Written) (after : List ℕ) → AnswerWritten a before r after
@@ -161,14 +195,27 @@ module _ (block memory : List ℕ) (tables : List Table) (after : List ℕ) (lon
   pub demand-1-run : Ready h
   demand-1-run = ready h (there .long) (there .within)
 
+  -- ---- runs exist: what is said of them is said of something
+
+  -- each call that is lent its room can be taken, a whole block of bytes too, with this buffer
+  pub run-calls : (c : Call) (buffer : List ℕ) → call.row c .room ≤ length buffer → call.row c .due (decoded (h .block)) (h .memory) ≡ true
+      → (next : Board) × (call : Takes c h next) × (call .made .buffer ≡ buffer)
+  run-calls c buffer room due = (_, takes-all c h buffer (there .long) (there .within) room due, refl)
+
+  -- and whatever is due can happen, one thing after the other
+  pub runs-exist : (hs : List Happening) → AreBytes hs → AllDue (afterAll (since (gate tables memory)) first) hs → (last : Board) × Run h hs last
+  runs-exist hs = run-there hs h reached there
+
+  -- a byte comes by a call of its own or in a block: a run can be cut at each thing that happens in it, a byte inside a block too, so
+  -- all that is said below of a byte that comes by a call of its own is said of every byte
+  pub run-cut : (earlier : List Happening) (e : Happening) (later : List Happening) (last : Board) → AreBytes (earlier ++ (e ∷ later))
+      → Run h (earlier ++ (e ∷ later)) last → Cut h earlier e later last
+  run-cut = cut h reached there
+
   -- "Bytes of it behind the answer keep their values; without an answer, all do.": of the buffer that this call was lent
   pub demand-1-behind : (b : ℕ) (next : Board) (call : Takes (Call.byte b) h next)
-      → BehindKept answerRoom (call .buffer) (lengthOf (call .outcome .left)) (call .outcome .left .buffer)
-  demand-1-behind b next call =
-      let room = room-lent h reached there b next call in
-      let stood = turn-means (decoded (h .block)) b (h .memory) (call .buffer) room reached (there .stands .gate) (there .stands .link-part) in
-      subst (λ (x : Left). BehindKept answerRoom (call .buffer) (lengthOf x) (x .buffer)) (sym (left-is (Call.byte b) h next call))
-      (record { behind = stood .behind; fits = stood .fits })
+      → BehindKept answerRoom (call .made .buffer) (lengthOf (call .made .outcome .left)) (call .made .outcome .left .buffer)
+  demand-1-behind b next call = byte-behind h reached there b next call
 
   -- ---- Demand 2: "Messages, commands and recorder do exactly what AN2471/D and the MCBCOM manual define, as document 01
   -- sets them out.": after any run the answers, the memory, the scope, the recorder and the application are the definition's
@@ -188,16 +235,20 @@ module _ (block memory : List ℕ) (tables : List Table) (after : List ℕ) (lon
 
   -- "The panel gives 0x09's data part (above 64 bytes 0x83) and gets the same statuses, in 01's order."
   module _ (setup : List ℕ) (next : Board) (step : Step h (aside (prepares setup)) next) where
-    pub demand-2-prepare : step .outcome .left .said ≡ panelPrepares (gateIn h) setup .answer .status ∷ []
-    demand-2-prepare = ap (λ (x : Left). x .said) (left-is (Call.prepare setup) h next step)
+    pub demand-2-prepare : step .made .outcome .left .said ≡ panelPrepares (gateIn h) setup .answer .status ∷ []
+    demand-2-prepare =
+        said-is (Call.prepare setup) h next step (kept h reached there)
+        ∙ ap (λ (n : ℕ). n ∷ []) (prepare-alike (decoded (h .block) .instruments) setup [] (h .memory))
 
     -- "A recorder prepared and not started since": of it `document.Panel` has the laws
     pub recorder-prepared : AllBytes setup → preparesAnew (gateIn h) setup ≡ true → gateIn next .recorder ≡ recorderPrepared false setup
     recorder-prepared all = panel-prepared h next reached (there .stands) setup (reached-step h reached there (aside (prepares setup)) next all step .stands)
 
   module _ (next : Board) (step : Step h (aside starts) next) where
-    pub demand-2-start : step .outcome .left .said ≡ panelStarts (gateIn h) .answer .status ∷ []
-    demand-2-start = ap (λ (x : Left). x .said) (left-is Call.start h next step)
+    pub demand-2-start : step .made .outcome .left .said ≡ panelStarts (gateIn h) .answer .status ∷ []
+    demand-2-start =
+        said-is Call.start h next step (kept h reached there)
+        ∙ ap (λ (n : ℕ). n ∷ []) (start-alike (decoded (h .block) .instruments) [] (h .memory))
 
     -- "01's sentence on reading round the buffer speaks again from the next start": the premise of the history below
     pub recorder-begun-by-panel : startsAnew (gateIn h) ≡ true → Begun next
@@ -208,19 +259,19 @@ module _ (block memory : List ℕ) (tables : List Table) (after : List ℕ) (lon
   module _ (bytes : List ℕ) (all : AllBytes bytes) (next : Board) (call : Takes (Call.receive bytes) h next) where
     -- "State, memory and answers equal those of giving the same bytes singly.": the bytes that it takes, each given by a call of its
     -- own, come to the same board
-    pub block-singly : Singly h (came (tookOf (call .outcome .left)) bytes) next
+    pub block-singly : Singly h (came (tookOf (call .made .outcome .left)) bytes) next
     block-singly = blocks.block-singly h reached there bytes all next call
 
     -- "It takes bytes while 132 bytes of room are left, and no longer, and reports bytes taken and bytes written.": as the definition
     -- has it, and every byte of the lent buffer is settled
-    pub demand-2-block : BlockAsDefined (afterAll (since (gate tables memory)) first) bytes (call .buffer) (call .outcome .left) next
+    pub demand-2-block : BlockAsDefined (afterAll (since (gate tables memory)) first) bytes (call .made .buffer) (call .made .outcome .left) next
     demand-2-block = blocks.block-means h reached there bytes all next call
 
     -- it takes all of them, unless the room that is left is too short for another answer
-    pub block-takes-all : answerRoom ≤ length (call .buffer) - wroteOf (call .outcome .left) → tookOf (call .outcome .left) ≡ length bytes
+    pub block-takes-all : answerRoom ≤ length (call .made .buffer) - wroteOf (call .made .outcome .left) → tookOf (call .made .outcome .left) ≡ length bytes
     block-takes-all enough =
         let stood = blocks.block-means h reached there bytes all next call in
-        stood .taken ∙ block-stops bytes reached (length (call .buffer)) (subst (λ (n : ℕ). answerRoom ≤ length (call .buffer) - n) (stood .written) enough)
+        stood .taken ∙ block-stops bytes reached (length (call .made .buffer)) (subst (λ (n : ℕ). answerRoom ≤ length (call .made .buffer) - n) (stood .written) enough)
 
   -- ---- Modbus on the second port (2026-07): demands 2 and 3 read the memory as both ports left it, since a frame is one of the things
   -- that happen
@@ -233,7 +284,12 @@ module _ (block memory : List ℕ) (tables : List Table) (after : List ℕ) (lon
 
   -- a frame changes bytes 0 to 8,191 at most, and nothing of the service port: not the link, in the midst of a message or not
   pub frame-touches : (station : ℕ) (bytes : List ℕ) (next : Board) → Step h (aside (frames station bytes)) next → OnlyVariables station bytes h next
-  frame-touches station bytes next step = frame-only station bytes h next step
+  frame-touches station bytes next step = frame-only station bytes h next (kept h reached there) step
+
+  -- noise there: a right frame in which two bits, any odd number of bits, or any of 16 neighbours are flipped gets silence, and the board
+  -- stays as it was, whatever its station and however long it is
+  pub modbus-noise : (station : ℕ) (sent got : List ℕ) → Sent sent got → Damaged sent got → (next : Board) → Step h (aside (frames station got)) next → next ≡ h
+  modbus-noise station sent got was damaged next step = noise-unheard station got h next (kept h reached there) step sent was damaged
 
   -- ---- Demand 3: "After any bytes since reset, with an even (or no) run of 0x2B just before, a start byte and a well-formed
   -- stuffed message get exactly the answer, and leave the memory, scope and recorder, that a freshly reset link would give over
@@ -270,8 +326,8 @@ module _ (block memory : List ℕ) (tables : List Table) (after : List ℕ) (lon
       subst (λ (l : List ℕ). NothingByHalf h last (l ++ (b ∷ []))) reached-bytes
       (by-half h last reached b (there .stands) (end .stands) (bytes-on h reached there (byte b ∷ []) (small, tt)))
 
-  -- ---- The recorder's history, from one accepted start (which leaves `planned p started`) to the next, with commands on the line
-  -- in between: "So long as nobody else writes the buffer, reading round from it as many places as sets were taken since the
+  -- ---- The recorder's history, from one accepted start (which leaves `planned p started`) to the next, or to an accepted preparing,
+  -- with commands on the line in between: "So long as nobody else writes the buffer, reading round from it as many places as sets were taken since the
   -- start, at most 'samples', gives the last sets of that history, oldest first."
 
   module _ (p : Plan) (just : gateIn h .recorder ≡ planned p started) (hs : List Happening) (last : Board) (more : AreBytes hs) where
@@ -360,6 +416,102 @@ module _ (block memory : List ℕ) (tables : List Table) (after : List ℕ) (lon
       ap (λ (g : Gate). isPending (g .application)) (reached-run h last hs on reached more there .stands .gate)
       ∙ between hs reached (ap (λ (g : Gate). isPending (g .application)) (sym (there .stands .gate)) ∙ pending) quiet
 
+  -- ---- the recorder's trace
+
+  -- an accepted start; then `hs` happens, and `mid` is the board behind it
+  module _ (p : Plan) (just : gateIn h .recorder ≡ planned p started) (hs : List Happening) (mid : Board) (more : AreBytes hs) (on : Run h hs mid) where
+    -- when a trace is gone: where the trigger comes at the next tick, and post-trigger is below 'samples', its own set is read among the
+    -- last ones after whatever happens, until the recorder is set up or started anew, or the gate's own program writes the buffer
+    pub trace-kept : (run-now : DocumentRun) → gateIn mid .recorder ≡ planned p run-now → TriggersNext p (record { run = run-now; memory = mid .memory })
+        → p .postTrigger < p .samples → (fs : List Happening) (last : Board) → AreBytes fs → Run mid (aside tick ∷ fs) last
+        → AllUndisturbed reached (hs ++ aside tick ∷ fs)
+        → TraceKept p last (length (setsTaken p (memoriesLeft (h .memory) (events reached (hs ++ aside tick ∷ fs))))) (setOf p (mid .memory))
+    trace-kept run-now has triggers few fs last later then quiet =
+        trace.set-kept h reached there p just hs mid more on fs last later then quiet run-now has triggers few
+
+    module _ (quiet : AllUnstarted reached hs) where
+      -- "The start index is 0 until 'samples' sets are taken, then the place that would be written next."
+      pub recorder-start-index : Indexed p mid (length (setsTaken p (memoriesLeft (h .memory) (events reached hs))))
+      recorder-start-index = trace.indexed h reached there p just hs mid more on quiet
+
+      -- and the byte that finishes an accepted 0xC4 (0xC9) gets just that
+      pub start-index-told : (ex : Bool) (b : ℕ) (last : Board) → b < 256 → Step mid (byte b) last → (m : Message) (rest : List Message)
+          → finishedBy (bytesOf first ++ bytesOf hs) b ≡ m ∷ rest → m .command ≡ cond ex 0xC9 0xC4 → refusal (gateIn mid) m ≡ done
+          → OnlySaid (queryAnswer (addressWidth ex) (indexAfter (p .samples) (length (setsTaken p (memoriesLeft (h .memory) (events reached hs)))))) mid last
+      start-index-told ex b last small step m rest finished =
+          trace.index-told h reached there p just hs mid more on quiet ex b last small step m rest (ap (λ (l : List ℕ). finishedBy (l ++ bytesOf hs) b) reached-bytes ∙ finished)
+
+      -- with mode 0 it runs until a stop
+      pub recorder-mode-0 : p .trigger .mode ≡ 0 → Unstopped (events reached hs) → RunsOn p mid true
+      recorder-mode-0 = trace.mode-0-on h reached there p just hs mid more on quiet
+
+  -- a coil at 0x8000 when the recorder starts, a rising trigger of 2 bytes: the trigger comes at the first set where the sign is 0 and
+  -- the threshold not above it; with sign 1 and a threshold that is not below 0 it does not
+  module _ (p : Plan) (just : gateIn h .recorder ≡ planned p started) (reads : triggerValue (p .trigger) (h .memory) ≡ 0x8000) (last : Board) (step : Step h (aside tick) last) where
+    pub saturated-fires : RisingWord (p .trigger) 0 → p .trigger .threshold ≤ 0x8000 → Watches p last (triggered (p .postTrigger))
+    saturated-fires = trace.saturated-comes h reached there p just last step reads
+
+    pub saturated-signed : RisingWord (p .trigger) 1 → p .trigger .threshold < 0x8000 → Watches p last (previous 0x8000)
+    saturated-signed = trace.saturated-waits h reached there p just last step reads
+
+  -- a stopped recorder's trace stays, whatever either port brings
+  pub stopped-stays : (p : Plan) (run-now : DocumentRun) → gateIn h .recorder ≡ planned p run-now → run-now .running ≡ false → (hs : List Happening) (last : Board)
+      → AreBytes hs → Run h hs last → AllUndisturbed reached hs → TraceStays h last
+  stopped-stays = trace.trace-stays h reached there
+
+  -- a tick that takes no set, since the recorder waits or is stopped or there is none, leaves every byte of the memory
+  pub tick-takes-nothing : (last : Board) → Step h (aside tick) last → takesSet (gateIn h .recorder) ≡ false → last .memory ≡ h .memory
+  tick-takes-nothing = trace.memory-stays h reached there
+
+  -- "A recorder prepared and not started since" (2026-06): it is that after whatever happens
+  module _ (setup : List ℕ) (has : gateIn h .recorder ≡ recorderPrepared false setup) (hs : List Happening) (mid : Board) (more : AreBytes hs) (on : Run h hs mid) (quiet : AllUnstarted reached hs) where
+    pub prepared-stays : gateIn mid .recorder ≡ recorderPrepared false setup
+    prepared-stays = trace.prepared-then h reached there setup has hs mid more on quiet
+
+    module _ (b : ℕ) (last : Board) (small : b < 256) (step : Step mid (byte b) last) (m : Message) (rest : List Message)
+        (finished : finishedBy (bytesOf first ++ bytesOf hs) b ≡ m ∷ rest) (so-far : unrefusedSoFar m ≡ true) where
+      finished-mid : finishedBy (reached .bytes ++ bytesOf hs) b ≡ m ∷ rest
+      finished-mid = ap (λ (l : List ℕ). finishedBy (l ++ bytesOf hs) b) reached-bytes ∙ finished
+
+      -- it "answers 0x02 to 0xC3 and start index 0 to 0xC4"
+      pub prepared-status : m .command ≡ 0xC3 → OnlySaid (statusAnswer false) mid last
+      prepared-status = trace.prepared-stopped h reached there setup has hs mid more on quiet b last small step m rest finished-mid so-far
+
+      pub prepared-index : (ex : Bool) → m .command ≡ cond ex 0xC9 0xC4 → OnlySaid (queryAnswer (addressWidth ex) 0) mid last
+      prepared-index = trace.prepared-at-0 h reached there setup has hs mid more on quiet b last small step m rest finished-mid so-far
+
+  -- "then the result": from its report on 0xC6 answers it, whatever happens, until another 0x10 is accepted
+  module _ (result : ℕ) (reported : Board) (report : Step h (aside (reports result)) reported) (hs : List Happening) (before : Board) (more : AreBytes hs) where
+    pub result-told : Run reported hs before → sentOf (happened (afterAll (since (gate tables memory)) first) (aside (reports result))) hs ≡ []
+        → (b : ℕ) (last : Board) → b < 256 → Step before (byte b) last
+        → (m : Message) (others : List Message) → finishedBy (bytesOf first ++ bytesOf hs) b ≡ m ∷ others → TellsResult result m before last
+    result-told on unsent b last small step m others finished =
+        told-result h reached there result reported report hs before more on unsent b last small step m others
+        (ap (λ (l : List ℕ). finishedBy (l ++ bytesOf hs) b) reached-bytes ∙ finished)
+
+  -- ---- end to end: what the command writer wrote comes over the line, behind any even run of 0x2B and with whatever happens beside it. The
+  -- answer over the gate as it stands at the last byte is sent, and the answer reader, to which it comes byte by byte, gives its status and
+  -- its data at its last byte, and nothing before. It must expect so many data as come with a success; of an error it gives the status
+  -- and no data, whatever it expects
+  module _ (command : ℕ) (body : List ℕ) (hs : List Happening) (before : Board) (b : ℕ) (last : Board) (n : ℕ) (more : AreBytes hs) (small : b < 256) where
+    pub end-to-end : oddRun (bytesOf first) ≡ false → Wrote command body (bytesOf hs ++ (b ∷ [])) → Run h hs before → Step before (byte b) last
+        → Expects n (answered (gateIn before) (summed command body) .answer) → EndToEnd n (answered (gateIn before) (summed command body) .answer) h last
+    end-to-end even written on step =
+        let wire = wrote-wire command body (bytesOf hs ++ (b ∷ [])) written in
+        answer-comes-back h before last _ (summed command body)
+        (demand-3-even hs before b last (summed command body) more small (wire .formed) even (sym (wire .wire)) on step) n
+
+  -- 0x82 "Given exactly when .. the sum is not 0 modulo 256", of the byte that finishes a message
+  pub sum-exactly : (b : ℕ) (last : Board) → b < 256 → Step h (byte b) last → (m : Message) (more : List Message) → finishedBy (bytesOf first) b ≡ m ∷ more
+      → SumExactly m h last
+  sum-exactly b last small step m more finished =
+      finished-exactly h last reached (there .stands) b (end-stands b last small step m more finished) m more (finished-there b last small step m more finished)
+
+  -- "Names instead of addresses" (2026-03): after any run the steps of source document 000, over the port, find each entry of each table
+  -- that was registered, with its name, its type, its address and its info, as the memory then holds them
+  pub names-over-port : namesRead (gateIn h) ≡ namesIn (h .memory) tables
+  names-over-port = names-come block memory tables after reset h reached there tables-stay
+
 -- ---- Two ports, one memory (2026-07): two runs since reset, with the same tables, of which one or both may have traffic on the other port
 
 module _ (tables : List Table) (memory memory′ : List ℕ) (hs ks : List Happening) (h k : Board)
@@ -391,3 +543,12 @@ recorder-starts = start-begins
 pub reader-run : (block : List ℕ) (n r : ℕ) (begun : List ℕ) → BeginDone block n r begun → r ≡ taken → (bs last : List ℕ) → Readings begun bs last
     → (b : ℕ) (next : List ℕ) (call : ByRead last b next) → mostData ≤ length (call .buffer) → Reads n bs b (call .buffer) (call .result) next (call .told)
 reader-run = readings.readings-give
+
+-- "6 a finished answer whose sum is wrong": since a reading began, a call says 6 exactly then
+pub reader-sum-exactly : (n : ℕ) (bs last : List ℕ) → ReadSince n bs last → (b : ℕ) (next : List ℕ) (call : ByRead last b next)
+    → SixExactly n bs b (call .buffer) (call .result)
+reader-sum-exactly n bs last since = readings.six-exactly (since .lent) n (since .number) (since .begun) (since .promised) (since .fine) bs last (since .run)
+
+-- ---- "Bytes behind the command, or all when nothing is new, keep their values.": refused or not (2026-01)
+pub collect-behind : (l : Lent) (o : Outcome) → Promised l Call.collect o → BehindKept mostData (l .buffer) (lengthOf (o .left)) (o .left .buffer)
+collect-behind = collect-kept

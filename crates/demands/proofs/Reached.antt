@@ -48,7 +48,7 @@ use Rattle.demands.specs.Board.{Board, gateIn, begun}
 use Rattle.demands.specs.Run.{Reset}
 use Rattle.demands.specs.Run.Reset.{by-reset, by-registering}
 use Rattle.demands.specs.AsDefined.{blank, linkIn, AsDefined}
-use Rattle.demands.proofs.Calls.{served}
+use Rattle.demands.proofs.Calls.{served, Kept}
 use Rattle.demands.proofs.Bytes.{gateAfter, turn-means}
 
 -- after these bytes
@@ -59,6 +59,9 @@ pub record Reached (h : Board) (s : Since) : Type 0 where
   pub bytes : AllBytes (s .bytes)
   -- the block holds nothing but what its state is encoded as
   pub stored : sets (h .block) 0 (encoded (decoded (h .block))) ≡ h .block
+
+pub kept : (h : Board) (s : Since) → Reached h s → Kept h
+kept h s r = record { long = r .long; within = r .within; stored = r .stored }
 
 -- what comes over the line is bytes
 line-bytes : (hs : List Happening) → AreBytes hs → AllBytes (bytesOf hs)

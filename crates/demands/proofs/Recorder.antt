@@ -1,7 +1,7 @@
 -- The recorder of a board along a run: an accepted start, a tick, and the ticks behind a trigger.
 use mathlib.Core.Path.{_≡_, sym, ap, _∙_, subst}
 use mathlib.Core.Bool.{true, false}
-use mathlib.Core.List.{List, [], _∷_, _++_}
+use mathlib.Core.List.{List, _∷_}
 use Prim.Native.Nat.{ℕ, suc, _+_, _*_}
 use lib.Dec.{ltb}
 use lib.ListN.{length, take, drop}
@@ -31,10 +31,10 @@ use Rattle.laws_happenings.specs.Asides.{preparesAnew, startsAnew}
 use Rattle.laws_happenings.specs.Recording.{events, ticksOf, AllUnstarted}
 use Rattle.laws_happenings.proofs.Panel.{prepare-anew, start-anew}
 use Rattle.laws_happenings.proofs.Ticks.{ticks-counted}
-use Rattle.laws_happenings.proofs.Follows.{followed-all}
 use Rattle.demands.specs.Board.{Board, gateIn}
 use Rattle.demands.specs.AsDefined.{AsDefined}
 use Rattle.demands.specs.Recorder.{Begun, RunsOn, FiresAtFirst, OnlyItsPlace}
+use Rattle.demands.proofs.Followed.{recorder-then, memory-then}
 
 module _ (h last : Board) (s : Since) (now : AsDefined h s) where
   -- the byte that finishes an accepted start
@@ -84,21 +84,12 @@ module _ (h last : Board) (s : Since) (now : AsDefined h s) where
     module _ (size : length (h .memory) ≡ memoryEnd) (hs : List Happening) (quiet : AllUnstarted s hs) (end : AsDefined last (afterAll s hs)) where
       pub run-fires : r ≡ started → FiresAtFirst p (h .memory) (events s hs) last
       run-fires begins =
-          let same-memory : s .gate .memory ≡ h .memory = ap (λ (q : Gate). q .memory) (sym (now .gate)) in
-          let follows =
-          followed-all p hs s (begun (h .memory))
-          (record {
-            recorder = ap (λ (q : Gate). q .recorder) (sym (now .gate)) ∙ has ∙ ap (planned p) begins;
-            memory = same-memory;
-            size = ap length same-memory ∙ size;
-          })
-          quiet
-          .follows in
+          let just : gateIn h .recorder ≡ planned p started = has ∙ ap (planned p) begins in
           let then : Recording = history.after p (begun (h .memory)) (events s hs) in
-          let memory : then .memory ≡ last .memory = sym (ap (λ (q : Gate). q .memory) (end .gate) ∙ follows .memory) in
+          let memory : then .memory ≡ last .memory = sym (memory-then h s now size p started just hs last end quiet) in
           record {
             run = then .run;
-            recorder = ap (λ (q : Gate). q .recorder) (end .gate) ∙ follows .recorder;
+            recorder = recorder-then h s now size p started just hs last end quiet;
             only-there =
                 subst
                 (λ (m : List ℕ). TriggersNext p (record { run = then .run; memory = m }) → (beyondIn p m ≡ true) × NoneBeyond p (begun (h .memory)) (events s hs))
@@ -115,18 +106,9 @@ module _ (h last : Board) (s : Since) (now : AsDefined h s) where
           → RunsOn p last (ltb (ticksOf hs) (p .postTrigger * suc (p .divider)))
       run-stops triggers unstopped =
           let g : Recording = record { run = r; memory = h .memory } in
-          let same-memory : s .gate .memory ≡ h .memory = ap (λ (q : Gate). q .memory) (sym (now .gate)) in
-          let followed =
-          followed-all p (aside tick ∷ hs) s g
-          (record {
-            recorder = ap (λ (q : Gate). q .recorder) (sym (now .gate)) ∙ has;
-            memory = same-memory;
-            size = ap length same-memory ∙ size;
-          })
-          quiet in
           record {
             run = _;
-            recorder = ap (λ (q : Gate). q .recorder) (end .gate) ∙ followed .follows .recorder;
+            recorder = recorder-then h s now size p r has (aside tick ∷ hs) last end quiet;
             is =
                 stops p g (events (after s (aside tick)) hs) triggers unstopped
                 ∙ ap (λ (n : ℕ). ltb n (p .postTrigger * suc (p .divider))) (ticks-counted hs (after s (aside tick)));

@@ -1,12 +1,13 @@
 -- What a run since reset comes to, step by step: a board within its bounds that is as the definition has it.
 use mathlib.Core.Path.{_≡_, sym, ap, subst, _∙_}
 use mathlib.Core.List.{List, _++_, append-nil, append-assoc}
-use Prim.Native.Nat.{ℕ, _≤_}
-use lib.ListN.{length}
+use Prim.Native.Nat.{ℕ, _<_, _≤_}
+use lib.ListN.{length, getD, drop}
 use Rattle.document.specs.Numbers.{answerRoom}
 use Rattle.document.specs.Gate.{Gate}
 use Rattle.document.specs.Happenings.{Happening, Since, after, afterAll}
 use Rattle.document.specs.Happenings.Happening.{byte, aside}
+use Rattle.state_block.specs.Layout.{decoded}
 use Rattle.call_checks.specs.Promises.{blockSound}
 use Rattle.call_checks.proofs.Numbers.{byte-known}
 use Rattle.laws_happenings.specs.Asides.{handedBy, ifAny, row}
@@ -14,35 +15,55 @@ use Rattle.laws_happenings.specs.Along.{along}
 use Rattle.laws_happenings.specs.Bytes.{IsBytes, AreBytes}
 use Rattle.laws_happenings.specs.Applying.{handedAt, handedOut}
 use Rattle.laws_happenings.specs.Ports.{modbusAt, modbusOf}
-use Rattle.laws_calls.specs.Calls.{Call}
+use Rattle.laws_calls.specs.Calls.{Call, lengthOf}
 use Rattle.demands.specs.Board.{Board}
+use Rattle.demands.specs.Buffers.{BehindKept}
+use Rattle.demands.specs.Pieces.{lends}
 use Rattle.demands.specs.Run.{Takes, Step, Singly}
 use Rattle.demands.specs.Run.Singly.{ends, happens, refuses}
-use Rattle.demands.proofs.Calls.{refused-kept, next-is}
-use Rattle.demands.proofs.Reached.{Reached, reached-byte}
-use Rattle.demands.proofs.Besides.{number-taken, becomes, reached-aside, touches}
+use Rattle.demands.proofs.Calls.{refused-kept, served, taken-number, said-is, buffer-is, next-is}
+use Rattle.demands.proofs.Bytes.{turn-means}
+use Rattle.demands.proofs.Reached.{Reached, kept, reached-byte}
+use Rattle.demands.proofs.Besides.{becomes, reached-aside, touches}
 
 module _ (h : Board) (s : Since) (r : Reached h s) where
   -- a byte that is taken was lent room for an answer
-  pub room-lent : (b : ℕ) (next : Board) (t : Takes (Call.byte b) h next) → answerRoom ≤ length (t .buffer)
-  room-lent b next t = byte-known (blockSound (h .block)) (h .memory) (t .buffer) (number-taken h s r (Call.byte b) next t) .2
+  pub room-lent : (b : ℕ) (next : Board) (t : Takes (Call.byte b) h next) → answerRoom ≤ length (t .made .buffer)
+  room-lent b next t = byte-known (blockSound (lends (h .block) (t .made .block))) (lends (h .memory) (t .made .memory)) (t .made .buffer) (taken-number (Call.byte b) h next t (kept h s r)) .2
+
+  -- of its buffer, what lies behind the answer
+  pub byte-behind : (b : ℕ) (next : Board) (t : Takes (Call.byte b) h next)
+      → BehindKept answerRoom (t .made .buffer) (lengthOf (t .made .outcome .left)) (t .made .outcome .left .buffer)
+  byte-behind b next t =
+      let buffer : List ℕ = t .made .buffer in
+      let stood = turn-means (decoded (h .block)) b (h .memory) buffer (room-lent b next t) s (r .stands .gate) (r .stands .link-part) in
+      let said = ap (λ (l : List ℕ). getD l 0 0) (said-is (Call.byte b) h next t (kept h s r)) in
+      let told = buffer-is (Call.byte b) h next t (kept h s r) in
+      record {
+        behind = (λ j. drop (said j) (told j)) ∙ stood .behind ∙ ap (λ (n : ℕ). drop n buffer) (sym said);
+        fits = subst (λ (n : ℕ). n ≤ answerRoom) (sym said) (stood .fits);
+      }
+
+  -- the board behind a byte
+  byte-next : (b : ℕ) (next : Board) → b < 256 → (t : Takes (Call.byte b) h next) → next ≡ served (Call.byte b) h (t .made .buffer)
+  byte-next b next small t = next-is (Call.byte b) h next t (kept h s r) (λ on. (small, tt))
 
   -- whatever happens, with whatever lent
   pub reached-step : (e : Happening) (next : Board) → IsBytes e → Step h e next → Reached next (after s e)
   reached-step (byte b) next small step =
-      subst (λ (q : Board). Reached q (after s (byte b))) (sym (next-is (Call.byte b) h next step))
-      (reached-byte h s r b small (step .buffer) (room-lent b next step))
+      subst (λ (q : Board). Reached q (after s (byte b))) (sym (byte-next b next small step))
+      (reached-byte h s r b small (step .made .buffer) (room-lent b next step))
   reached-step (aside a) next are step = reached-aside h s r a next (becomes h s r a next are step)
 
   -- what is handed out, and what the second port answers
   commands-step : (e : Happening) (next : Board) → IsBytes e → Step h e next → next .commands ≡ h .commands ++ handedAt s e
-  commands-step (byte b) next small step = ap (λ (q : Board). q .commands) (next-is (Call.byte b) h next step)
+  commands-step (byte b) next small step = ap (λ (q : Board). q .commands) (byte-next b next small step)
   commands-step (aside a) next are step =
       touches h s r a next (becomes h s r a next are step) .commands
       ∙ ap (λ (q : Gate). h .commands ++ handedBy (row a .command) (q .application)) (r .stands .gate)
 
   answers-step : (e : Happening) (next : Board) → IsBytes e → Step h e next → next .modbus-answers ≡ h .modbus-answers ++ modbusAt s e
-  answers-step (byte b) next small step = ap (λ (q : Board). q .modbus-answers) (next-is (Call.byte b) h next step)
+  answers-step (byte b) next small step = ap (λ (q : Board). q .modbus-answers) (byte-next b next small step)
   answers-step (aside a) next are step =
       touches h s r a next (becomes h s r a next are step) .modbus-answers
       ∙ ap (λ (q : Gate). h .modbus-answers ++ ifAny (row a .answer (q .memory))) (r .stands .gate)

@@ -28,36 +28,15 @@ use Rattle.state_block.specs.Places.{stateLength}
 use Rattle.state_block.specs.Layout.{decoded, encoded}
 use Rattle.state_block.proofs.Back.{stored-decoded}
 use Rattle.call_byte.proofs.Stores.{target-over}
-use Rattle.call_byte.proofs.Turns.{byte-taken}
-use Rattle.laws_calls.specs.Calls.{Call, leaves}
-use Rattle.laws_calls.specs.Promised.Promised.{by-byte}
+use Rattle.laws_calls.specs.Calls.{Call}
 use Rattle.demands.specs.Board.{Board}
 use Rattle.demands.specs.AsDefined.{linkIn}
-use Rattle.demands.specs.Run.{wholly, Step, Singly, came}
+use Rattle.demands.specs.Run.{Step, Singly, came}
 use Rattle.demands.specs.Run.Singly.{ends, happens}
-use Rattle.demands.proofs.Calls.{served, ready}
+use Rattle.demands.proofs.Calls.{served}
+use Rattle.demands.proofs.Exists.{takes}
 use Rattle.demands.proofs.Bytes.{TurnMeans, turn-means}
-use Rattle.demands.proofs.Reached.{Reached, reached-byte}
-
--- ---- a byte can be given singly
-
-module _ (h : Board) (s : Since) (r : Reached h s) (b : ℕ) (buffer : List ℕ) (room : answerRoom ≤ length buffer) where
-  abbrev u : Turn
-  u = turn (decoded (h .block)) b (h .memory) buffer
-
-  pub single : Step h (byte b) (served (Call.byte b) h buffer)
-  single =
-      record {
-        buffer = buffer;
-        outcome = record { number = taken; left = leaves (Call.byte b) (wholly h buffer) };
-        promised =
-            by-byte b (record { refusal = taken; length = u .length }) (sets (h .block) 0 (encoded (u .next))) (u .memory) (u .buffer)
-            (byte-taken (h .block) b (h .memory) buffer (u .length) (sets (h .block) 0 (encoded (u .next))) (u .memory) (u .buffer)
-            (ready h (r .long) (r .within) (Call.byte b) buffer room refl)
-            (record { length = refl; state = refl; memory-left = refl; buffer-told = refl }));
-        fine = refl;
-        board = refl;
-      }
+use Rattle.demands.proofs.Reached.{Reached, kept, reached-byte}
 
 -- ---- a walk, as boards
 
@@ -132,7 +111,7 @@ module _ (first : Board) (w : Walk) (long : stateLength ≤ length (first .block
           subst (λ (h : Board). Reached h (after s (byte b))) served-onward (reached-byte (boardAt first w) s r b small rest rest-size)
 
       onward-step : Step (boardAt first w) (byte b) (boardAt first (onward w (byteTurn w b)))
-      onward-step = subst (λ (h : Board). Step (boardAt first w) (byte b) h) served-onward (single (boardAt first w) s r b rest rest-size)
+      onward-step = subst (λ (h : Board). Step (boardAt first w) (byte b) h) served-onward (takes (Call.byte b) (boardAt first w) rest (kept (boardAt first w) s r) (small, tt) rest-size refl)
 
       -- what it brings to the wire
       stood : TurnMeans (byteTurn w b) (drop (w .written) (w .buffer)) (s .gate) (s .bytes ++ (b ∷ [])) (finishedBy (s .bytes) b)

@@ -2,6 +2,7 @@
 pub mod Board
 pub mod Pieces
 pub mod Run
+pub mod Cut
 pub mod AsDefined
 pub mod Touches
 pub mod Refused
@@ -9,5 +10,8 @@ pub mod Buffers
 pub mod Fresh
 pub mod Recorded
 pub mod Recorder
+pub mod Trace
 pub mod Applying
 pub mod Ports
+pub mod Sums
+pub mod EndToEnd

@@ -1,5 +1,5 @@
--- What a refused call was lent of something that the gate has: so many bytes of it, and of what lies behind it. What it was lent then
--- stands in its place again.
+-- What a call is lent of something that the gate has: so many bytes of it, and of what lies behind it. What it was lent then stands in
+-- its place again.
 use mathlib.Core.List.{List, _++_}
 use Prim.Native.Nat.{ℕ}
 use lib.ListN.{length, take, drop}

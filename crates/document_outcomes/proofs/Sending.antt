@@ -123,21 +123,23 @@ module _ (g : Gate) (m : Message) where
       (λ send. neither (sym (free-to-send g (m .body) (sent-accepted send) .0) ∙ pending))
       (λ no. application-after ∙ rw no refl)
 
-  module _ (pending : isPending (g .application) ≡ true) (so-far : unrefusedSoFar m ≡ true) where
+  module _ (so-far : unrefusedSoFar m ≡ true) where
     abbrev first : (sumRight m ≡ true) × (not (ltb mostData (length (m .body))) ≡ true)
     first = both (sumRight m) (not (ltb mostData (length (m .body)))) so-far
 
-    as-served : (c : ℕ) → m .command ≡ c → answered g m ≡ served g (serviceOf c) (m .body)
+    -- what its command's service makes of it
+    pub as-served : (c : ℕ) → m .command ≡ c → answered g m ≡ served g (serviceOf c) (m .body)
     as-served c is =
         answered-served g m (first .0) (not-true (ltb mostData (length (m .body))) (first .1)) ∙ ap (λ (d : ℕ). served g (serviceOf d) (m .body)) is
 
+  module _ (pending : isPending (g .application) ≡ true) (so-far : unrefusedSoFar m ≡ true) where
     pending-sent : m .command ≡ 0x10 → answered g m ≡ says g busy []
     unfolding serviceOf served
-    pending-sent is = as-served 0x10 is ∙ rw pending refl
+    pending-sent is = as-served so-far 0x10 is ∙ rw pending refl
 
     pending-asked : m .command ≡ 0xC6 → answered g m ≡ says g done (0xFE ∷ [])
     unfolding serviceOf served
-    pending-asked is = as-served 0xC6 is ∙ ap (λ (r : ℕ). says g done (r ∷ [])) (pending-byte (g .application) pending)
+    pending-asked is = as-served so-far 0xC6 is ∙ ap (λ (r : ℕ). says g done (r ∷ [])) (pending-byte (g .application) pending)
 
 pub while-pending : (g : Gate) → isPending (g .application) ≡ true → WhilePending g
 while-pending g pending =

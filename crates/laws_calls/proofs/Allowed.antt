@@ -1,7 +1,7 @@
 -- What the table says of a call, its promise allows: every call has an outcome, and one that the table takes can be taken.
 use mathlib.Core.Path.{_≡_, refl, sym, ap, subst, _∙_}
 use mathlib.Core.Bool.{cond}
-use mathlib.Core.List.{List, [], _∷_}
+use mathlib.Core.List.{List, []}
 use Prim.Native.Nat.{ℕ}
 use lib.Dec.{eqb, leb}
 use lib.ListN.{length}
@@ -20,15 +20,15 @@ use Rattle.call_byte.specs.declared.Taken.{Taken}
 use Rattle.call_block.specs.declared.BlockTaken.{BlockTaken}
 use Rattle.laws_calls.specs.Calls.{Call, Lent, Left, Outcome, tookOf, wroteOf, lengthOf, numberOf, leaves, outcome}
 use Rattle.laws_calls.specs.Calls.Call.{byte, receive, tick, collect, report, prepare, start, frame, register, reset}
-use Rattle.laws_calls.specs.Promised.{came, Promised}
+use Rattle.laws_calls.specs.Promised.{Promised}
 use Rattle.laws_calls.specs.Promised.Promised.{by-byte, by-block, by-tick, by-collect, by-report, by-prepare, by-start, by-modbus, by-register, by-reset}
 use Rattle.laws_calls.proofs.Settled.{settled}
 
 -- the panel's calls say the same over any memory
-prepare-alike : (i : Instruments) (setup memory other : List ℕ) → panelPrepares (gateOf i memory) setup .answer .status ≡ panelPrepares (gateOf i other) setup .answer .status
+pub prepare-alike : (i : Instruments) (setup memory other : List ℕ) → panelPrepares (gateOf i memory) setup .answer .status ≡ panelPrepares (gateOf i other) setup .answer .status
 prepare-alike i setup memory other = sym (given-said (gateOf i memory) setup) ∙ given-said (gateOf i other) setup
 
-start-alike : (i : Instruments) (memory other : List ℕ) → panelStarts (gateOf i memory) .answer .status ≡ panelStarts (gateOf i other) .answer .status
+pub start-alike : (i : Instruments) (memory other : List ℕ) → panelStarts (gateOf i memory) .answer .status ≡ panelStarts (gateOf i other) .answer .status
 unfolding panelStarts
 start-alike i memory other =
     split (eqb (firstOf (recorderLines (gateOf i memory))) done) (λ none. rw none refl) (λ some. rw some refl)
@@ -70,13 +70,13 @@ module _ (l : Lent) where
       let r : Said = either c (record { refusal = taken; status = lengthOf (leaves c l) }) (record { refusal = numberOf c l; status = 0 }) in (
         _,
         by-prepare setup r (either c (leaves c l .block) (l .block))
-            (record { result = λ memory. ap (λ (n : ℕ). either c (record { refusal = taken; status = n }) (record { refusal = numberOf c l; status = 0 })) (prepare-alike (decoded (l .block) .instruments) setup (l .memory) memory); state = refl }),
+            (record { result = λ memory. ap (λ (n : ℕ). either c (record { refusal = taken; status = n }) (record { refusal = numberOf c l; status = 0 })) (prepare-alike (decoded (l .block) .instruments) setup [] memory); state = refl }),
       )
   exists start =
       let r : Said = either start (record { refusal = taken; status = lengthOf (leaves start l) }) (record { refusal = numberOf start l; status = 0 }) in (
         _,
         by-start r (either start (leaves start l .block) (l .block))
-            (record { result = λ memory. ap (λ (n : ℕ). either start (record { refusal = taken; status = n }) (record { refusal = numberOf start l; status = 0 })) (start-alike (decoded (l .block) .instruments) (l .memory) memory); state = refl }),
+            (record { result = λ memory. ap (λ (n : ℕ). either start (record { refusal = taken; status = n }) (record { refusal = numberOf start l; status = 0 })) (start-alike (decoded (l .block) .instruments) [] memory); state = refl }),
       )
   exists (frame station bytes) =
       let c : Call = frame station bytes in

@@ -11,6 +11,7 @@ use Rattle.document.specs.Application.{isCollected}
 use Rattle.document.specs.Modbus.{modbusRoom}
 use Rattle.document.proofs.Cases.{both}
 use Rattle.state_block.specs.Places.{stateLength}
+use Rattle.state_block.specs.Layout.{decoded}
 use Rattle.call_checks.specs.Promises.{blockSound}
 use Rattle.laws_calls.specs.Calls.{Call, Lent, nothingSent, commandIn, row, numberOf, leaves, sends, kept}
 use Rattle.laws_calls.specs.Calls.Call.{byte, receive, tick, collect, report, prepare, start, frame, register, reset}
@@ -23,7 +24,7 @@ pub record Fit (l : Lent) : Type 0 where
 
 pub record Known (c : Call) (l : Lent) : Type 0 where
   pub none-sent : sends c (kept l (leaves c l)) ≡ nothingSent
-  pub asked-taken : Fit l → row c .room ≤ length (l .buffer) → row c .due l ≡ true → numberOf c l ≡ taken
+  pub asked-taken : Fit l → row c .room ≤ length (l .buffer) → row c .due (decoded (l .block)) (l .memory) ≡ true → numberOf c l ≡ taken
 
 pub known : (c : Call) (l : Lent) → Known c l
 known (byte b) l = record { none-sent = refl; asked-taken = λ fit room due. rw (fit .sound, fit .memory, le-ltb (length (l .buffer)) answerRoom room) refl }
@@ -34,7 +35,7 @@ known (report result) l =
     record {
       none-sent = refl;
       asked-taken = λ fit room due.
-          let t = both (leb result 0xFD) (isCollected (commandIn l)) due in
+          let t = both (leb result 0xFD) (isCollected (commandIn (decoded (l .block)))) due in
           rw (fit .sound, le-ltb 0xFD result (leb-true result 0xFD (t .0)), t .1) refl;
     }
 known (prepare setup) l = record { none-sent = refl; asked-taken = λ fit room due. rw (fit .sound) refl }

@@ -11,6 +11,7 @@ use Rattle.document.specs.Frames.{isSilenced}
 use Rattle.document.specs.Modbus.{functionIn, exceptionTo, answerTo, modbusAnswer, modbusRoom}
 use Rattle.document.proofs.Cases.{split}
 use Rattle.line_wire.proofs.Left.{sets-front}
+use Rattle.state_block.specs.Layout.{decoded}
 use Rattle.call_modbus.proofs.Sealed.{sealed-length}
 use Rattle.call_modbus.proofs.Responses.{answer-short}
 use Rattle.laws_happenings.specs.Asides.{ifAny, waitingIn}
@@ -31,11 +32,11 @@ modbus-fits station bytes memory =
     (λ loud. rw loud (omega (arith, answer-short bytes memory, sealed-length answer)))
 
 module _ (l : Lent) where
-  pub collect-sends : length (newCommand (commandIn l)) ≤ length (l .buffer)
-      → sends Call.collect (leaves Call.collect l) ≡ record { answers = []; commands = waitingIn (commandIn l); modbus-answers = [] }
+  pub collect-sends : length (newCommand (commandIn (decoded (l .block)))) ≤ length (l .buffer)
+      → sends Call.collect (leaves Call.collect l) ≡ record { answers = []; commands = waitingIn (commandIn (decoded (l .block))); modbus-answers = [] }
   collect-sends fits =
       ap (λ (new : List (List ℕ)). record { answers = []; commands = new; modbus-answers = [] })
-      (front-handed (newCommand (commandIn l)) (l .buffer) fits)
+      (front-handed (newCommand (commandIn (decoded (l .block)))) (l .buffer) fits)
 
   pub frame-sends : (station : ℕ) (bytes : List ℕ) → modbusRoom ≤ length (l .buffer)
       → sends (Call.frame station bytes) (leaves (Call.frame station bytes) l)

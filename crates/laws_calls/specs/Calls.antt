@@ -1,7 +1,7 @@
--- The calls that a gate makes, a row for each: the number that refuses it, over what it is lent, what it leaves when it is taken, what
+-- The calls that a gate makes, a row for each: what it is lent and brings, the number that refuses it, what it does when it is taken, what
 -- goes out with it, and what it asks for. All that is said of a call in a run is read off its row.
 use mathlib.Core.Path.{_≡_}
-use mathlib.Core.Bool.{Bool, true, cond, _&&_}
+use mathlib.Core.Bool.{Bool, true, false, cond, _&&_}
 use mathlib.Core.List.{List, [], _∷_, map}
 use Prim.Native.Nat.{ℕ}
 use lib.Dec.{eqb, leb}
@@ -21,15 +21,14 @@ use Rattle.tables_state.specs.State.{registeredList}
 use Rattle.state_parts.specs.State.{Target, gateOf}
 use Rattle.state_parts.specs.Bounds.{freshWith, fresh}
 use Rattle.state_block.specs.Places.{stateLength}
-use Rattle.state_block.specs.Layout.{decodedApplication, decoded, encoded}
+use Rattle.state_block.specs.Layout.{decoded, encoded}
 use Rattle.call_checks.specs.Promises.{byteNumber, tickNumber, collectNumber, reportNumber, panelNumber}
 use Rattle.state_byte.specs.Turn.{Turn, turn}
-use Rattle.state_byte.specs.Walk.{Walk}
+use Rattle.state_byte.specs.Walk.{Walk, begun, walked}
 use Rattle.call_tick.specs.Promises.{tickedTarget}
 use Rattle.call_application.specs.Promises.{collectedTarget, reportedTarget}
 use Rattle.call_register.specs.Promises.{registerNumber}
 use Rattle.call_panel.specs.Promises.{preparedTarget, startedTarget}
-use Rattle.call_block.specs.Going.{walk}
 
 pub data Call : Type 0 where
   byte : ℕ → Call
@@ -91,69 +90,96 @@ tookOf x = getD (x .said) 0 0
 abbrev pub wroteOf : Left → ℕ
 wroteOf x = getD (x .said) 1 0
 
--- ---- what is left
+-- ---- what is looked at, and what is done
 
--- a state stored in the block, the bytes behind it as they were; memory and buffer as they were
-abbrev pub storing : Lent → Target → List ℕ → Left
-storing l t said = record { said = said; block = sets (l .block) 0 (encoded t); memory = l .memory; buffer = l .buffer }
+-- the state that the block stands for, the memory and the buffer
+pub record Found : Type 0 where
+  pub state : Target
+  pub memory : List ℕ
+  pub buffer : List ℕ
 
-abbrev pub turned : Lent → Turn → Left
-turned l u = record { said = u .length ∷ []; block = sets (l .block) 0 (encoded (u .next)); memory = u .memory; buffer = u .buffer }
+-- what it says, and what it makes of each of them
+pub record Done : Type 0 where
+  pub said : List ℕ
+  pub state : Target
+  pub memory : List ℕ
+  pub buffer : List ℕ
 
-abbrev pub walkedOver : Lent → Walk → Left
-walkedOver l w =
-    record { said = w .taken ∷ w .written ∷ []; block = sets (l .block) 0 (encoded (w .next)); memory = w .memory; buffer = w .buffer }
+-- another state, and the rest as it was
+abbrev pub storing : Found → Target → List ℕ → Done
+storing f t said = record { said = said; state = t; memory = f .memory; buffer = f .buffer }
+
+abbrev pub turned : Turn → Done
+turned u = record { said = u .length ∷ []; state = u .next; memory = u .memory; buffer = u .buffer }
+
+abbrev pub walkedOver : Walk → Done
+walkedOver w = record { said = w .taken ∷ w .written ∷ []; state = w .next; memory = w .memory; buffer = w .buffer }
+
+abbrev pub commandIn : Target → Application
+commandIn t = applicationOf (t .instruments .application)
+
+abbrev pub gateFound : Found → Gate
+gateFound f = gateOf (f .state .instruments) (f .memory)
 
 -- ---- the rows
 
 pub record Row : Type 0 where
+  -- whether it is lent the block, and the memory
+  pub on-block : Bool
+  pub on-memory : Bool
+  -- what it brings, of which all are bytes
+  pub brings : List ℕ
   -- the number that refuses it, or 0
   pub number : Lent → ℕ
-  -- what it leaves when it is taken
-  pub leaves : Lent → Left
-  pub sends : Left → Sent
-  -- the room that it asks for, and what else, beside a sound block and the memory
+  -- what it does when it is taken
+  pub does : Found → Done
+  -- what goes out, of what it says and of the buffer behind it
+  pub sends : List ℕ → List ℕ → Sent
+  -- the room that it asks for, and what else of the state and the memory, beside that they are right
   pub room : ℕ
-  pub due : Lent → Bool
+  pub due : Target → List ℕ → Bool
 
-abbrev silent : Left → Sent
-silent x = nothingSent
+abbrev silent : List ℕ → List ℕ → Sent
+silent said told = nothingSent
 
-abbrev always : Lent → Bool
-always l = true
-
-abbrev pub commandIn : Lent → Application
-commandIn l = applicationOf (decodedApplication (l .block))
-
-abbrev pub gateLent : Lent → Gate
-gateLent l = gateOf (decoded (l .block) .instruments) (l .memory)
+abbrev always : Target → List ℕ → Bool
+always t memory = true
 
 abbrev pub row : Call → Row
 row (byte b) =
     record {
+      on-block = true;
+      on-memory = true;
+      brings = b ∷ [];
       number = λ l. byteNumber (l .block) (l .memory) (l .buffer);
-      leaves = λ l. turned l (turn (decoded (l .block)) b (l .memory) (l .buffer));
-      sends = λ x. answered (lengthOf x) (x .buffer);
+      does = λ f. turned (turn (f .state) b (f .memory) (f .buffer));
+      sends = λ said told. answered (getD said 0 0) told;
       room = answerRoom;
       due = always;
     }
 row (receive bytes) =
     record {
+      on-block = true;
+      on-memory = true;
+      brings = bytes;
       number = λ l. byteNumber (l .block) (l .memory) (l .buffer);
-      leaves = λ l. walkedOver l (walk (l .block) bytes (l .memory) (l .buffer));
-      sends = λ x. answered (wroteOf x) (x .buffer);
+      does = λ f. walkedOver (walked (begun (f .state) (f .memory) (f .buffer)) bytes);
+      sends = λ said told. answered (getD said 1 0) told;
       room = answerRoom;
       due = always;
     }
 row tick =
     record {
+      on-block = true;
+      on-memory = true;
+      brings = [];
       number = λ l. tickNumber (l .block) (l .memory);
-      leaves = λ l.
+      does = λ f.
           record {
             said = [];
-            block = sets (l .block) 0 (encoded (tickedTarget (decoded (l .block)) (l .memory)));
-            memory = tickedMemory (recorderOf (decoded (l .block) .instruments .recorder)) (l .memory);
-            buffer = l .buffer;
+            state = tickedTarget (f .state) (f .memory);
+            memory = tickedMemory (recorderOf (f .state .instruments .recorder)) (f .memory);
+            buffer = f .buffer;
           };
       sends = silent;
       room = 0;
@@ -161,82 +187,122 @@ row tick =
     }
 row collect =
     record {
+      on-block = true;
+      on-memory = false;
+      brings = [];
       number = λ l. collectNumber (l .block) (l .buffer);
-      leaves = λ l.
+      does = λ f.
           record {
-            said = length (newCommand (commandIn l)) ∷ [];
-            block = sets (l .block) 0 (encoded (collectedTarget (decoded (l .block))));
-            memory = l .memory;
-            buffer = collectBuffer (commandIn l) (l .buffer);
+            said = length (newCommand (commandIn (f .state))) ∷ [];
+            state = collectedTarget (f .state);
+            memory = f .memory;
+            buffer = collectBuffer (commandIn (f .state)) (f .buffer);
           };
-      sends = λ x. record { answers = []; commands = handedOut (lengthOf x) (x .buffer); modbus-answers = [] };
+      sends = λ said told. record { answers = []; commands = handedOut (getD said 0 0) told; modbus-answers = [] };
       room = mostData;
       due = always;
     }
 row (report result) =
     record {
+      on-block = true;
+      on-memory = false;
+      brings = result ∷ [];
       number = λ l. reportNumber (l .block) result;
-      leaves = λ l. storing l (reportedTarget result (decoded (l .block))) [];
+      does = λ f. storing f (reportedTarget result (f .state)) [];
       sends = silent;
       room = 0;
       -- a report waits for its command
-      due = λ l. leb result 0xFD && isCollected (commandIn l);
+      due = λ t memory. leb result 0xFD && isCollected (commandIn t);
     }
 row (prepare setup) =
     record {
+      on-block = true;
+      on-memory = false;
+      brings = setup;
       number = λ l. panelNumber (l .block);
-      leaves = λ l. storing l (preparedTarget setup (decoded (l .block))) (panelPrepares (gateLent l) setup .answer .status ∷ []);
+      does = λ f. storing f (preparedTarget setup (f .state)) (panelPrepares (gateFound f) setup .answer .status ∷ []);
       sends = silent;
       room = 0;
       due = always;
     }
 row start =
     record {
+      on-block = true;
+      on-memory = false;
+      brings = [];
       number = λ l. panelNumber (l .block);
-      leaves = λ l. storing l (startedTarget (decoded (l .block))) (panelStarts (gateLent l) .answer .status ∷ []);
+      does = λ f. storing f (startedTarget (f .state)) (panelStarts (gateFound f) .answer .status ∷ []);
       sends = silent;
       room = 0;
       due = always;
     }
 row (frame station bytes) =
     record {
+      on-block = false;
+      on-memory = true;
+      brings = bytes;
       number = λ l. modbusRefusal station (l .memory) (l .buffer);
-      leaves = λ l.
+      does = λ f.
           record {
-            said = length (modbusAnswer station bytes (l .memory)) ∷ [];
-            block = l .block;
-            memory = modbusMemory station bytes (l .memory);
-            buffer = modbusBuffer station bytes (l .memory) (l .buffer);
+            said = length (modbusAnswer station bytes (f .memory)) ∷ [];
+            state = f .state;
+            memory = modbusMemory station bytes (f .memory);
+            buffer = modbusBuffer station bytes (f .memory) (f .buffer);
           };
-      sends = λ x. record { answers = []; commands = []; modbus-answers = handedOut (lengthOf x) (x .buffer) };
+      sends = λ said told. record { answers = []; commands = []; modbus-answers = handedOut (getD said 0 0) told };
       room = modbusRoom;
-      due = λ l. isStation station;
+      due = λ t memory. isStation station;
     }
 row (register list) =
     record {
+      on-block = true;
+      on-memory = true;
+      brings = list;
       number = λ l. registerNumber (l .block) (l .memory) list;
-      leaves = λ l. storing l (freshWith (registeredList list)) [];
+      does = λ f. storing f (freshWith (registeredList list)) [];
       sends = silent;
       room = 0;
-      due = λ l. eqb (registerRefusal (l .memory) list) taken;
+      due = λ t memory. eqb (registerRefusal memory list) taken;
     }
 row reset =
     record {
+      on-block = true;
+      on-memory = false;
+      brings = [];
       number = λ l. cond (leb stateLength (length (l .block))) taken stateRefused;
-      leaves = λ l. storing l fresh [];
+      does = λ f. storing f fresh [];
       sends = silent;
       room = 0;
       due = always;
     }
 
+-- what it is not lent it does not look at, and leaves
+abbrev pub foundBy : Call → Lent → Found
+foundBy c l =
+    record {
+      state = cond (row c .on-block) (decoded (l .block)) fresh;
+      memory = cond (row c .on-memory) (l .memory) [];
+      buffer = l .buffer;
+    }
+
+abbrev pub doneBy : Call → Lent → Done
+doneBy c l = row c .does (foundBy c l)
+
+-- a state is stored in the block, and the bytes behind it stay as they were
+abbrev pub leaves : Call → Lent → Left
+leaves c l =
+    record {
+      said = doneBy c l .said;
+      block = cond (row c .on-block) (sets (l .block) 0 (encoded (doneBy c l .state))) (l .block);
+      memory = cond (row c .on-memory) (doneBy c l .memory) (l .memory);
+      buffer = doneBy c l .buffer;
+    }
+
 abbrev pub numberOf : Call → Lent → ℕ
 numberOf c l = row c .number l
 
-abbrev pub leaves : Call → Lent → Left
-leaves c l = row c .leaves l
-
 abbrev pub sends : Call → Left → Sent
-sends c x = row c .sends x
+sends c x = row c .sends (x .said) (x .buffer)
 
 -- ---- refused or not
 

@@ -4,12 +4,13 @@ use mathlib.Core.Bool.{true}
 use mathlib.Core.List.{List, [], _∷_, _++_, foldl-append, append-assoc, append-nil}
 use Prim.Native.Nat.{ℕ, _<_, _≤_}
 use native.Mathlib.Omega.{arith}
-use borrow.Author.Tests.{le-leb, le-ltb, lt-ltb, ltb-false, leb-true}
+use borrow.Author.Tests.{le-leb, le-ltb, lt-ltb, ltb-true, ltb-false, leb-true}
 use lib.Dec.{leb, ltb}
 use lib.ListN.{length}
 use lib.Seq.{sets, length-sets}
-use Rattle.document.specs.Numbers.{mostData, taken, roomRefused}
-use Rattle.document.specs.AnswerReader.{Brought, brought, readRoomRefusal, readBuffer}
+use Rattle.document.specs.Numbers.{mostData, taken, roomRefused, sumRefused}
+use Rattle.document.specs.Answer.{Reading, readingRight, answerFinishedBy}
+use Rattle.document.specs.AnswerReader.{Brought, broughtBy, brought, readRoomRefusal, readRefusal, readBuffer}
 use Rattle.document.proofs.Cases.{split}
 use Rattle.line_reader.specs.Reader.{AnswerReader, Step, sound, fresh, stepped, readerAfter}
 use Rattle.line_reader.proofs.Reading.{reader-brings, reader-within}
@@ -17,7 +18,8 @@ use Rattle.line_reader.proofs.Idle.{wrong-idle, after-size}
 use Rattle.call_reader.specs.Layout.{readerLength, decodedReader, encodedReader}
 use Rattle.call_reader.specs.Promises.{beginNumber, BeginDone, readNumber, without, readOf}
 use Rattle.call_reader.proofs.Back.{stored-reader}
-use Rattle.laws_ends.specs.Readings.{ByRead, Readings, Reads}
+use Rattle.call_reader.specs.declared.calls.ReadByte.{ReadByte}
+use Rattle.laws_ends.specs.Readings.{ByRead, Readings, Reads, FinishedWrong, SixExactly}
 use Rattle.laws_ends.specs.Readings.Readings.{ends, reads, refuses}
 use Rattle.laws_ends.proofs.ByNumber.{where-taken, where-refused}
 
@@ -84,6 +86,37 @@ module _ (n : ℕ) (few : n ≤ mostData) (bs block : List ℕ) (h : Holds n bs 
               ∙ wrong-idle (decodedReader block) b (brings ∙ bad);
         }
 
+    -- without room the number is 3
+    short-number : length (c .buffer) < mostData → c .result .refusal ≡ roomRefused
+    short-number short =
+        let no = no-room (c .buffer) short in
+        ap (λ (r : ReadByte). r .refusal)
+        (where-refused number (c .result) (readOf (step .brings)) (without number) (λ e. absurd (omega (arith, no, e))) (c .promised .result))
+        ∙ no
+
+-- ---- 6, by what the byte finishes
+
+number-of : (k : Brought) → readOf k .refusal ≡ readRefusal k
+number-of Brought.nothing = refl
+number-of (Brought.answer a) = refl
+number-of Brought.wrong = refl
+
+module _ (n : ℕ) (bs : List ℕ) (b : ℕ) where
+  wrong-only : readRefusal (brought n bs b) ≡ sumRefused → FinishedWrong n bs b
+  unfolding brought
+  wrong-only six = by (answerFinishedBy n bs b) refl
+    where
+      by : (rs : List Reading) → answerFinishedBy n bs b ≡ rs → FinishedWrong n bs b
+      by [] e = let z : ⊥ = omega (arith, rw e at six) in absurd z
+      by (r ∷ rs) e =
+          split (readingRight r)
+          (λ right. let z : ⊥ = omega (arith, rw (e, right) at six) in absurd z)
+          (λ wrong. record { reading = r; others = rs; finished = e; wrong = wrong })
+
+  wrong-always : FinishedWrong n bs b → readRefusal (brought n bs b) ≡ sumRefused
+  unfolding brought
+  wrong-always f = ap (λ (rs : List Reading). readRefusal (broughtBy rs)) (f .finished) ∙ rw (f .wrong) refl
+
 holds-after : (n : ℕ) → n ≤ mostData → (bs more block last : List ℕ) → Readings block more last → Holds n bs block → Holds n (bs ++ more) last
 holds-after n few bs more block last (ends _) h = subst (λ (l : List ℕ). Holds n l block) (sym (append-nil bs)) h
 holds-after n few bs more block last (reads _ next _ b rest call room run) h =
@@ -117,3 +150,19 @@ module _ (block : List ℕ) (n r : ℕ) (begun : List ℕ) (begin : BeginDone bl
   pub readings-give : (b : ℕ) (next : List ℕ) (call : ByRead last b next) → mostData ≤ length (call .buffer)
       → Reads n bs b (call .buffer) (call .result) next (call .told)
   readings-give b next call room = read-gives n (known .1) bs last holds b next call room
+
+  -- "6 a finished answer whose sum is wrong"
+  pub six-exactly : (b : ℕ) (next : List ℕ) (call : ByRead last b next) → SixExactly n bs b (call .buffer) (call .result)
+  six-exactly b next call =
+      let refusal : mostData ≤ length (call .buffer) → call .result .refusal ≡ readRefusal (brought n bs b) =
+      λ room. ap (λ (q : ReadByte). q .refusal) (readings-give b next call room .result) ∙ number-of (brought n bs b) in
+      record {
+        only = λ six.
+            split (ltb (length (call .buffer)) mostData)
+            (λ less.
+            let z : ⊥ = omega (arith, six, short-number n (known .1) bs last holds b next call (ltb-true (length (call .buffer)) mostData less)) in absurd z)
+            (λ enough.
+            let room = ltb-false (length (call .buffer)) mostData enough in
+            (room, wrong-only n bs b (sym (refusal room) ∙ six)));
+        always = λ room wrong. refusal room ∙ wrong-always n bs b wrong;
+      }

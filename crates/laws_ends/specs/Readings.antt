@@ -1,9 +1,11 @@
 -- A run of the answer reader's calls since a reading began: each brings its byte and lends a buffer of its own, refused ones among them.
 use mathlib.Core.Path.{_≡_}
+use mathlib.Core.Bool.{false}
 use mathlib.Core.List.{List, [], _∷_}
 use Prim.Native.Nat.{ℕ, _<_, _≤_}
 use lib.ListN.{length}
-use Rattle.document.specs.Numbers.{mostData}
+use Rattle.document.specs.Numbers.{mostData, sumRefused}
+use Rattle.document.specs.Answer.{Reading, readingRight, answerFinishedBy}
 use Rattle.document.specs.AnswerReader.{brought, readBuffer}
 use Rattle.document.specs.AnswerReader.Brought.{wrong}
 use Rattle.line_reader.specs.Reader.{idle}
@@ -33,3 +35,15 @@ pub record Reads (n : ℕ) (bs : List ℕ) (b : ℕ) (buffer : List ℕ) (r : Re
   pub buffer-told : told ≡ readBuffer (brought n bs b) buffer
   -- "6 alone consumes its byte and leaves the reader idle."
   pub idle-after : brought n bs b ≡ wrong → decodedReader next .phase ≡ idle
+
+-- "6 a finished answer whose sum is wrong": the byte b finishes one
+pub record FinishedWrong (n : ℕ) (bs : List ℕ) (b : ℕ) : Type 0 where
+  pub reading : Reading
+  pub others : List Reading
+  pub finished : answerFinishedBy n bs b ≡ reading ∷ others
+  pub wrong : readingRight reading ≡ false
+
+-- 6 is said exactly then; without room it is 3, and the byte has not come
+pub record SixExactly (n : ℕ) (bs : List ℕ) (b : ℕ) (buffer : List ℕ) (r : ReadByte) : Type 0 where
+  pub only : r .refusal ≡ sumRefused → (mostData ≤ length buffer) × FinishedWrong n bs b
+  pub always : mostData ≤ length buffer → FinishedWrong n bs b → r .refusal ≡ sumRefused

@@ -1,22 +1,27 @@
 -- Application commands (2026-01) over what happens to a gate: each is handed out at most once, in order, as it stood in its message.
 use mathlib.Core.Path.{_≡_, refl, sym, ap, _∙_}
-use mathlib.Core.Bool.{true, false}
-use mathlib.Core.List.{List, [], _∷_, _++_, append-assoc, append-nil}
+use mathlib.Core.Bool.{true, false, not}
+use mathlib.Core.List.{List, [], _∷_, _++_, append-assoc, append-nil, append-eq-nil-iff}
 use Prim.Native.Nat.{ℕ}
-use lib.Dec.{eqb}
+use native.Mathlib.Omega.{arith}
+use borrow.Author.Tests.{not-true}
+use lib.Dec.{eqb, ltb}
 use lib.ListN.{length}
-use Rattle.document.specs.Message.{Message, finishedBy}
-use Rattle.document.specs.Application.{Application, isPending, isCollected, afterCollect, afterReport}
+use Rattle.document.specs.Numbers.{mostData, done}
+use Rattle.document.specs.Message.{Message, sumRight, finishedBy}
+use Rattle.document.specs.Services.{serviceOf}
+use Rattle.document.specs.Application.{Application, isPending, isCollected, resultByte, afterCollect, afterReport}
 use Rattle.document.specs.Application.Application.{none, waiting, collected, ended}
 use Rattle.document.specs.Tables.{Table}
-use Rattle.document.specs.Gate.{Gate, registered}
-use Rattle.document.specs.Commands.{answered}
+use Rattle.document.specs.Gate.{Gate, says, registered}
+use Rattle.document.specs.Commands.{served, answered}
 use Rattle.document.specs.Happenings.{Happening, Since, afterMessages, after, afterAll, fromReset}
 use Rattle.document.specs.Happenings.Happening.{byte, aside}
-use Rattle.document.proofs.Cases.{split, neither}
+use Rattle.document.proofs.Cases.{split, neither, both}
 use Rattle.laws_happenings.specs.Asides.{CommandStep, commandAfter, ifAny, waitingIn, handedBy, NoResultBy, row}
 use Rattle.laws_happenings.specs.Asides.CommandStep.{kept, collected as collects, reported as reports}
-use Rattle.document_outcomes.specs.Sending.{sends}
+use Rattle.document_outcomes.specs.Sending.{sends, unrefusedSoFar}
+use Rattle.document_outcomes.proofs.Answered.{answered-served}
 use Rattle.document_outcomes.proofs.Sending.{application-after, free-to-send, sent-accepted, pending-kept}
 use Rattle.laws_happenings.specs.Bytes.{withByte}
 use Rattle.laws_happenings.specs.Applying.{sentBy, sentAt, sentOf, waitingAt, handedAt, handedOut, Pending, Unreported, AllUnreported}
@@ -121,3 +126,39 @@ stays-pending s (aside a) quiet pending =
 pub between : (hs : List Happening) (s : Since) → Pending s → AllUnreported s hs → Pending (afterAll s hs)
 between [] s pending quiet = pending
 between (h ∷ hs) s pending quiet = between hs (after s h) (stays-pending s h (quiet .0) pending) (quiet .1)
+
+-- ---- a result that is in is told until the next command is sent
+
+step-ended : (o : CommandStep) (result : ℕ) → commandAfter o (ended result) ≡ ended result
+step-ended kept result = refl
+step-ended collects result = refl
+step-ended (reports later) result = refl
+
+message-ended : (g : Gate) (m : Message) (ms : List Message) → sentBy g (m ∷ ms) ≡ [] → answered g m .gate .application ≡ g .application
+message-ended g m ms unsent =
+    split (sends g m)
+    (λ send. let z : ⊥ = omega (arith, ap length (rw send at unsent)) in absurd z)
+    (λ other. application-after g m ∙ rw other refl)
+
+stays-ended : (s : Since) (h : Happening) (result : ℕ) → sentAt s h ≡ [] → s .gate .application ≡ ended result → after s h .gate .application ≡ ended result
+stays-ended s (byte b) result unsent is = by (finishedBy (s .bytes) b) unsent
+  where
+    by : (ms : List Message) → sentBy (s .gate) ms ≡ [] → afterMessages (withByte s b) ms .gate .application ≡ ended result
+    by [] unsent = is
+    by (m ∷ ms) unsent = message-ended (s .gate) m ms unsent ∙ is
+stays-ended s (aside a) result unsent is =
+    leaves (s .gate) a .application ∙ ap (commandAfter (row a .command)) is ∙ step-ended (row a .command) result
+
+pub result-kept : (hs : List Happening) (s : Since) (result : ℕ) → sentOf s hs ≡ [] → s .gate .application ≡ ended result
+    → afterAll s hs .gate .application ≡ ended result
+result-kept [] s result unsent is = is
+result-kept (h ∷ hs) s result unsent is =
+    let each = append-eq-nil-iff .0 unsent in
+    result-kept hs (after s h) result (each .1) (stays-ended s h result (each .0) is)
+
+-- "0xC6 returns one byte"
+pub result-asked : (g : Gate) (m : Message) → m .command ≡ 0xC6 → unrefusedSoFar m ≡ true → answered g m ≡ says g done (resultByte (g .application) ∷ [])
+unfolding serviceOf served
+result-asked g m is so-far =
+    let first = both (sumRight m) (not (ltb mostData (length (m .body)))) so-far in
+    answered-served g m (first .0) (not-true (ltb mostData (length (m .body))) (first .1)) ∙ ap (λ (c : ℕ). served g (serviceOf c) (m .body)) is

@@ -13,3 +13,5 @@ pub mod Tables
 pub mod Blocks
 pub mod ServicePort
 pub mod ModbusPort
+pub mod Due
+pub mod Example

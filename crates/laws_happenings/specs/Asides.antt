@@ -4,7 +4,7 @@ use mathlib.Core.Path.{_≡_}
 use mathlib.Core.Bool.{Bool, true, false, not, _&&_}
 use mathlib.Core.List.{List, [], _∷_}
 use Prim.Native.Nat.{ℕ}
-use lib.Dec.{eqb}
+use lib.Dec.{eqb, leb}
 use Rattle.document.specs.Numbers.{done}
 use Rattle.document.specs.Recorder.{isRunning}
 use Rattle.document.specs.Application.{Application, newCommand, isCollected, afterCollect, afterReport}
@@ -12,6 +12,7 @@ use Rattle.document.specs.Gate.{Gate}
 use Rattle.document.specs.Refusals.{firstOf, recorderLines}
 use Rattle.document.specs.Panel.{prepareLines, panelPrepares, panelStarts}
 use Rattle.document.specs.Recorder.{Recorder, ticked as tickedRecorder}
+use Rattle.document.specs.Frames.{isStation}
 use Rattle.document.specs.Modbus.{modbusAnswer}
 use Rattle.document.specs.Asides.{Aside}
 use Rattle.document.specs.Asides.Aside.{tick, writes, collects, reports, prepares, starts, frames}
@@ -114,6 +115,8 @@ pub record Row : Type 0 where
   pub side : Side
   -- what it brings, of which all are bytes
   pub brings : List ℕ
+  -- whether it can happen now: a report waits for its command, and a frame for a gate that has its station
+  pub due : Application → Bool
   -- whether it may write the memory
   pub stores : Bool
   pub command : CommandStep
@@ -124,15 +127,37 @@ pub record Row : Type 0 where
 abbrev silence : List ℕ → List ℕ
 silence memory = []
 
+abbrev always : Application → Bool
+always a = true
+
 abbrev pub row : Aside → Row
-row tick = record { side = service; brings = []; stores = true; command = kept; recorder = ticked; answer = silence }
-row (writes address bytes) = record { side = program; brings = bytes; stores = true; command = kept; recorder = stays; answer = silence }
-row collects = record { side = service; brings = []; stores = false; command = collected; recorder = stays; answer = silence }
-row (reports result) = record { side = service; brings = result ∷ []; stores = false; command = reported result; recorder = stays; answer = silence }
-row (prepares setup) = record { side = service; brings = setup; stores = false; command = kept; recorder = prepared setup; answer = silence }
-row starts = record { side = service; brings = []; stores = false; command = kept; recorder = started; answer = silence }
+row tick = record { side = service; brings = []; due = always; stores = true; command = kept; recorder = ticked; answer = silence }
+row (writes address bytes) =
+    record { side = program; brings = bytes; due = always; stores = true; command = kept; recorder = stays; answer = silence }
+row collects = record { side = service; brings = []; due = always; stores = false; command = collected; recorder = stays; answer = silence }
+row (reports result) =
+    record {
+      side = service;
+      brings = result ∷ [];
+      due = λ a. leb result 0xFD && isCollected a;
+      stores = false;
+      command = reported result;
+      recorder = stays;
+      answer = silence;
+    }
+row (prepares setup) =
+    record { side = service; brings = setup; due = always; stores = false; command = kept; recorder = prepared setup; answer = silence }
+row starts = record { side = service; brings = []; due = always; stores = false; command = kept; recorder = started; answer = silence }
 row (frames station frame) =
-    record { side = controller; brings = frame; stores = true; command = kept; recorder = stays; answer = modbusAnswer station frame }
+    record {
+      side = controller;
+      brings = frame;
+      due = λ a. isStation station;
+      stores = true;
+      command = kept;
+      recorder = stays;
+      answer = modbusAnswer station frame;
+    }
 
 abbrev pub isTick : Aside → Bool
 isTick a = isTicked (row a .recorder)

@@ -2,7 +2,9 @@
 pub mod Along
 pub mod Asides
 pub mod Bytes
+pub mod Due
 pub mod Resync
 pub mod Recording
 pub mod Applying
 pub mod Ports
+pub mod Example

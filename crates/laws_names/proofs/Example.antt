@@ -13,7 +13,7 @@ use Rattle.document.specs.Services.{serviceOf}
 use Rattle.document.specs.Gate.{registered}
 use Rattle.document.specs.Refusals.{refusal}
 use Rattle.document.specs.Commands.{answered}
-use Rattle.laws_names.specs.Names.{namesIn}
+use Rattle.laws_names.specs.Names.{Named, namesIn}
 use Rattle.laws_names.specs.Steps.{asked, namesRead}
 
 -- strings at 16, 32 and 64, entries from 8,192 on, and no zero at memory's end
@@ -29,8 +29,12 @@ memory =
 abbrev pub list : List ℕ
 list = hex "0020 1000 1020 1000"
 
-abbrev pub names : List (List (List ℕ))
-names = (hex "636F696C" ∷ replicate 70 0x41 ∷ []) ∷ ([] ∷ [] ∷ []) ∷ []
+-- each is of two bytes, without a sign, and may be written
+abbrev named : List ℕ → ℕ → Named
+named name address = record { name = name; type = hex "E1"; address = address; info = 0x0B }
+
+abbrev pub names : List (List Named)
+names = (named (hex "636F696C") 0x12 ∷ named (replicate 70 0x41) 0x14 ∷ []) ∷ (named [] 0x16 ∷ named [] 0x18 ∷ []) ∷ []
 
 pub memory-whole : length memory ≡ memoryEnd
 memory-whole = refl

@@ -12,6 +12,7 @@ use Rattle.document.specs.Answer.{Answer}
 use Rattle.document.specs.Tables.{Table}
 use Rattle.document.specs.Gate.{Gate}
 use Rattle.document.specs.Commands.{answered}
+use Rattle.laws_names.specs.Names.{Named}
 
 -- the answer to a command and data with their right sum byte
 unfoldable pub asked : Gate → ℕ → List ℕ → Answer
@@ -74,19 +75,28 @@ lengthAsked g address = number (received (asked g 0xD4 (littleEndian 2 address))
 abbrev pub stringRead : Gate → ℕ → List ℕ
 stringRead g address = bytesRead g address (lengthAsked g address)
 
--- 7. "two string pointers in each table entry called name and type"
-abbrev pub namePointer : List ℕ → ℕ
-namePointer entry = number (bytesAt entry 0 2)
+-- 7. "two string pointers in each table entry called name and type", and behind them "addr" and "info"
+abbrev pub parameterIn : List ℕ → ℕ → ℕ
+parameterIn entry place = number (bytesAt entry place 2)
+
+abbrev pub namedIn : Gate → List ℕ → Named
+namedIn g entry =
+    record {
+      name = stringRead g (parameterIn entry 0);
+      type = stringRead g (parameterIn entry 2);
+      address = parameterIn entry 4;
+      info = parameterIn entry 6;
+    }
 
 -- 4. "read the whole table content", here entry by entry, and 10. "Repeat steps 8 and 9 for each table entry": n of them
-abbrev pub namesAsked : Gate → ℕ → ℕ → List (List ℕ)
+abbrev pub namesAsked : Gate → ℕ → ℕ → List Named
 namesAsked g entry zero = []
-namesAsked g entry (suc n) = stringRead g (namePointer (pieceRead g entry 8)) ∷ namesAsked g (entry + 8) n
+namesAsked g entry (suc n) = namedIn g (pieceRead g entry 8) ∷ namesAsked g (entry + 8) n
 
 -- 5. the flags that are told are 2, the version alone, so 6. "Calculate the number of table entries by dividing the table size by 8"
-abbrev pub tableRead : Gate → Table → List (List ℕ)
+abbrev pub tableRead : Gate → Table → List Named
 tableRead g t = namesAsked g (t .address) (t .size / 8)
 
--- all of it: for each table, for each entry, its name
-unfoldable pub namesRead : Gate → List (List (List ℕ))
+-- all of it: for each table, for each entry, its name, type, address and info
+unfoldable pub namesRead : Gate → List (List Named)
 namesRead g = map (tableRead g) (tablesRead g)

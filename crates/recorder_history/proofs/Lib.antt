@@ -9,5 +9,9 @@ pub mod History
 pub mod Stop
 pub mod Untriggered
 pub mod Beyond
+pub mod Index
+pub mod Kept
+pub mod Trace
+pub mod Saturated
 pub mod Accepted
 pub mod Example

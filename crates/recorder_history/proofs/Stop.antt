@@ -25,7 +25,7 @@ hasTriggered (previous value) = false
 hasTriggered (triggered left) = true
 
 -- ticks that are still to come, with so many sets left
-abbrev dueIn : ℕ → Bool → ℕ → ℕ → ℕ
+abbrev pub dueIn : ℕ → Bool → ℕ → ℕ → ℕ
 dueIn d running wait left = cond running (wait + 1 + (left - 1) * suc d) 0
 
 -- all sets are left
@@ -46,9 +46,9 @@ before-end t n =
     (λ f. rw f (le-ltb 0 (n - t) (omega (arith, ltb-false t n f))))
 
 -- a run whose trigger has come goes on while sets are left, and only then
-record Counting (r : Run) : Type 0 where
-  came : hasTriggered (r .watch) ≡ true
-  runs : r .running ≡ goesOn (r .watch)
+pub record Counting (r : Run) : Type 0 where
+  pub came : hasTriggered (r .watch) ≡ true
+  pub runs : r .running ≡ goesOn (r .watch)
 
 none-left : (w : Watch) → hasTriggered w ≡ true → goesOn w ≡ false → setsLeft w ≡ 0
 none-left unprimed t g = refl
@@ -56,7 +56,7 @@ none-left (previous before) t g = refl
 none-left (triggered left) t g = omega (arith, ltb-false 0 left g)
 
 module _ (p : Plan) where
-  abbrev due : Run → ℕ
+  abbrev pub due : Run → ℕ
   due r = dueIn (p .divider) (r .running) (r .wait) (setsLeft (r .watch))
 
   -- n ticks later, with these sets taken
@@ -122,10 +122,10 @@ module _ (p : Plan) where
   down-after (stop ∷ es) g u c = absurd u
 
   -- the trigger's own tick: all further sets are left
-  record Fired (r : Run) : Type 0 where
-    counting : Counting r
-    all : due r ≡ p .postTrigger * suc (p .divider)
-    left : setsLeft (r .watch) ≡ p .postTrigger
+  pub record Fired (r : Run) : Type 0 where
+    pub counting : Counting r
+    pub all : due r ≡ p .postTrigger * suc (p .divider)
+    pub left : setsLeft (r .watch) ≡ p .postTrigger
 
   came-at : (w : Watch) (x : ℕ) → comes (p .trigger) w x ≡ true → watched p w x ≡ triggered (p .postTrigger)
   came-at unprimed x t = rw t
@@ -141,7 +141,7 @@ module _ (p : Plan) where
         left = rw e;
       }
 
-  fired-tick : (g : Recording) → TriggersNext p g → Fired (stepped p g tick .run)
+  pub fired-tick : (g : Recording) → TriggersNext p g → Fired (stepped p g tick .run)
   fired-tick g t =
       rw (takes-run p (g .run) (g .memory) (t .running) (t .due)) (fired-set (g .run) (g .memory) (t .comes-now))
 

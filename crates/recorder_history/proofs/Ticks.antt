@@ -1,5 +1,5 @@
 -- What a tick does, case by case, and that "A tick changes only that place."
-use mathlib.Core.Path.{_≡_, refl, ap, _∙_}
+use mathlib.Core.Path.{_≡_, refl, sym, ap, _∙_}
 use mathlib.Core.Bool.{Bool, true, false, cond}
 use mathlib.Core.List.{List, [], _∷_}
 use Prim.Native.Nat.{ℕ, _+_, _<_, _≤_}
@@ -12,9 +12,9 @@ use Rattle.document.specs.Areas.{bufferBegin, memoryEnd}
 use Rattle.document.specs.Variables.{setSize}
 use Rattle.document.specs.Plan.{Plan}
 use Rattle.document.specs.Run.{Run, placeBegins, setOf, setTaken, waited, ranTick, memoryAfterTick}
-use Rattle.recorder_history.specs.History.{PlanFits, takenAt}
+use Rattle.recorder_history.specs.History.{PlanFits, takesNext, takenAt}
 use Rattle.recorder_history.specs.History.Event.{tick}
-use Rattle.document.proofs.Cases.{split}
+use Rattle.document.proofs.Cases.{split, neither}
 use Rattle.memory_ranges.proofs.Stored.{take-sets, drop-sets}
 use Rattle.recorder_history.proofs.Places.{place-room}
 use Rattle.recorder_history.proofs.Sources.{set-length}
@@ -72,6 +72,14 @@ module _ (p : Plan) (r : Run) (m : List ℕ) where
 
   pub takes-taken : r .running ≡ true → r .wait ≡ 0 → takenAt p (record { run = r; memory = m }) tick ≡ setOf p m ∷ []
   takes-taken e h = rw (e, eq-eqb (r .wait) 0 h)
+
+  -- a tick that takes no set leaves every byte
+  pub nothing-taken : takesNext (record { run = r; memory = m }) ≡ false → memoryAfterTick p r m ≡ m
+  nothing-taken none =
+      by-case r
+      stopped-memory
+      waits-memory
+      (λ e h. neither (sym none ∙ rw (e, eq-eqb (r .wait) 0 h)))
 
   -- the memory keeps its length
   pub tick-length : length (memoryAfterTick p r m) ≡ length m
