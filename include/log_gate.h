@@ -29,7 +29,7 @@ extern "C" {
  * number, a state's layout), the minor one additions. It counts apart from the protocol's version, 3, and from what 0xC0 answers.
  */
 #define LOG_GATE_VERSION_MAJOR 3
-#define LOG_GATE_VERSION_MINOR 3
+#define LOG_GATE_VERSION_MINOR 4
 #define LOG_GATE_VERSION (LOG_GATE_VERSION_MAJOR * 256 + LOG_GATE_VERSION_MINOR)
 
 /* Bytes of a target's state and of an answer reader's state; docs/STATE.md has their layout. More may be lent. */
@@ -201,8 +201,8 @@ log_gate_taken log_gate_collect(uint8_t *state, size_t state_length, uint8_t *ou
 log_gate_result log_gate_report(uint8_t *state, size_t state_length, uint8_t result);
 
 /*
- * What the panel is told: a refusal or LOG_GATE_TAKEN, and the status. Look at the refusal first: where the call is refused, nothing
- * was prepared or started, and the status is 0, which is LOG_GATE_DONE too.
+ * What the panel is told: a refusal or LOG_GATE_TAKEN, and the status. Where the call is refused, nothing was prepared or started, and
+ * the status is LOG_GATE_NOT_SERVED, which neither call says when it is taken.
  */
 typedef struct {
     log_gate_result refusal;
