@@ -28,6 +28,10 @@ refuses ./test times line fly
 refuses ./test times 'l.ne'
 refuses ./test times ""
 refuses ./test times long
+refuses ./test mutants fly
+refuses ./test mutants 7x
+refuses ./test mutants 7 --seed
+refuses ./test mutants 7 --fast
 for word in 'names ' 'names PATH ' 'play FILE '; do
     ./run --help | grep -q "^\./run $word" || fail "./run --help does not list what it can do"
 done
