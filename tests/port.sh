@@ -21,21 +21,23 @@ for words in "--station 0" "--station 248" "--silence x" "--silence" "--baud 192
     refuses $RUN_X86 $built/virtual_gate $words
 done
 
-# start_gate SAID: a virtual gate whose words go to this file; its ports are $port and $second_port. It ends by itself after a minute of
-# ticks, whatever becomes of this script.
+# start_gate SAID [WORDS..]: a virtual gate whose words go to this file; its ports are $port and $second_port. It ends by itself after a
+# minute of ticks, whatever becomes of this script.
 start_gate() {
-    : >"$1"
-    $RUN_X86 $built/virtual_gate --seed 1 --ticks 60000 >"$1" &
+    said=$1
+    shift
+    : >"$said"
+    $RUN_X86 $built/virtual_gate --ticks 60000 "$@" >"$said" &
     gate=$!
     trap 'kill $gate 2>/dev/null || true' EXIT
     second_port=
     for _ in 1 2 3 4 5 6 7 8 9 10 11 12 13 14 15 16 17 18 19 20; do
-        second_port=$(sed -n 's/^The second port is //p' "$1")
+        second_port=$(sed -n 's/^The second port is //p' "$said")
         [ -z "$second_port" ] || break
         sleep 0.5
     done
     [ -n "$second_port" ] || fail "the virtual gate opened no ports"
-    port=$(sed -n 's/^The service port is //p' "$1")
+    port=$(sed -n 's/^The service port is //p' "$said")
 }
 
 end_gate() {
