@@ -61,4 +61,6 @@ tail -n 2 $built/gate.out
 if [ "$archive" -ef target/staticlib/liblog_gate.a ]; then
     ./run names >$built/names 2>$built/complained || { cat $built/complained; fail "./run names"; }
     cmp $built/names_due.out $built/names || fail "./run names lists other names"
+    ./run --station 5 --silence 9 --seed 3 --ticks 300 >$built/gate.out 2>$built/complained || { cat $built/complained; fail "./run with options"; }
+    grep -q 'station 5,' $built/gate.out && grep -q '^The gate is closed: 300 ticks' $built/gate.out || fail "./run hands its options on"
 fi

@@ -37,6 +37,7 @@ part() {
 
 times=
 part usage
+part first
 part header
 part calls
 part scripts

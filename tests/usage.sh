@@ -18,6 +18,10 @@ refuses ./run names ""
 refuses ./run names tests
 refuses ./run names README.md
 refuses ./run names /dev/null /dev/null
+refuses ./run --baud 19200
+refuses ./run --station
+refuses ./run --station five
+refuses ./run --station 5 now
 refuses ./bench $built/no-such-archive
 refuses ./bench one two
 refuses tests/run.sh
