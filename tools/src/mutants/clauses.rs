@@ -97,8 +97,9 @@ mod tests {
     fn patterns_are_taken_apart() {
         let list = bound("abbrev pub f : List ℕ → ℕ → ℕ\nf (a ∷ (b ∷ bs)) (suc n) = n\n");
         assert_eq!(list, pairs(&[("a", "ℕ"), ("b", "ℕ"), ("bs", "List ℕ"), ("n", "ℕ")]));
-        let text = "pub data Aside : Type 0 where\n  tick : Aside\n  writes : ℕ → List ℕ → Aside\n\nabbrev pub f : Aside → ℕ\nf tick = 0\nf (writes a bytes) = a\n";
-        assert_eq!(bound(text), pairs(&[("a", "ℕ"), ("bytes", "List ℕ")]));
+        let asides = "pub data Aside : Type 0 where\n  tick : Aside\n  writes : ℕ → List ℕ → Aside\n\n".to_string();
+        let text = asides + "abbrev pub f : Aside → ℕ\nf tick = 0\nf (writes a bytes) = a\n";
+        assert_eq!(bound(&text), pairs(&[("a", "ℕ"), ("bytes", "List ℕ")]));
     }
 
     #[test]

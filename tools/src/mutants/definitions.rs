@@ -130,6 +130,13 @@ impl Definitions {
         let found = self.fields.iter().find(|field| field.record == record && field.name == name);
         found.map(|field| field.kind.as_str())
     }
+
+    /// The name of the next field of the same record and type; its own where it has no other.
+    pub fn next_field(&self, field: &Field) -> &str {
+        let kin: Vec<&Field> = self.fields.iter().filter(|one| one.record == field.record && one.kind == field.kind).collect();
+        let at = kin.iter().position(|one| one.name == field.name).unwrap_or(0);
+        &kin[(at + 1) % kin.len()].name
+    }
 }
 
 /// Whether a text takes this name from that file of definitions.
@@ -173,7 +180,8 @@ mod tests {
 
     #[test]
     fn fields_and_constructors_are_read() {
-        let all = one("pub record Box : Type 0 where\n  -- why : here\n  pub width : ℕ\n\npub data Aside : Type 0 where\n  tick : Aside\n  writes : ℕ → Aside\n");
+        let record = "pub record Box : Type 0 where\n  -- why : here\n  pub width : ℕ\n\n".to_string();
+        let all = one(&(record + "pub data Aside : Type 0 where\n  tick : Aside\n  writes : ℕ → Aside\n"));
         assert_eq!(all.field("Box", "width"), Some("ℕ"));
         assert_eq!(all.fields.len(), 1);
         let names: Vec<&str> = all.constructors.iter().map(|one| one.name.as_str()).collect();

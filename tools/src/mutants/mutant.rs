@@ -96,6 +96,7 @@ mod tests {
             "f: `+` becomes `-` in `a + b`",
             "f: `&&` becomes `||` in `ltb (a + b) 64 && eqb b 0x0F`",
             "f: `ltb` becomes `leb` in `ltb (a + b) 64`",
+            "f: `eqb b 0x0F` becomes `leb 0x0F b`",
             "f: `eqb b 0x0F` is left out",
             "f: `ltb (a + b) 64` is left out",
             "f: `(a + b)` and `64` are exchanged",
@@ -133,7 +134,8 @@ mod tests {
 
     #[test]
     fn names_of_the_same_type_that_say_something_else() {
-        let text = "abbrev pub one : ℕ\none = 1\n\nabbrev pub uno : ℕ\nuno = 1\n\nabbrev pub two : ℕ\ntwo = 2\n\nabbrev pub f : ℕ → ℕ\nf a = one\n";
+        let numbers = "abbrev pub one : ℕ\none = 1\n\nabbrev pub uno : ℕ\nuno = 1\n\nabbrev pub two : ℕ\ntwo = 2\n\n";
+        let text = &format!("{numbers}abbrev pub f : ℕ → ℕ\nf a = one\n");
         let found = of(text);
         assert!(found.contains(&"f: `one` becomes `two`".to_string()));
         assert!(!found.iter().any(|name| name.contains("`uno`")));
@@ -141,7 +143,9 @@ mod tests {
 
     #[test]
     fn lists_constructors_and_clauses() {
-        let text = "pub data Kind : Type 0 where\n  fast : Kind\n  slow : Kind\n  sized : ℕ → Kind\n\nabbrev pub f : Kind → List ℕ\nf fast = 1 ∷ 2 ∷ []\nf slow = []\nf (sized n) = n ∷ []\n\nabbrev pub k : Kind\nk = fast\n";
+        let kinds = "pub data Kind : Type 0 where\n  fast : Kind\n  slow : Kind\n  sized : ℕ → Kind\n\nabbrev pub k : Kind\nk = fast\n\n";
+        let clauses = "abbrev pub f : Kind → List ℕ\nf fast = 1 ∷ 2 ∷ []\nf slow = []\nf (sized n) = n ∷ []\n";
+        let text = &(kinds.to_string() + clauses);
         let due = ["f: `1` and `2` are exchanged", "f: `2` is left out", "k: `fast` becomes `slow`", "f: `1 ∷ 2 ∷ []` and `[]` are exchanged"];
         expect(text, &due);
         assert!(!of(text).iter().any(|name| name.contains("`[]` and `n ∷ []`")));

@@ -78,9 +78,7 @@ pub fn field_changes(place: &Place, node: &Node, of: &Node, name: &str) -> Vec<C
     let owners = place.all.fields.iter().filter(|field| field.name == name && known.is_none_or(|kind| *kind == field.record));
     let mut found = Vec::new();
     for owner in owners {
-        let kin: Vec<&str> = place.all.fields.iter().filter(|one| one.record == owner.record && one.kind == owner.kind).map(|one| one.name.as_str()).collect();
-        let at = kin.iter().position(|one| *one == name).unwrap_or(0);
-        let next = kin[(at + 1) % kin.len()];
+        let next = place.all.next_field(owner);
         if next != name {
             let mut change = place.put_at(of.to, node.to, &format!(" .{next}"));
             change.what = format!("`{}` becomes `.{next}`", place.shown(node.from, node.to));

@@ -78,7 +78,6 @@ fn other_function(name: &str) -> Option<(&'static str, &'static str)> {
     Some(match name {
         "ltb" => ("leb", "lib.Dec"),
         "leb" => ("ltb", "lib.Dec"),
-        "eqb" => ("leb", "lib.Dec"),
         "ltZ" => ("leZ", "lib.Signed"),
         "leZ" => ("ltZ", "lib.Signed"),
         "take" => ("drop", "lib.ListN"),
@@ -98,6 +97,10 @@ fn calls(place: &Place, node: &Node, parts: &[Node]) -> Vec<Change> {
         found.push(place.exchange(yes, no));
         found.push(place.leave(node, yes));
         found.push(place.leave(node, no));
+    }
+    if let ("eqb", [one, other]) = (name, given) {
+        // At least as much. The other way round nothing would change beside a 0.
+        found.push(place.put(node, &format!("leb {} {}", place.text(other), place.text(one))).needing("leb", "lib.Dec"));
     }
     if let ("not" | "suc", [of]) = (name, given) {
         found.push(place.leave(node, of));
