@@ -58,7 +58,11 @@ fn told(code: u8, fault: &str) -> ExitCode {
 fn run(source: &Path, known: &Path, words: &Words) -> Result<Vec<String>, String> {
     let text = std::fs::read_to_string(known).map_err(|error| format!("{}: {error}", known.display()))?;
     let known = known::read(&text)?;
-    let all = mutant::mutants(&Definitions::of(definition_files(source)?));
+    let definitions = Definitions::of(definition_files(source)?);
+    if let [first, ..] = &mutant::not_understood(&definitions)[..] {
+        return Err(format!("the definition {first} is not understood, so no rule can change it"));
+    }
+    let all = mutant::mutants(&definitions);
     let mut faults = no_mutants(&known, &all);
     let some = of_files(all, &words.files)?;
     let count = words.count.unwrap_or(some.len()).min(some.len());

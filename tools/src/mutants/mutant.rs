@@ -21,6 +21,16 @@ pub fn mutants(all: &Definitions) -> Vec<Mutant> {
     all.files.iter().flat_map(|file| mutants_of(all, file)).collect()
 }
 
+/// Definitions with a clause that is not understood, so that no rule can change it.
+pub fn not_understood(all: &Definitions) -> Vec<String> {
+    let mut found = Vec::new();
+    for file in &all.files {
+        let unread = clauses(all, file).into_iter().filter(|clause| clause.bodies.is_empty());
+        found.extend(unread.map(|clause| format!("{}.{}", file.name, clause.definition)));
+    }
+    found
+}
+
 fn mutants_of(all: &Definitions, file: &File) -> Vec<Mutant> {
     let clauses = clauses(all, file);
     let mut texts = BTreeSet::from([file.text.clone()]);
@@ -149,6 +159,12 @@ mod tests {
         let due = ["f: `1` and `2` are exchanged", "f: `2` is left out", "k: `fast` becomes `slow`", "f: `1 ∷ 2 ∷ []` and `[]` are exchanged"];
         expect(text, &due);
         assert!(!of(text).iter().any(|name| name.contains("`[]` and `n ∷ []`")));
+    }
+
+    #[test]
+    fn a_clause_that_cannot_be_read_is_told() {
+        let file = File { name: "Tiny".to_string(), text: "abbrev pub f : ℕ\nf = (1 +\n\nabbrev pub g : ℕ\ng = 1\n".to_string() };
+        assert_eq!(not_understood(&Definitions::of(vec![file])), ["Tiny.f"]);
     }
 
     #[test]
