@@ -4,6 +4,7 @@ use mathlib.Core.List.{List, [], _∷_, _++_, map}
 use Rattle.document.specs.Hex.{hex}
 use Rattle.document.specs.Services.{serviceOf}
 use Rattle.document.specs.Message.{wellFormed, onWire, heard, finishedBy}
+use Rattle.document.specs.Permission.{mayBeWritten}
 use Rattle.document.specs.Refusals.{refusal}
 use Rattle.document.specs.Commands.{answered}
 use Rattle.document.specs.Panel.{panelPrepares, panelStarts}
@@ -50,7 +51,7 @@ unfolding entryRows sizeOfCode
 entries-hold = lists-eq (map (λ (l : Line). l .gives) entryRows) (map (λ (l : Line). l .says) entryRows) refl
 
 pub blocks-hold : map (λ (l : Line). l .gives) blockRows ≡ map (λ (l : Line). l .says) blockRows
-unfolding blockRows answerOnWire heard finishedBy serviceOf refusal answered beside
+unfolding blockRows answerOnWire heard finishedBy serviceOf mayBeWritten refusal answered beside
 blocks-hold = lists-eq (map (λ (l : Line). l .gives) blockRows) (map (λ (l : Line). l .says) blockRows) refl
 
 pub panel-holds : map (λ (l : Line). l .gives) panelLines ≡ map (λ (l : Line). l .says) panelLines

@@ -3,6 +3,7 @@ pub mod Bytes
 pub mod Calls
 pub mod Cases
 pub mod Gate
+pub mod Happenings
 pub mod Levels
 pub mod Modbus
 pub mod Order

@@ -19,9 +19,14 @@ use Rattle.document.specs.Asides.{beside}
 use Rattle.document.specs.Strings.{beforeZero, hasZero}
 use Rattle.document.specs.Rows.{saidBy}
 use Rattle.document.specs.TableRows.{tablesByStep}
-use Rattle.document.specs.StayRows.{stayRows}
-use Rattle.document.proofs.Rows.{holds-eq}
+use Rattle.document.specs.CallRows.{Line}
+use Rattle.document.specs.StayRows.{stayRows, leftRows}
+use Rattle.document.proofs.Rows.{holds-eq, lists-eq}
 
 pub stay-rows-hold : map (tablesByStep (replicate 96 0)) stayRows ≡ map saidBy stayRows
 unfolding stayRows answerOnWire heard finishedBy serviceOf planIn fires isBeyond ranTick memoryAfterTick mayBeWritten refusal answered panelPrepares panelStarts shifted shifts stepped checkSum isSilenced exceptionTo modbusMemory beside beforeZero hasZero
 stay-rows-hold = holds-eq (map (tablesByStep (replicate 96 0)) stayRows) (map saidBy stayRows) refl
+
+pub left-rows-hold : map (λ (l : Line). l .gives) leftRows ≡ map (λ (l : Line). l .says) leftRows
+unfolding leftRows heard finishedBy serviceOf planIn fires isBeyond ranTick memoryAfterTick mayBeWritten refusal answered shifted shifts stepped checkSum isSilenced exceptionTo modbusMemory beside
+left-rows-hold = lists-eq (map (λ (l : Line). l .gives) leftRows) (map (λ (l : Line). l .says) leftRows) refl

@@ -4,9 +4,11 @@ use mathlib.Core.Bool.{cond}
 use mathlib.Core.List.{List, [], _∷_, _++_, map}
 use Prim.Native.Nat.{ℕ}
 use Prim.Native.String.{String}
+use lib.ListN.{replicate}
 use Rattle.document.specs.Hex.{hex}
 use Rattle.document.specs.CheckSum.{withCheckSum, isCheckSumRight}
-use Rattle.document.specs.Modbus.{functionOf, isOther, modbusAnswer, modbusMemory}
+use Rattle.document.specs.Modbus.{functionOf, isOther, exceptionTo, carriedOut, functionData, modbusAnswer, modbusMemory}
+use Rattle.document.specs.declared.Function.the-variants.{ReadRegisters, WriteRegisters}
 use Rattle.document.specs.Gate.{fresh}
 use Rattle.document.specs.Asides.Aside.{frames}
 use Rattle.document.specs.Happenings.{afterAll, fromReset}
@@ -54,13 +56,26 @@ excepts frame answer = line (modbusAnswer 0x11 frame four ++ modbusMemory 0x11 f
 unfoldable pub silenceRows : List Line
 silenceRows =
     silent []
+    -- a wrong check sum: functions 6, 16 and 22
     ∷ silent (hex "11 06 0001 0003 9A9A")
+    ∷ silent (hex "11 10 0001 0002 04 ABCD 5678 E8FB")
+    ∷ silent (hex "11 16 0002 00F2 0025 EEE3")
+    -- another station, and a broadcast
     ∷ silent (hex "10 06 0001 0003 9B4A")
     ∷ silent (hex "00 06 0001 0003 99DA")
     -- a broadcast is nobody's own
     ∷ line (modbusAnswer 0 (hex "00 03 0000 0001 85DB") four) []
     ∷ silent (hex "11 80 0000 0001 C344")
+    -- the first and the last station; nobody's are 248 to 255
+    ∷ line (modbusAnswer 1 (hex "01 03 0000 0001 840A") four) (hex "01 03 02 0201 78E4")
+    ∷ line (modbusAnswer 247 (hex "F7 03 0000 0001 909C") four) (hex "F7 03 02 0201 B0F1")
+    ∷ line (heardBy 247 ("F8 06 0001 0003 8C62" ∷ "F9 06 0001 0003 8DB3" ∷ "FA 06 0001 0003 8D80" ∷ "FB 06 0001 0003 8C51" ∷ [])) []
+    ∷ line (heardBy 247 ("FC 06 0001 0003 8DE6" ∷ "FD 06 0001 0003 8C37" ∷ "FE 06 0001 0003 8C04" ∷ "FF 06 0001 0003 8DD5" ∷ [])) []
     ∷ []
+  where
+    heardBy : ℕ → List String → List ℕ
+    heardBy station [] = []
+    heardBy station (f ∷ fs) = modbusAnswer station (hex f) four ++ heardBy station fs
 
 -- ---- "Serve functions 3, 6, 16 and 22"
 
@@ -81,6 +96,17 @@ functionRows =
     others : List ℕ → List ℕ
     others [] = []
     others (f ∷ fs) = cond (isOther (functionOf f)) (others fs) (f ∷ others fs)
+
+-- ---- many registers at once: "1 to 125 (read)", "1 to 123 (write)"
+
+-- every byte of them is 0x55
+unfoldable pub manyRows : List Line
+manyRows =
+    line (functionData ReadRegisters (hex "11 03 0000 007D 877B") (replicate 252 0x55)) (hex "FA" ++ replicate 250 0x55)
+    ∷ line (carriedOut WriteRegisters (hex "11 10 0000 007B F6" ++ replicate 246 0x55 ++ hex "D431") (replicate 248 0)) (replicate 246 0x55 ++ hex "0000")
+    ∷ line (exceptionTo ReadRegisters (hex "11 03 0000 007D 877B") [] ∷ exceptionTo ReadRegisters (hex "11 03 0000 007E C77A") [] ∷ []) (hex "00 03")
+    ∷ line (exceptionTo WriteRegisters (hex "11 10 0000 007B F6" ++ replicate 248 0) [] ∷ exceptionTo WriteRegisters (hex "11 10 0000 007C F8" ++ replicate 250 0) [] ∷ []) (hex "00 03")
+    ∷ []
 
 -- ---- "exception 1 for another function, then 3 .., then 2 for an address"
 

@@ -5,8 +5,14 @@ use Prim.Native.Nat.{ℕ}
 use Prim.Native.String.{String}
 use lib.ListN.{replicate}
 use Rattle.document.specs.Hex.{hex}
+use Rattle.document.specs.Areas.{bytesAt}
+use Rattle.document.specs.Application.{newCommand, collectBuffer}
+use Rattle.document.specs.Application.Application.{waiting}
+use Rattle.document.specs.Gate.{Gate, fresh}
 use Rattle.document.specs.Asides.Aside.{frames}
-use Rattle.document.specs.Rows.{Row, Step, hears, asks, framed, puts, ticks, passes, collecting, reporting, preparing, starting}
+use Rattle.document.specs.Happenings.{fromReset}
+use Rattle.document.specs.Rows.{zeros, Row, Step, hears, sends, asks, framed, wire, puts, ticks, passes, collecting, reporting, preparing, starting, afterSteps}
+use Rattle.document.specs.CallRows.{Line, line, lent, below}
 
 -- ---- what is set up
 
@@ -19,7 +25,7 @@ abbrev twoPlaces : String
 twoPlaces = "00 0200 0000 0000 0000 00 00 00000000 01 01 1000"
 
 abbrev recording : String → Step
-recording status = hears (framed 0 (hex "09 13" ++ hex twoPlaces)) (framed 0 (hex status) ∷ [])
+recording status = sends (hex "09 13" ++ hex twoPlaces) (hex status)
 
 abbrev selfTest : Step
 selfTest = asks "10 02 01 07" "00"
@@ -65,7 +71,7 @@ stayRows =
     -- a start while it runs, over the line and from the panel
     ∷ (asks "C1" "01" ∷ starting ∷ [])
     -- what is refused: a setup while it runs, a command while one is pending, a wrong sum
-    ∷ (recording "87" ∷ preparing (hex twoPlaces) ∷ asks "10 01 02" "87" ∷ hears (framed 1 (hex "E3 1100 05 00")) (framed 0 (hex "82") ∷ []) ∷ [])
+    ∷ (recording "87" ∷ preparing (hex twoPlaces) ∷ asks "10 01 02" "87" ∷ hears (framed 1 (hex "E3 1100 05 00")) (wire (hex "82") ∷ []) ∷ [])
     ∷ [])
     -- a further setup, preparing and starting, while all else is in place
     ++ map (λ (between : Row). setUp ++ (asks "C2" "00" ∷ []) ++ between ++ (asks "C3" "01" ∷ asks "C5" "00 A5" ∷ asks "11 02 0100" "00 0200 1000 0820" ∷ asks "C6" "00 FE" ∷ []))
@@ -76,3 +82,23 @@ stayRows =
     -- a refused start of the panel leaves a pending command
     ++ ((watching ∷ selfTest ∷ starting ∷ asks "C3" "88" ∷ asks "C6" "00 FE" ∷ collecting ∷ reporting 0x05 ∷ starting ∷ asks "C6" "00 05" ∷ asks "C5" "00 00" ∷ [])
     ∷ [])
+
+-- ---- and what is left, where no answer tells it
+
+abbrev left : List ℕ → Row → Gate
+left memory row = afterSteps (fromReset (fresh memory)) row .gate
+
+abbrev new : Row → List ℕ
+new row = newCommand (left (replicate 96 0) row .application)
+
+unfoldable pub leftRows : List Line
+leftRows =
+    -- a code and 63 arguments, all of them collected; two bytes behind them stay
+    line (new (sends (hex "10 40" ++ below 64) (hex "00") ∷ [])) (below 64)
+    ∷ line (collectBuffer (waiting (below 64)) (lent 66)) (below 64 ++ hex "AAAA")
+    -- the command is new until it is collected, whatever comes between, and it does not come again with its result
+    ∷ line (new (setUp ++ (asks "E3 2000 05 00" "00" ∷ watching ∷ framing "11 06 0010 0005 4A9C" ∷ puts 32 "05" ∷ ticks 1 ∷ asks "10 01 02" "87" ∷ reporting 0x05 ∷ []))) (hex "01 07")
+    ∷ line (new (selfTest ∷ collecting ∷ []) ++ new (selfTest ∷ collecting ∷ reporting 0x05 ∷ collecting ∷ [])) []
+    -- a tick writes its set
+    ∷ line (bytesAt (left zeros (recording "00" ∷ passes "A1 A2" ∷ []) .memory) 12287 4) (hex "00 A1 A2 00")
+    ∷ []

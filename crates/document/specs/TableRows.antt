@@ -4,6 +4,7 @@ use mathlib.Core.Bool.{Bool, cond}
 use mathlib.Core.List.{List, [], _∷_, _++_, map}
 use Prim.Native.Nat.{ℕ, _+_, _*_}
 use Prim.Native.String.{String}
+use lib.Dec.{eqb}
 use lib.ListN.{replicate}
 use Rattle.document.specs.Hex.{hex}
 use Rattle.document.specs.Values.{littleEndian}
@@ -11,9 +12,9 @@ use Rattle.document.specs.Answer.{answerOnWire}
 use Rattle.document.specs.Gate.{registered}
 use Rattle.document.specs.Happenings.{fromReset}
 use Rattle.document.specs.Numbers.{taken, listRefused}
-use Rattle.document.specs.Tables.{isEntryGood, areEntriesGood, tablesIn, isListGood}
+use Rattle.document.specs.Tables.{baseSize, isEntryGood, areEntriesGood, tablesIn, isListGood}
 use Rattle.document.specs.Rows.{Row, asks, afterSteps}
-use Rattle.document.specs.CallRows.{Line, line}
+use Rattle.document.specs.CallRows.{Line, line, below}
 
 -- one entry: name 16, this type, address 18, this info
 abbrev pub entry : String → String → List ℕ
@@ -44,19 +45,30 @@ codesWritten = hex "E0F0 E1F1E5F5 E2F2E6F6FA E3F3FB"
 abbrev sizesWritten : List ℕ
 sizesWritten = hex "0101 02020202 0404040404 080808"
 
+-- of these codes, each behind which a zero stands, those of a base type with their sizes
+abbrev coded : List ℕ → List ℕ
+coded [] = []
+coded (c ∷ cs) = cond (eqb (baseSize (c ∷ 0 ∷ []) 0) 0) (coded cs) (c ∷ baseSize (c ∷ 0 ∷ []) 0 ∷ coded cs)
+
 unfoldable pub entryRows : List Line
 entryRows =
     -- "whose size differs from its base type's", whatever the two low bits of its info say
-    line (entries "0000" ("0800" ∷ "0900" ∷ "0A00" ∷ "0B00" ∷ "0700" ∷ "0C00" ∷ "0200" ∷ "0801" ∷ [])) (hex "00 00 00 00 08 08 08 08")
+    line (entries "0000" ("0800" ∷ "0900" ∷ "0A00" ∷ "0B00" ∷ "0700" ∷ "0C00" ∷ "0200" ∷ "0801" ∷ "0880" ∷ [])) (hex "00 00 00 00 08 08 08 08 08")
     -- "other types have any size": a code with a character behind it, no code, an empty string, a code that memory ends behind
     ∷ line (entries "0200" ("FFFF" ∷ "0000" ∷ []) ++ entries "0300" ("0000" ∷ "0300" ∷ []) ++ entries "0400" ("0000" ∷ []) ++ (refused (isEntryGood (hex "E1") (entry "0000" "0000")) ∷ [])) (hex "00 00 00 00 00 00")
+    -- 0xEC and 0xFF are no codes; of all bytes, those that are
+    ∷ line (sized (λ (s : ℕ). s) (hex "EC EC FF FF") (hex "04 0C 04 0C")) (replicate 4 0)
+    ∷ line (coded (below 256)) (hex "E001 E102 E204 E308 E502 E604 F001 F102 F204 F308 F502 F604 FA04 FB08")
+    -- name and address are not looked at: both outside memory
+    ∷ line (refused (isEntryGood types (hex "FFFF 0000 FFFF 0800")) ∷ []) (hex "00")
     -- "whose type address is outside memory"
     ∷ line (entries "0040" ("0B00" ∷ []) ++ entries "FF3F" ("0B00" ∷ []) ++ entries "FFFF" ("0B00" ∷ [])) (hex "08 00 08")
     -- each base type with its size, and with one more
     ∷ line (sized (λ (s : ℕ). s) codesWritten sizesWritten) (replicate 14 0)
     ∷ line (sized (λ (s : ℕ). s + 1) codesWritten sizesWritten) (replicate 14 8)
-    -- every entry is looked at: a bad one behind a good one
+    -- every entry is looked at: a bad one behind a good one, and the second of three
     ∷ line (map (λ (n : ℕ). refused (areEntriesGood (types ++ entry "0000" "0B00" ++ entry "0000" "1000") 5 n)) (hex "00 01 02")) (hex "00 00 08")
+    ∷ line (refused (areEntriesGood (types ++ entry "0000" "0B00" ++ entry "0000" "1000" ++ entry "0000" "0B00") 5 3) ∷ []) (hex "08")
     ∷ []
 
 -- ---- lists, over a memory in which every entry is good, so that the place alone decides
@@ -67,8 +79,8 @@ listRows memory =
     line (lists ("0020" ∷ "00" ∷ "0020 08" ∷ "0020 0800 0020" ∷ [])) (hex "08 08 08 08")
     -- "inside the calibration area": before it, across its beginning, its first 8 bytes, its last 8, across its end, behind it
     ∷ line (lists ("F81F 0800" ∷ "FF1F 0800" ∷ "0020 0800" ∷ "F82F 0800" ∷ "F92F 0800" ∷ "0030 0800" ∷ "F8FF 0800" ∷ [])) (hex "08 08 00 00 08 08 08")
-    -- "one or more whole entries": 0, 7, 9 and 16 bytes
-    ∷ line (lists ("0020 0000" ∷ "0020 0700" ∷ "0020 0900" ∷ "0020 1000" ∷ [])) (hex "08 08 08 00")
+    -- "one or more whole entries": 0, 4, 7, 9, 12 and 16 bytes; and at an odd address
+    ∷ line (lists ("0020 0000" ∷ "0020 0400" ∷ "0020 0700" ∷ "0020 0900" ∷ "0020 0C00" ∷ "0020 1000" ∷ "0120 0800" ∷ [])) (hex "08 08 08 08 08 00 00")
     -- two may overlap; one bad table makes the list bad
     ∷ line (lists ("0020 1000 0820 0800" ∷ "0020 0800 0020 0700" ∷ [])) (hex "00 08")
     ∷ []

@@ -38,7 +38,13 @@ unfoldable pub longRows : List Line
 longRows =
     line (modbusAnswer 0x11 (hex "11 03" ++ replicate 252 0 ++ hex "1CCE") four) (hex "11 83 03 00F4")
     ∷ silent (hex "11 03" ++ replicate 253 0 ++ hex "CFC9")
+    -- the most registers that are read and written at once: 125 in an answer of 255 bytes, 123 in a frame of 255
+    ∷ line (modbusAnswer 0x11 (hex "11 03 0000 007D 877B") (replicate 252 0x55)) (hex "11 03 FA" ++ replicate 250 0x55 ++ hex "15D6")
+    ∷ line (modbusAnswer 0x11 many (replicate 248 0) ++ modbusMemory 0x11 many (replicate 248 0)) (hex "11 10 0000 007B 82BA" ++ replicate 246 0x55 ++ hex "0000")
     ∷ []
+  where
+    many : List ℕ
+    many = hex "11 10 0000 007B F6" ++ replicate 246 0x55 ++ hex "D431"
 
 -- "Serve functions 3, 6, 16 and 22"
 unfoldable pub functionRows : List Line
@@ -114,6 +120,8 @@ lasts frame last = line (bytesAt (modbusMemory 0x11 (hex frame) (replicate 8193 
 unfoldable pub endRows : List Line
 endRows =
     line (modbusAnswer 0x11 (hex "11 03 1FFF 0001 B17E") zeros) (hex "11 03 02 0000 7987")
+    -- a read from the variables on into the calibration area
+    ∷ line (modbusAnswer 0x11 (hex "11 03 0FFF 0002 F5BF") (replicate 8190 0 ++ hex "A1A2 B1B2")) (hex "11 03 04 A2A1 B2B1 2D7C")
     ∷ lasts "11 06 0FFF 0102 382F" "0000 0201 00"
     ∷ lasts "11 10 0FFE 0002 04 0102 0304 C958" "0201 0403 00"
     ∷ lasts "11 10 0FFF 0002 04 0102 0304 0894" "0000 0000 00"

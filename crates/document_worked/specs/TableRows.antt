@@ -29,8 +29,9 @@ unfoldable pub wholeListRows : List Line
 wholeListRows =
     -- a list of no tables, of one, and of 16; 17 are too many
     line (map (λ (n : ℕ). refused (isListGood good (many n))) (hex "00 01 10 11")) (hex "00 00 00 08")
-    -- every entry is looked at: a bad one behind a good one
+    -- every entry is looked at: a bad one behind two good ones, and one before a good one
     ∷ line (refused (isListGood (good ++ entry "0000" "1000") (hex "0020 1800")) ∷ []) (hex "08")
+    ∷ line (refused (isListGood (good ++ entry "0000" "1000" ++ entry "0000" "0B00") (hex "0820 1800")) ∷ []) (hex "08")
     -- "lowest number first"
     ∷ line (registerRefusal [] (hex "00") ∷ registerRefusal zeros [] ∷ registerRefusal zeros (hex "00") ∷ []) (hex "02 00 08")
     ∷ []
