@@ -21,7 +21,7 @@ use Rattle.document.specs.CallRows.{Line, callRows, answerRows, commandR
 use Rattle.document.specs.ReaderRows.{readerRows}
 use Rattle.document.specs.ApplicationRows.{collectRows}
 use Rattle.document.specs.BaseTypes.{sizeOfCode}
-use Rattle.document.specs.TableRows.{entryRows, listRows, tableRows, tablesByStep}
+use Rattle.document.specs.TableRows.{entryRows, listRows, registerRows, tableRows, tablesByStep}
 use Rattle.document.specs.Tables.{isListGood}
 use Rattle.document.specs.Rows.{saidBy}
 use Rattle.document.specs.BlockRows.{blockRows}
@@ -38,9 +38,13 @@ unfolding callRows answerRows commandRows statusRows readerRows collectRows well
 lines-hold = lists-eq (map (λ (l : Line). l .gives) lines) (map (λ (l : Line). l .says) lines) refl
 
 -- over no memory at all, in which every entry is good
-pub lists-hold : map (λ (l : Line). l .gives) (listRows []) ≡ map (λ (l : Line). l .says) (listRows [])
-unfolding listRows sizeOfCode isListGood
-lists-hold = lists-eq (map (λ (l : Line). l .gives) (listRows [])) (map (λ (l : Line). l .says) (listRows [])) refl
+abbrev pub lists : List Line
+unfolding listRows registerRows
+lists = listRows [] ++ registerRows
+
+pub lists-hold : map (λ (l : Line). l .gives) lists ≡ map (λ (l : Line). l .says) lists
+unfolding listRows registerRows sizeOfCode isListGood
+lists-hold = lists-eq (map (λ (l : Line). l .gives) lists) (map (λ (l : Line). l .says) lists) refl
 
 pub tables-hold : map (tablesByStep []) tableRows ≡ map saidBy tableRows
 unfolding tableRows answerOnWire heard serviceOf refusal answered

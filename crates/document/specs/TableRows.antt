@@ -2,7 +2,7 @@
 -- crates/document_worked.
 use mathlib.Core.Bool.{Bool, cond}
 use mathlib.Core.List.{List, [], _∷_, _++_, map}
-use Prim.Native.Nat.{ℕ, _+_, _*_}
+use Prim.Native.Nat.{ℕ, zero, suc, _+_, _*_}
 use Prim.Native.String.{String}
 use lib.Dec.{eqb}
 use lib.ListN.{replicate}
@@ -12,7 +12,7 @@ use Rattle.document.specs.Answer.{answerOnWire}
 use Rattle.document.specs.Gate.{registered}
 use Rattle.document.specs.Happenings.{fromReset}
 use Rattle.document.specs.Numbers.{taken, listRefused}
-use Rattle.document.specs.Tables.{baseSize, isEntryGood, areEntriesGood, tablesIn, isListGood}
+use Rattle.document.specs.Tables.{baseSize, isEntryGood, areEntriesGood, tablesIn, isListGood, registerRefusal}
 use Rattle.document.specs.Rows.{Row, asks, afterSteps}
 use Rattle.document.specs.CallRows.{Line, line, below}
 
@@ -73,10 +73,17 @@ entryRows =
 
 -- ---- lists, over a memory in which every entry is good, so that the place alone decides
 
+-- a list of n tables
+abbrev pub many : ℕ → List ℕ
+many zero = []
+many (suc n) = hex "0020 0800" ++ many n
+
 unfoldable pub listRows : List ℕ → List Line
 listRows memory =
+    -- none, 1 and 16 tables; "more than 16"
+    line (map (λ (n : ℕ). refused (isListGood memory (many n))) (hex "00 01 10 11")) (hex "00 00 00 08")
     -- half a pair, and parts of one
-    line (lists ("0020" ∷ "00" ∷ "0020 08" ∷ "0020 0800 0020" ∷ [])) (hex "08 08 08 08")
+    ∷ line (lists ("0020" ∷ "00" ∷ "0020 08" ∷ "0020 0800 0020" ∷ [])) (hex "08 08 08 08")
     -- "inside the calibration area": before it, across its beginning, its first 8 bytes, its last 8, across its end, behind it
     ∷ line (lists ("F81F 0800" ∷ "FF1F 0800" ∷ "0020 0800" ∷ "F82F 0800" ∷ "F92F 0800" ∷ "0030 0800" ∷ "F8FF 0800" ∷ [])) (hex "08 08 00 00 08 08 08")
     -- "one or more whole entries": 0, 4, 7, 9, 12 and 16 bytes; and at an odd address
@@ -87,6 +94,14 @@ listRows memory =
   where
     lists : List String → List ℕ
     lists ls = map (λ (l : String). refused (isListGood memory (hex l))) ls
+
+-- "lowest number first"
+unfoldable pub registerRows : List Line
+registerRows =
+    line (registerRefusal [] (hex "00") ∷ registerRefusal whole [] ∷ registerRefusal whole (hex "00") ∷ []) (hex "02 00 08") ∷ []
+  where
+    whole : List ℕ
+    whole = replicate 16384 0
 
 -- ---- over the port, with two tables
 

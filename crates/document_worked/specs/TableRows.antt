@@ -1,22 +1,15 @@
 -- Rows for the tables (2026-03) over a whole memory: lists, and names read over the port.
 use mathlib.Core.List.{List, [], _∷_, _++_, map}
-use Prim.Native.Nat.{ℕ, zero, suc}
+use Prim.Native.Nat.{ℕ}
 use lib.ListN.{replicate}
 use Rattle.document.specs.Hex.{hex}
 use Rattle.document.specs.Asides.Aside.{writes}
-use Rattle.document.specs.Tables.{isListGood, registerRefusal}
-use Rattle.document.specs.Rows.{zeros, Row, Step, asks}
+use Rattle.document.specs.Tables.{isListGood}
+use Rattle.document.specs.Rows.{Row, Step, asks}
 use Rattle.document.specs.CallRows.{Line, line}
-use Rattle.document.specs.TableRows.{entry, refused, types}
+use Rattle.document.specs.TableRows.{entry, refused, types, many}
 
 -- ---- lists: with a good entry at 8,192, and one of another type behind it
-
-abbrev one : List ℕ
-one = hex "0020 0800"
-
-abbrev many : ℕ → List ℕ
-many zero = []
-many (suc n) = one ++ many n
 
 abbrev good : List ℕ
 good = types ++ replicate 8187 0 ++ entry "0000" "0B00" ++ entry "0200" "0000"
@@ -32,8 +25,6 @@ wholeListRows =
     -- every entry is looked at: a bad one behind two good ones, and one before a good one
     ∷ line (refused (isListGood (good ++ entry "0000" "1000") (hex "0020 1800")) ∷ []) (hex "08")
     ∷ line (refused (isListGood (good ++ entry "0000" "1000" ++ entry "0000" "0B00") (hex "0820 1800")) ∷ []) (hex "08")
-    -- "lowest number first"
-    ∷ line (registerRefusal [] (hex "00") ∷ registerRefusal zeros [] ∷ registerRefusal zeros (hex "00") ∷ []) (hex "02 00 08")
     ∷ []
 
 -- ---- over the port: "coil" at 16, its type at 32, its entry at 8,192, and no zero at memory's end

@@ -1,6 +1,6 @@
 -- Rows that want a whole memory, or the place of the recorder's buffer in it, and rows that are long: of the calls and the writers, the scope,
 -- and the sets read round.
-use mathlib.Core.Bool.{true, false}
+use mathlib.Core.Bool.{true}
 use mathlib.Core.List.{List, [], _∷_, _++_}
 use Prim.Native.Nat.{ℕ}
 use lib.ListN.{replicate}
@@ -14,9 +14,8 @@ use Rattle.document.specs.SetRows.{history, planOf}
 -- "2 memory of another length", "3 a lent output buffer too short"; "Lowest number first"
 unfoldable pub callRows : List Line
 callRows =
-    line (tickRefusal true (lent 16384) ∷ tickRefusal true (lent 16385) ∷ tickRefusal false [] ∷ []) (hex "00 02 01")
-    ∷ line (byteRefusal true (lent 16384) (lent 132) ∷ byteRefusal true (lent 16384) (lent 131) ∷ []) (hex "00 03")
-    ∷ line (byteRefusal true (lent 16383) [] ∷ byteRefusal false [] [] ∷ byteRefusal true (lent 16384) (lent 133) ∷ []) (hex "02 01 00")
+    line (tickRefusal true (lent 16383) ∷ tickRefusal true (lent 16385) ∷ []) (hex "02 02")
+    ∷ line (byteRefusal true (lent 16383) [] ∷ byteRefusal true (lent 16385) [] ∷ byteRefusal true (lent 16384) (lent 133) ∷ []) (hex "02 02 00")
     ∷ []
 
 -- "standard data above 255"; "00 to 02 and 81 to 89", of all bytes
