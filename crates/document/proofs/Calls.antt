@@ -20,8 +20,9 @@ use Rattle.document.specs.Sets.{setsTaken}
 use Rattle.document.specs.CallRows.{Line, callRows, answerRows, commandRows, statusRows}
 use Rattle.document.specs.ReaderRows.{readerRows}
 use Rattle.document.specs.ApplicationRows.{collectRows}
+use Rattle.document.specs.Strings.{beforeZero, hasZero}
 use Rattle.document.specs.BaseTypes.{sizeOfCode}
-use Rattle.document.specs.TableRows.{entryRows, listRows, registerRows, tableRows, tablesByStep}
+use Rattle.document.specs.TableRows.{entryRows, listRows, registerRows, tableRows, tablesByStep, longName, longNameRows}
 use Rattle.document.specs.Tables.{isListGood}
 use Rattle.document.specs.Rows.{saidBy}
 use Rattle.document.specs.BlockRows.{blockRows}
@@ -49,6 +50,10 @@ lists-hold = lists-eq (map (λ (l : Line). l .gives) lists) (map (λ (l : Line).
 pub tables-hold : map (tablesByStep []) tableRows ≡ map saidBy tableRows
 unfolding tableRows answerOnWire heard serviceOf refusal answered
 tables-hold = holds-eq (map (tablesByStep []) tableRows) (map saidBy tableRows) refl
+
+pub long-name-holds : map (tablesByStep longName) longNameRows ≡ map saidBy longNameRows
+unfolding longNameRows answerOnWire heard serviceOf refusal answered beforeZero hasZero
+long-name-holds = holds-eq (map (tablesByStep longName) longNameRows) (map saidBy longNameRows) refl
 
 pub entries-hold : map (λ (l : Line). l .gives) entryRows ≡ map (λ (l : Line). l .says) entryRows
 unfolding entryRows sizeOfCode

@@ -52,6 +52,7 @@ blockRows =
     -- "writes the answers one behind another"
     ∷ line (blockAfter ready 200 (hex "2BC13F 7F 2B7F0081 2BC1") .written) (hex "2B8878 2B817F")
     ∷ line (answersOnWire (record { status = 0x88; body = [] } ∷ record { status = 0; body = hex "7F" } ∷ [])) (hex "2B8878 2B007F81")
+    ∷ line (length (blockAfter ready 200 (hex "2BC13F 7F 2B7F0081 2BC1") .since .answers) ∷ []) (hex "02")
     -- the next block goes on where one ended, inside a message, or stopped; what was not taken is not carried out
     ∷ line (inTwo 132 "2BC1" "3F") (hex "02 00 01 03")
     ∷ line (inTwo 200 "2B01 03 40 10" "00 AC") (hex "05 00 02 83")

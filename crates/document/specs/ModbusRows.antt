@@ -69,7 +69,7 @@ excepts frame answer = line (modbusAnswer 0x11 frame four ++ modbusMemory 0x11 f
 -- "A frame below 4 or above 256 bytes, a wrong check sum, another station, a broadcast or a function byte above 127"
 unfoldable pub silenceRows : List Line
 silenceRows =
-    -- below 4 bytes; of 4 and of 256, which is not silenced, and of 257
+    -- below 4 bytes; of 4 and of 256, which are not silenced; of 257
     silent []
     ∷ silent (hex "11 7F4C")
     ∷ line (map (λ (f : List ℕ). cond (isSilenced 0x11 f) 1 0) (hex "11 04 0C23" ∷ (hex "11 03" ++ replicate 252 0 ++ hex "1CCE") ∷ [])) (hex "00 00")
@@ -83,6 +83,8 @@ silenceRows =
     ∷ silent (hex "00 06 0001 0003 99DA")
     -- a broadcast is nobody's own
     ∷ line (modbusAnswer 0 (hex "00 03 0000 0001 85DB") four) []
+    -- a function byte of 127, and of 128
+    ∷ excepts (hex "11 7F 0000 0001 D750") "11 FF 01 A1F5"
     ∷ silent (hex "11 80 0000 0001 C344")
     -- the first and the last station; nobody's are 248 to 255
     ∷ line (modbusAnswer 1 (hex "01 03 0000 0001 840A") four) (hex "01 03 02 0201 78E4")

@@ -59,6 +59,8 @@ entryRows =
     -- 0xEC and 0xFF are no codes; of all bytes, those that are
     ∷ line (sized (λ (s : ℕ). s) (hex "EC EC FF FF") (hex "04 0C 04 0C")) (replicate 4 0)
     ∷ line (coded (below 256)) (hex "E001 E102 E204 E308 E502 E604 F001 F102 F204 F308 F502 F604 FA04 FB08")
+    -- each by the type that its own address names
+    ∷ line (map (λ (e : List ℕ). refused (isEntryGood (hex "E100 F200") e)) (entry "0000" "0800" ∷ entry "0200" "0800" ∷ entry "0200" "1000" ∷ [])) (hex "00 08 00")
     -- name and address are not looked at: both outside memory
     ∷ line (refused (isEntryGood types (hex "FFFF 0000 FFFF 0800")) ∷ []) (hex "00")
     -- "whose type address is outside memory"
@@ -66,9 +68,9 @@ entryRows =
     -- each base type with its size, and with one more
     ∷ line (sized (λ (s : ℕ). s) codesWritten sizesWritten) (replicate 14 0)
     ∷ line (sized (λ (s : ℕ). s + 1) codesWritten sizesWritten) (replicate 14 8)
-    -- every entry is looked at: a bad one behind a good one, and the second of three
+    -- every entry is looked at: a bad one behind a good one; the second of three, then none of them
     ∷ line (map (λ (n : ℕ). refused (areEntriesGood (types ++ entry "0000" "0B00" ++ entry "0000" "1000") 5 n)) (hex "00 01 02")) (hex "00 00 08")
-    ∷ line (refused (areEntriesGood (types ++ entry "0000" "0B00" ++ entry "0000" "1000" ++ entry "0000" "0B00") 5 3) ∷ []) (hex "08")
+    ∷ line (map (λ (second : String). refused (areEntriesGood (types ++ entry "0000" "0B00" ++ entry "0000" second ++ entry "0000" "0B00") 5 3)) ("1000" ∷ "0900" ∷ [])) (hex "08 00")
     ∷ []
 
 -- ---- lists, over a memory in which every entry is good, so that the place alone decides
@@ -116,3 +118,10 @@ tableRows =
     -- another data part than an index of 2 bytes
     ∷ (asks "11 00" "85" ∷ asks "11 01 00" "85" ∷ asks "11 03 000000" "85" ∷ [])
     ∷ []
+
+-- a name of 300 bytes: the length's second byte
+abbrev pub longName : List ℕ
+longName = replicate 300 0x41 ++ hex "00"
+
+unfoldable pub longNameRows : List Row
+longNameRows = (asks "D4 0000" "00 2C01" ∷ asks "E6 02000000" "00 2A01" ∷ []) ∷ []

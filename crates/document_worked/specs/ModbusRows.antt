@@ -64,7 +64,6 @@ exceptionRows =
     -- 1, whatever follows
     excepts (hex "11 00 0000 0001 C29A") "11 80 01 81C5"
     ∷ excepts (hex "11 01 0000 0001 FF5A") "11 81 01 8055"
-    ∷ excepts (hex "11 7F 0000 0001 D750") "11 FF 01 A1F5"
     -- and so before 3
     ∷ excepts (hex "11 04 0C23") "11 84 01 8305"
     -- 3, "a quantity outside 1 to 125 (read)"

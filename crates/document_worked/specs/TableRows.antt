@@ -3,9 +3,8 @@ use mathlib.Core.List.{List, [], _∷_, _++_, map}
 use Prim.Native.Nat.{ℕ}
 use lib.ListN.{replicate}
 use Rattle.document.specs.Hex.{hex}
-use Rattle.document.specs.Asides.Aside.{writes}
 use Rattle.document.specs.Tables.{isListGood}
-use Rattle.document.specs.Rows.{Row, Step, asks}
+use Rattle.document.specs.Rows.{Row, asks}
 use Rattle.document.specs.CallRows.{Line, line}
 use Rattle.document.specs.TableRows.{entry, refused, types, many}
 
@@ -38,13 +37,8 @@ nameRows =
     (asks "01 03 08 0020" "00 1000 2000 1200 0B00" ∷ asks "D4 1000" "00 0400" ∷ asks "01 03 04 1000" "00 636F696C" ∷ [])
     -- an empty string, and parts of one, with addresses of 2 bytes and of 4
     ∷ (asks "D4 1400" "00 0000" ∷ asks "E6 10000000" "00 0400" ∷ asks "E6 11000000" "00 0300" ∷ [])
-    -- one of 260 bytes: the length's second byte
-    ∷ (longName ∷ asks "D4 1000" "00 0401" ∷ [])
     -- an empty one near the end, and one without a zero
     ∷ (asks "D4 FE3F" "00 0000" ∷ asks "D4 FF3F" "86" ∷ asks "E6 FF3F0000" "86" ∷ [])
     -- an address outside
     ∷ (asks "D4 0040" "89" ∷ asks "D4 FFFF" "89" ∷ asks "E6 00400000" "89" ∷ asks "E6 10000100" "89" ∷ asks "E6 000000FF" "89" ∷ [])
     ∷ []
-  where
-    longName : Step
-    longName = record { bytes = []; asides = writes 16 (replicate 260 0x41 ++ (0 ∷ [])) ∷ []; answers = [] }
