@@ -97,10 +97,17 @@ listRows memory =
     lists : List String → List ℕ
     lists ls = map (λ (l : String). refused (isListGood memory (hex l))) ls
 
--- "lowest number first"
+-- ---- a list where its entries stand: at 8,192 a good one, one of another type, a bad one and a good one
+
+abbrev pub entered : List ℕ
+entered = types ++ replicate 8187 0 ++ entry "0000" "0B00" ++ entry "0200" "0000" ++ entry "0000" "1000" ++ entry "0000" "0B00"
+
 unfoldable pub registerRows : List Line
 registerRows =
-    line (registerRefusal [] (hex "00") ∷ registerRefusal whole [] ∷ registerRefusal whole (hex "00") ∷ []) (hex "02 00 08") ∷ []
+    line (map (λ (l : String). refused (isListGood entered (hex l))) ("0020 1000" ∷ "0020 1800" ∷ "1020 1000" ∷ "1820 0800" ∷ [])) (hex "00 08 08 00")
+    -- "lowest number first"
+    ∷ line (registerRefusal [] (hex "00") ∷ registerRefusal whole [] ∷ registerRefusal whole (hex "00") ∷ []) (hex "02 00 08")
+    ∷ []
   where
     whole : List ℕ
     whole = replicate 16384 0

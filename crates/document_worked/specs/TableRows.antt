@@ -1,30 +1,15 @@
 -- Rows for the tables (2026-03) over a whole memory: lists, and names read over the port.
-use mathlib.Core.List.{List, [], _∷_, _++_, map}
+use mathlib.Core.List.{List, [], _∷_, _++_}
 use Prim.Native.Nat.{ℕ}
 use lib.ListN.{replicate}
 use Rattle.document.specs.Hex.{hex}
-use Rattle.document.specs.Tables.{isListGood}
 use Rattle.document.specs.Rows.{Row, asks}
-use Rattle.document.specs.CallRows.{Line, line}
-use Rattle.document.specs.TableRows.{entry, refused, types, many}
+use Rattle.document.specs.TableRows.{entry, types}
 
--- ---- lists: with a good entry at 8,192, and one of another type behind it
+-- ---- lists: every entry is good here
 
-abbrev good : List ℕ
-good = types ++ replicate 8187 0 ++ entry "0000" "0B00" ++ entry "0200" "0000"
-
--- every entry is good here
 abbrev pub wide : List ℕ
 wide = types ++ replicate 12300 2
-
-unfoldable pub wholeListRows : List Line
-wholeListRows =
-    -- a list of no tables, of one, and of 16; 17 are too many
-    line (map (λ (n : ℕ). refused (isListGood good (many n))) (hex "00 01 10 11")) (hex "00 00 00 08")
-    -- every entry is looked at: a bad one behind two good ones, and one before a good one
-    ∷ line (refused (isListGood (good ++ entry "0000" "1000") (hex "0020 1800")) ∷ []) (hex "08")
-    ∷ line (refused (isListGood (good ++ entry "0000" "1000" ++ entry "0000" "0B00") (hex "0820 1800")) ∷ []) (hex "08")
-    ∷ []
 
 -- ---- over the port: "coil" at 16, its type at 32, its entry at 8,192, and no zero at memory's end
 
