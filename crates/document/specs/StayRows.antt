@@ -1,4 +1,4 @@
--- Rows for what stays: with a scope, a recorder, an application command and two tables in place, what comes over the line and what happens
+-- Rows for what stays: with a scope, a recorder, an application command and tables in place, what comes over the line and what happens
 -- beside it leave all that they do not name.
 use mathlib.Core.List.{List, [], _∷_, _++_, map}
 use Prim.Native.Nat.{ℕ}

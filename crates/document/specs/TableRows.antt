@@ -86,8 +86,8 @@ listRows memory =
     line (map (λ (n : ℕ). refused (isListGood memory (many n))) (hex "00 01 10 11")) (hex "00 00 00 08")
     -- half a pair, and parts of one
     ∷ line (lists ("0020" ∷ "00" ∷ "0020 08" ∷ "0020 0800 0020" ∷ [])) (hex "08 08 08 08")
-    -- "inside the calibration area": before it, across its beginning, its first 8 bytes, its last 8, across its end, behind it
-    ∷ line (lists ("F81F 0800" ∷ "FF1F 0800" ∷ "0020 0800" ∷ "F82F 0800" ∷ "F92F 0800" ∷ "0030 0800" ∷ "F8FF 0800" ∷ [])) (hex "08 08 00 00 08 08 08")
+    -- "inside the calibration area": before it, across its beginning, its first 8 bytes, its last 8, across its end by little and by much, behind it
+    ∷ line (lists ("F81F 0800" ∷ "FF1F 0800" ∷ "0020 0800" ∷ "F82F 0800" ∷ "F92F 0800" ∷ "F82F 0801" ∷ "0030 0800" ∷ "F8FF 0800" ∷ [])) (hex "08 08 00 00 08 08 08 08")
     -- "one or more whole entries": 0, 4, 7, 9, 12 and 16 bytes; and at an odd address
     ∷ line (lists ("0020 0000" ∷ "0020 0400" ∷ "0020 0700" ∷ "0020 0900" ∷ "0020 0C00" ∷ "0020 1000" ∷ "0120 0800" ∷ [])) (hex "08 08 08 08 08 00 00")
     -- two may overlap; one bad table makes the list bad
@@ -112,16 +112,16 @@ registerRows =
     whole : List ℕ
     whole = replicate 16384 0
 
--- ---- over the port, with two tables
+-- ---- over the port, with three tables
 
 abbrev pub tablesByStep : List ℕ → Row → List (List ℕ)
 tablesByStep memory row =
-    map answerOnWire (afterSteps (fromReset (registered (tablesIn (hex "0020 0800 0820 1000")) memory)) row .answers)
+    map answerOnWire (afterSteps (fromReset (registered (tablesIn (hex "0020 0800 0820 1000 1820 0801")) memory)) row .answers)
 
 unfoldable pub tableRows : List Row
 tableRows =
     -- "flags 2, size and address, 2 bytes each, or six zero bytes for an index beyond the last"
-    (asks "11 02 0000" "00 0200 0800 0020" ∷ asks "11 02 0100" "00 0200 1000 0820" ∷ asks "11 02 0200" "00 0000 0000 0000" ∷ asks "11 02 0001" "00 0000 0000 0000" ∷ asks "11 02 FFFF" "00 0000 0000 0000" ∷ [])
+    (asks "11 02 0000" "00 0200 0800 0020" ∷ asks "11 02 0100" "00 0200 1000 0820" ∷ asks "11 02 0200" "00 0200 0801 1820" ∷ asks "11 02 0300" "00 0000 0000 0000" ∷ asks "11 02 0001" "00 0000 0000 0000" ∷ asks "11 02 FFFF" "00 0000 0000 0000" ∷ [])
     -- another data part than an index of 2 bytes
     ∷ (asks "11 00" "85" ∷ asks "11 01 00" "85" ∷ asks "11 03 000000" "85" ∷ [])
     ∷ []
