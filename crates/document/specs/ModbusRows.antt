@@ -9,7 +9,7 @@ use Rattle.document.specs.Hex.{hex}
 use Rattle.document.specs.CheckSum.{withCheckSum, isCheckSumRight}
 use Rattle.document.specs.Frames.{stationIn, functionByte, wordIn, firstIn, quantityIn, byteCountIn, isStation, isSilenced}
 use Rattle.document.specs.Modbus.{functionOf, isOther, exceptionTo, carriedOut, functionData, modbusAnswer, modbusMemory, modbusRefusal, modbusBuffer}
-use Rattle.document.specs.declared.Function.the-variants.{ReadRegisters, WriteRegister, WriteRegisters, MaskRegister}
+use Rattle.document.specs.declared.Function.the-variants.{ReadRegisters, WriteRegister, WriteRegisters, MaskRegister, Other}
 use Rattle.document.specs.Gate.{fresh}
 use Rattle.document.specs.Asides.Aside.{frames}
 use Rattle.document.specs.Happenings.{afterAll, fromReset}
@@ -111,6 +111,10 @@ functionRows =
     ∷ leaves "11 10 0001 0002 04 ABCD 5678 E8FA" "0102 CDAB 7856 FEFF"
     -- 22 masks one: the old 0x12 with the masks 0xF2 and 0x25 gives 0x17
     ∷ leaves "11 16 0002 00F2 0025 EEE2" "0102 0304 1700 FEFF"
+    -- a read changes nothing, nor does another function; what 16 and 22 are told by
+    ∷ line (carriedOut ReadRegisters (hex "11 03 0001 0003 569B") four ++ carriedOut Other (hex "11 04 0C23") four) (four ++ four)
+    ∷ line (functionData WriteRegisters (hex "11 10 0001 0002 04 ABCD 5678 E8FA") four) (hex "0001 0002")
+    ∷ line (functionData MaskRegister (hex "11 16 0002 00F2 0025 EEE2") four) (hex "0002 00F2 0025")
     ∷ []
   where
     others : List ℕ → List ℕ
@@ -140,6 +144,13 @@ addressRows =
     ∷ line (exceptionTo MaskRegister (hex "11 16 0FFF 0000 0102 63B0") [] ∷ exceptionTo MaskRegister (hex "11 16 1000 0000 0102 75CB") [] ∷ []) (hex "00 02")
     ∷ []
 
+-- 3: a byte count that does not fit the frame, or the quantity; a frame of function 22 that is too short
+unfoldable pub lengthRows : List Line
+lengthRows =
+    line (map (λ (f : List ℕ). exceptionTo WriteRegisters f []) (hex "11 10 0000 0001 02 000000 D1EF" ∷ hex "11 10 0000 0001 02 00 C1AA" ∷ hex "11 10 0000 0001 03 000000 D013" ∷ [])) (hex "03 03 03")
+    ∷ line (exceptionTo MaskRegister (hex "11 16 0000 0000 00 18F7") [] ∷ []) (hex "03")
+    ∷ []
+
 -- 3 before 2, and 1 before both
 unfoldable pub orderRows : List Line
 orderRows =
@@ -152,9 +163,10 @@ orderRows =
 
 unfoldable pub refusalRows : List Line
 refusalRows =
-    line (modbusRefusal 247 zeros (lent 256) ∷ modbusRefusal 247 zeros (lent 255) ∷ modbusRefusal 248 zeros (lent 256) ∷ modbusRefusal 248 zeros (lent 255) ∷ modbusRefusal 248 [] [] ∷ []) (hex "00 03 09 03 02")
+    line (modbusRefusal 247 (lent 16384) (lent 256) ∷ modbusRefusal 247 (lent 16384) (lent 255) ∷ modbusRefusal 248 (lent 16384) (lent 256) ∷ modbusRefusal 248 (lent 16384) (lent 255) ∷ modbusRefusal 248 [] [] ∷ []) (hex "00 03 09 03 02")
     -- "Bytes of it behind the answer keep their values; without an answer, all do."
     ∷ line (modbusBuffer 0x11 (hex "11 04 0C23") four (lent 7)) (hex "11 84 01 8305 AAAA")
+    ∷ line (modbusBuffer 0x11 (hex "11 03 0001 0003 569B") four (lent 12)) (hex "11 03 06 0403 0012 FFFE C944 AA")
     ∷ line (modbusBuffer 0x11 (hex "10 04 0DB3") four (lent 2)) (hex "AAAA")
     ∷ []
 

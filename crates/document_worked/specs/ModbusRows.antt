@@ -73,11 +73,8 @@ exceptionRows =
     -- "or 1 to 123 (write)"
     ∷ excepts (hex "11 10 0000 0000 00 1891") "11 90 03 0DC4"
     ∷ excepts (hex "11 10 0000 007C F8 0000 53CD") "11 90 03 0DC4"
-    -- "a byte count .. that doesn't fit" the quantity, or the frame
-    ∷ excepts (hex "11 10 0000 0001 03 000000 D013") "11 90 03 0DC4"
+    -- "a byte count .. that doesn't fit" the quantity
     ∷ excepts (hex "11 10 0000 0002 02 0000 6BD4") "11 90 03 0DC4"
-    ∷ excepts (hex "11 10 0000 0001 02 000000 D1EF") "11 90 03 0DC4"
-    ∷ excepts (hex "11 10 0000 0001 02 00 C1AA") "11 90 03 0DC4"
     -- 258 is no byte count: 2 in its place does not fit 129 registers
     ∷ excepts (hex "11 10 0000 0081 02 0000 4250") "11 90 03 0DC4"
     -- "or frame length that doesn't fit"
