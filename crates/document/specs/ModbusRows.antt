@@ -34,7 +34,7 @@ checkSumRows =
     ∷ line (map right ("01 03 0000 0001 840A" ∷ "00 03 0000 0001 840A" ∷ "01 03 0000 0101 840A" ∷ "01 03 0000 0001 850A" ∷ "01 03 0000 0001 0A84" ∷ [])) (1 ∷ 0 ∷ 0 ∷ 0 ∷ 0 ∷ [])
     ∷ []
 
--- ---- the fields of a frame: "a number takes two bytes, high byte first"
+-- ---- the fields of a frame; a number takes two bytes, high byte first
 
 abbrev frame : List ℕ
 frame = hex "11 10 1234 5678 9ABC DEF0"

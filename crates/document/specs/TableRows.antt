@@ -76,7 +76,7 @@ entryRows =
 -- ---- lists, over a memory in which every entry is good, so that the place alone decides
 
 -- a list of n tables
-abbrev pub many : ℕ → List ℕ
+abbrev many : ℕ → List ℕ
 many zero = []
 many (suc n) = hex "0020 0800" ++ many n
 
@@ -97,20 +97,17 @@ listRows memory =
     lists : List String → List ℕ
     lists ls = map (λ (l : String). refused (isListGood memory (hex l))) ls
 
--- ---- a list where its entries stand: at 8,192 a good one, one of another type, a bad one and a good one
+-- ---- a whole memory, with entries at 8,192: a good one, one of another type, a bad one and a good one
 
-abbrev pub entered : List ℕ
-entered = types ++ replicate 8187 0 ++ entry "0000" "0B00" ++ entry "0200" "0000" ++ entry "0000" "1000" ++ entry "0000" "0B00"
+abbrev entered : List ℕ
+entered = types ++ replicate 8187 0 ++ entry "0000" "0B00" ++ entry "0200" "0000" ++ entry "0000" "1000" ++ entry "0000" "0B00" ++ replicate 8160 0
 
 unfoldable pub registerRows : List Line
 registerRows =
-    line (map (λ (l : String). refused (isListGood entered (hex l))) ("0020 1000" ∷ "0020 1800" ∷ "1020 1000" ∷ "1820 0800" ∷ [])) (hex "00 08 08 00")
+    line (map (λ (l : String). registerRefusal entered (hex l)) ("" ∷ "0020 1000" ∷ "0020 1800" ∷ "1020 1000" ∷ "1820 0800" ∷ "00" ∷ [])) (hex "00 00 08 08 00 08")
     -- "lowest number first"
-    ∷ line (registerRefusal [] (hex "00") ∷ registerRefusal whole [] ∷ registerRefusal whole (hex "00") ∷ []) (hex "02 00 08")
+    ∷ line (registerRefusal [] (hex "00") ∷ []) (hex "02")
     ∷ []
-  where
-    whole : List ℕ
-    whole = replicate 16384 0
 
 -- ---- over the port, with three tables
 
