@@ -27,7 +27,7 @@ use Rattle.document.specs.Tables.{isListGood}
 use Rattle.document.specs.Rows.{saidBy}
 use Rattle.document.specs.BlockRows.{blockRows}
 use Rattle.document.specs.PanelRows.{panelLines}
-use Rattle.document.specs.SetRows.{plainPlan, exPlan, plainPlanNoTrigger, plansIn, bufferAnswers, histories, taken, written, lasts, copied}
+use Rattle.document.specs.SetRows.{plainPlan, exPlan, plainPlanNoTrigger, plansIn, bufferAnswers, histories, taken, written, rounds, lasts, copied}
 use Rattle.document.proofs.Rows.{holds-eq, lists-eq}
 
 abbrev pub lines : List Line
@@ -77,6 +77,9 @@ buffer-answers-hold = lists-eq bufferAnswers (hex "0030 0201" ∷ hex "00300000 
 pub histories-hold : map taken histories ≡ map written histories
 unfolding histories setsTaken fires isBeyond
 histories-hold = holds-eq (map taken histories) (map written histories) refl
+
+pub rounds-hold : rounds ≡ (hex "20" ∷ hex "10" ∷ hex "20" ∷ [])
+rounds-hold = lists-eq rounds (hex "20" ∷ hex "10" ∷ hex "20" ∷ []) refl
 
 pub lasts-hold : lasts ≡ (hex "20" ∷ hex "30" ∷ [])
 lasts-hold = lists-eq lasts (hex "20" ∷ hex "30" ∷ []) refl
