@@ -5,38 +5,44 @@
 #include <errno.h>
 #include <fcntl.h>
 #include <poll.h>
+#include <stdio.h>
 #include <stdlib.h>
 #include <string.h>
 #include <termios.h>
+#include <time.h>
 #include <unistd.h>
 
-/* Every byte goes through as it is, and none is echoed. */
-static int make_raw(int terminal)
+/* Every byte goes through as it is, and none is echoed. The port stays so when nobody has it open. */
+static int make_raw(const char *path)
 {
     struct termios settings;
-    if (tcgetattr(terminal, &settings) != 0)
-        return -1;
-    cfmakeraw(&settings);
-    return tcsetattr(terminal, TCSANOW, &settings);
+    int terminal = open(path, O_RDWR | O_NOCTTY);
+    int is_raw = 0;
+    if (terminal >= 0 && tcgetattr(terminal, &settings) == 0) {
+        cfmakeraw(&settings);
+        is_raw = tcsetattr(terminal, TCSANOW, &settings) == 0;
+    }
+    if (terminal >= 0)
+        close(terminal);
+    return is_raw;
 }
 
-const char *port_open(struct port *p)
+int port_open(struct port *p)
 {
-    *p = (struct port){.ours = posix_openpt(O_RDWR | O_NOCTTY), .theirs = -1};
+    *p = (struct port){.ours = posix_openpt(O_RDWR | O_NOCTTY), .left = 1};
     if (p->ours < 0 || grantpt(p->ours) != 0 || unlockpt(p->ours) != 0)
-        return NULL;
+        return 0;
     const char *path = ptsname(p->ours);
     if (path == NULL)
-        return NULL;
-    p->theirs = open(path, O_RDWR | O_NOCTTY);
-    if (p->theirs < 0 || make_raw(p->theirs) != 0 || fcntl(p->ours, F_SETFL, O_NONBLOCK) != 0)
-        return NULL;
-    return path;
+        return 0;
+    snprintf(p->path, PORT_PATH, "%s", path);
+    return make_raw(p->path) && fcntl(p->ours, F_SETFL, O_NONBLOCK) == 0;
 }
 
+/* EIO: the other end was closed just now. */
 static int is_passing(void)
 {
-    return errno == EINTR || errno == EAGAIN || errno == EWOULDBLOCK;
+    return errno == EINTR || errno == EAGAIN || errno == EWOULDBLOCK || errno == EIO;
 }
 
 static int send_rest(struct port *p)
@@ -60,6 +66,35 @@ static int take_bytes(struct port *p)
     return 1;
 }
 
+/* Whoever comes next is not to find answers to another's commands: those on their way are dropped, then those that have arrived. */
+static void drop_unread(const struct port *p)
+{
+    int theirs = open(p->path, O_RDWR | O_NOCTTY);
+    tcflush(p->ours, TCOFLUSH);
+    if (theirs < 0)
+        return;
+    tcflush(theirs, TCIFLUSH);
+    close(theirs);
+}
+
+static void note_left(struct port *p)
+{
+    if (!p->left)
+        drop_unread(p);
+    p->left = 1;
+    p->out_at = p->out_end;
+}
+
+/* What was sent before they left still comes. */
+static int wait_alone(struct port *p, short events, int milliseconds)
+{
+    note_left(p);
+    if (events & POLLIN)
+        return take_bytes(p);
+    nanosleep(&(struct timespec){.tv_nsec = milliseconds * 1000 * 1000}, NULL);
+    return 1;
+}
+
 int port_wait(struct port *p, int milliseconds)
 {
     int sending = p->out_at < p->out_end;
@@ -68,6 +103,9 @@ int port_wait(struct port *p, int milliseconds)
         return 1;
     if (poll(&ready, 1, milliseconds) < 0)
         return is_passing();
+    if (ready.revents & POLLHUP)
+        return wait_alone(p, ready.revents, milliseconds);
+    p->left = 0;
     if (ready.revents & POLLOUT)
         return send_rest(p);
     if (ready.revents & POLLIN)
@@ -86,18 +124,19 @@ void port_take(struct port *p, size_t length)
     p->in_at += length;
 }
 
-void port_send(struct port *p, const uint8_t *bytes, size_t length)
+int port_send(struct port *p, const uint8_t *bytes, size_t length)
 {
+    if (p->left)
+        return 0;
     memcpy(p->out, bytes, length);
     p->out_at = 0;
     p->out_end = length;
     send_rest(p);
+    return 1;
 }
 
 void port_close(struct port *p)
 {
-    if (p->theirs >= 0)
-        close(p->theirs);
     if (p->ours >= 0)
         close(p->ours);
 }

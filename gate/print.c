@@ -13,13 +13,13 @@ static void print_bytes(const char *what, const uint8_t *bytes, size_t length)
     printf("\n");
 }
 
-/* A line for a shell that sends the bytes and shows the answer. */
-static void print_shell_line(const uint8_t *bytes, size_t length, size_t answer_length, const char *path)
+/* A line for a shell that sends the bytes and shows what comes within a second, however many of its bytes are doubled. */
+static void print_shell_line(const uint8_t *bytes, size_t length, const char *path)
 {
-    printf("  (sleep 1; printf '");
+    printf("  (printf '");
     for (size_t i = 0; i < length; i++)
         printf("\\%03o", bytes[i]);
-    printf("' >%s) & head -c %zu %s | od -A n -t x1\n", path, answer_length, path);
+    printf("' >&0; timeout 1 cat) <>%s | od -A n -t x1\n", path);
 }
 
 static size_t form(uint8_t command, const uint8_t *data, size_t length, uint8_t *wire)
@@ -27,17 +27,31 @@ static size_t form(uint8_t command, const uint8_t *data, size_t length, uint8_t 
     return log_gate_write_command(command, data, length, wire, LOG_GATE_COMMAND_ROOM).length;
 }
 
+/* Which register of the second port a variable is, or which half of one, or which two. */
+static void print_registers(int address, int bytes)
+{
+    if (bytes == 1)
+        printf("%5d %-4s", address / 2, address % 2 == 0 ? "low" : "high");
+    else if (bytes == 2)
+        printf("%5d     ", address / 2);
+    else
+        printf("%5d, %-3d", address / 2, address / 2 + 1);
+}
+
 static void print_variable(int address, int bytes, int access, const char *name, const char *what)
 {
-    printf("%7d  %5d  %-12s  %s%s\n", address, bytes, name, what, access == WRITABLE ? "; yours to write" : "");
+    printf("%7d  %5d  ", address, bytes);
+    print_registers(address, bytes);
+    printf("  %-12s  %s%s\n", name, what, access == WRITABLE ? "; yours to write" : "");
 }
 
 static void print_map(const char *path)
 {
 #define GATE_LINE(symbol, address, bytes, type, access, name, what) print_variable(address, bytes, access, name, what);
-    printf("Address  bytes  name          little-endian\n");
+    printf("Address  bytes  register    name          little-endian\n");
     GATE_MAP(GATE_LINE)
 #undef GATE_LINE
+    printf("What is not yours to write is not kept from you yet: a write to it is carried out.\n");
     printf("The port itself gives them by name:\n  ./run names %s\n", path);
 }
 
@@ -51,8 +65,8 @@ static void print_example(struct gate *g, const char *path)
     print_bytes("  send    ", wire, sent);
     print_bytes("  answer  ", g->answers, length);
     printf("  so coil 1 reads %u\n", (unsigned)number_at(g->answers + 2, 2));
-    printf("From a shell, the same:\n");
-    print_shell_line(wire, sent, length, path);
+    printf("From a shell, the same; it shows what comes within a second, and a byte 2b among data and sum comes twice:\n");
+    print_shell_line(wire, sent, path);
 }
 
 /* Its answers cannot be shown yet: the technician is to start it. */
@@ -63,11 +77,11 @@ static void print_self_test(const char *path)
     printf("The self-test of the coils takes %d seconds. It starts with\n", SELF_TEST_MS / 1000);
     size_t sent = form(LOG_GATE_SEND_COMMAND, code, sizeof code, wire);
     print_bytes("  send    ", wire, sent);
-    print_shell_line(wire, sent, 3, path);
+    print_shell_line(wire, sent, path);
     printf("and is asked for its result with\n");
     sent = form(LOG_GATE_COMMAND_RESULT, code, 0, wire);
     print_bytes("  send    ", wire, sent);
-    print_shell_line(wire, sent, 4, path);
+    print_shell_line(wire, sent, path);
     printf("  The third byte of that answer: %02X before any test, %02X while it runs, then 00, or the number of a bad coil.\n",
            LOG_GATE_NO_COMMAND, LOG_GATE_RESULT_DUE);
 }
@@ -82,7 +96,7 @@ static void print_panel(const char *path)
            "%d ms apart. It is pressed with\n",
            PANEL_READINGS, PANEL_STEP_MS);
     print_bytes("  send    ", wire, sent);
-    print_shell_line(wire, sent, 3, path);
+    print_shell_line(wire, sent, path);
     printf("  'panel' is then %d until that log comes, and 0 again; or it is the status that refused, %02X while the recorder runs.\n",
            PANEL_WAITS, LOG_GATE_BUSY);
 }
@@ -100,6 +114,7 @@ static void print_second(const struct gate *g, const char *path)
     printf("The %d coils are read, and the threshold is written, with\n", COILS);
     print_mbpoll(g, COIL_1, " -c 4", path, "");
     print_mbpoll(g, THRESHOLD, "", path, " 1200");
+    printf("Of two registers the first is the low word. Where two variables share a register, function 22 writes one half alone.\n");
 }
 
 void print_welcome(struct gate *g, const char *path, const char *second)

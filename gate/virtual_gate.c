@@ -55,9 +55,9 @@ static void serve(struct gate *g, struct port *port)
     for (const uint8_t *block = port_block(port, &length); length > 0; block = port_block(port, &length)) {
         log_gate_block_taken done = gate_block(g, block, length);
         port_take(port, done.taken);
-        port_send(port, g->answers, done.written);
         g->came += done.taken;
-        g->went += done.written;
+        if (port_send(port, g->answers, done.written))
+            g->went += done.written;
     }
 }
 
@@ -73,9 +73,8 @@ static void answer_frame(struct gate *g, struct second *s)
 {
     size_t length = gate_frame(g, s->frames.bytes, s->frames.length);
     frames_begin(&s->frames);
-    port_send(&s->port, g->frame_answer, length);
     g->frames_came++;
-    g->frames_went += length > 0;
+    g->frames_went += length > 0 && port_send(&s->port, g->frame_answer, length);
 }
 
 /* The clock is read before the port is: what came until then has been taken when the frame is said to be over. */
@@ -144,17 +143,12 @@ static int read_options(int argc, char **argv, struct options *o)
     return 1 <= o->station && o->station <= 247;
 }
 
-enum { PORT_PATH = 64 };
-
-/* The path is kept: that of the next port is told in the same place. */
-static int open_port(struct port *port, char path[PORT_PATH])
+static int open_port(struct port *port)
 {
-    const char *opened = port_open(port);
-    if (opened == NULL)
+    int opened = port_open(port);
+    if (!opened)
         fprintf(stderr, "virtual gate: no pseudo-terminal: %s\n", strerror(errno));
-    else
-        snprintf(path, PORT_PATH, "%s", opened);
-    return opened != NULL;
+    return opened;
 }
 
 static void listen_for_stops(void)
@@ -170,17 +164,16 @@ int main(int argc, char **argv)
     struct options options = {.seed = 1, .ticks = UINT64_MAX, .station = 1, .silence = FRAMES_SILENCE_MS};
     struct port service;
     struct second second = {.frames = {.length = 0}};
-    char paths[2][PORT_PATH];
     if (!read_options(argc, argv, &options)) {
         fprintf(stderr, "virtual gate: the words it knows are --seed N, --ticks N, --station N (1 to 247) and --silence MS\n");
         return 2;
     }
     second.silence = options.silence;
-    if (!open_port(&service, paths[0]) || !open_port(&second.port, paths[1]))
+    if (!open_port(&service) || !open_port(&second.port))
         return 1;
     listen_for_stops();
     gate_begin(&gate, options.seed, (uint16_t)options.station);
-    print_welcome(&gate, paths[0], paths[1]);
+    print_welcome(&gate, service.path, second.port.path);
     int ended = run(&gate, &service, &second, options.ticks);
     if (!ended)
         fprintf(stderr, "virtual gate: a port was lost: %s\n", strerror(errno));

@@ -29,7 +29,7 @@ extern "C" {
  * number, a state's layout), the minor one additions. It counts apart from the protocol's version, 3, and from what 0xC0 answers.
  */
 #define LOG_GATE_VERSION_MAJOR 3
-#define LOG_GATE_VERSION_MINOR 3
+#define LOG_GATE_VERSION_MINOR 4
 #define LOG_GATE_VERSION (LOG_GATE_VERSION_MAJOR * 256 + LOG_GATE_VERSION_MINOR)
 
 /* Bytes of a target's state and of an answer reader's state; docs/STATE.md has their layout. More may be lent. */
@@ -149,9 +149,14 @@ log_gate_result log_gate_reset(uint8_t *state, size_t state_length);
 
 /*
  * A reset with tables, in which a laptop finds variables by their names. The list has an address and a size for each table, 2 bytes
- * each, lowest first. A table lies inside bytes 8,192 to 12,287 and is one or more whole entries of 8 bytes: name, type, address
- * and info, 2 bytes each. Every entry's type is an address inside the memory; where a base type's string stands there, info
- * divided by 4 is that type's size. This is looked at here and never again. The state may hold anything before.
+ * each, lowest first; tables may lie at odd addresses and overlap. A table lies inside bytes 8,192 to 12,287 and is one or more whole
+ * entries of 8 bytes: name, type, address and info, 2 bytes each. Every entry's type is an address inside the memory; where a base
+ * type's string stands there, info divided by 4 is that type's size. Such a string is one of fourteen codes and a zero: E0, F0 one
+ * byte; E1, F1, E5, F5 two; E2, F2, E6, F6, FA four; E3, F3, FB eight. Another string is another type, of any size. All this is looked
+ * at here and never again. The state may hold anything before.
+ *
+ * Refuses LOG_GATE_STATE_REFUSED for a state that is too short, then LOG_GATE_MEMORY_REFUSED, then LOG_GATE_LIST_REFUSED: half a pair,
+ * more than LOG_GATE_MOST_TABLES, or a table or an entry that is not as said. Nothing is registered then, and the state stays.
  */
 log_gate_result log_gate_register(uint8_t *state, size_t state_length, const uint8_t *memory, size_t memory_length,
                                   const uint8_t *list, size_t list_length);
@@ -188,22 +193,27 @@ log_gate_result log_gate_tick(uint8_t *state, size_t state_length, uint8_t *memo
 
 /*
  * The gate's own program collects what 0x10 brought: a new command is handed out once, its code first; a length of 0 is nothing new.
- * Needs LOG_GATE_DATA_ROOM, always.
+ * Bytes of the buffer behind the command, or all of them when nothing is new, keep their values. Needs LOG_GATE_DATA_ROOM, always.
  */
 log_gate_taken log_gate_collect(uint8_t *state, size_t state_length, uint8_t *out, size_t out_length);
 
 /* It reports the result of the command that it collected. */
 log_gate_result log_gate_report(uint8_t *state, size_t state_length, uint8_t result);
 
-/* What the panel is told: a refusal or LOG_GATE_TAKEN, and the status; the status is LOG_GATE_DONE where it is refused. */
+/*
+ * What the panel is told: a refusal or LOG_GATE_TAKEN, and the status. Where the call is refused, nothing was prepared or started, and
+ * the status is LOG_GATE_NOT_SERVED, which neither call says when it is taken.
+ */
 typedef struct {
     log_gate_result refusal;
     uint8_t status;
 } log_gate_said;
 
 /*
- * The gate's front panel prepares the recorder. It gives 0x09's data part, with addresses of 2 bytes, and is told 0x09's statuses
- * in their order: LOG_GATE_MESSAGE_TOO_LONG above 64 bytes, then LOG_GATE_BUSY, LOG_GATE_LAYOUT_WRONG, LOG_GATE_SIZE_WRONG,
+ * The gate's front panel prepares the recorder. It gives 0x09's data part, numbers lowest byte first: mode (1 byte: 0 none, 1 rising, 2
+ * falling), samples (2), post-trigger (2), time divider (2), the trigger's address (2), size (1), sign (1: 0 unsigned, 1 signed) and
+ * threshold (4), then how many variables (1 byte, 1 to 8) and of each its size (1) and address (2). It is told 0x09's statuses in
+ * their order: LOG_GATE_MESSAGE_TOO_LONG above 64 bytes, then LOG_GATE_BUSY, LOG_GATE_LAYOUT_WRONG, LOG_GATE_SIZE_WRONG,
  * LOG_GATE_RANGE_WRONG; each leaves the former setup. After LOG_GATE_DONE the recorder stands until it is started, as one that has
  * taken no set. A message that is coming over the port goes on.
  */
@@ -218,7 +228,9 @@ log_gate_said log_gate_start(uint8_t *state, size_t state_length);
  * A whole Modbus frame came over the second port, marked off by the gate: Modbus on a serial line, RTU framing, for the station that
  * the gate is there. Functions 3, 6, 16 and 22 are served. Register r is bytes 2r and 2r + 1 of the memory, low byte first; all of
  * the memory can be read, bytes 0 to 8,191 can be written. The answer's length is told, check sum and all; a length of 0 is
- * silence. The two ports share the memory and nothing else, so no state is lent. Refuses LOG_GATE_MEMORY_REFUSED, then
+ * silence: for a frame below 4 or above 256 bytes, another station or station 0, a function byte above 127, or a wrong check sum. An
+ * exception is told in this order: 1 for another function, 3 for a quantity outside 1 to 125 (read) or 123 (write), or a byte count or
+ * a frame length that does not fit, 2 for an address. Silence and exceptions change nothing. The two ports share the memory and nothing else, so no state is lent. Refuses LOG_GATE_MEMORY_REFUSED, then
  * LOG_GATE_ROOM_REFUSED below LOG_GATE_MODBUS_ROOM, where silence follows too, then LOG_GATE_STATION_REFUSED.
  */
 log_gate_taken log_gate_modbus(uint16_t station, const uint8_t *frame, size_t frame_length, uint8_t *memory, size_t memory_length,

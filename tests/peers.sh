@@ -9,7 +9,7 @@ brought() {
     shift
     "$@" 2>/dev/null && return
     echo "tests/run.sh: installing $package" >&2
-    { apt-get update && apt-get install -y "$package"; } >/dev/null 2>&1 || true
+    { apt update && apt install -y "$package"; } || true
     "$@" 2>/dev/null || fail "the Debian package $package is missing and could not be installed"
 }
 brought libmodbus-dev [ -e /usr/include/modbus/modbus.h ]

@@ -21,21 +21,23 @@ for words in "--station 0" "--station 248" "--silence x" "--silence" "--baud 192
     refuses $RUN_X86 $built/virtual_gate $words
 done
 
-# start_gate SAID: a virtual gate whose words go to this file; its ports are $port and $second_port. It ends by itself after a minute of
-# ticks, whatever becomes of this script.
+# start_gate SAID [WORDS..]: a virtual gate whose words go to this file; its ports are $port and $second_port. It ends by itself after a
+# minute of ticks, whatever becomes of this script.
 start_gate() {
-    : >"$1"
-    $RUN_X86 $built/virtual_gate --seed 1 --ticks 60000 >"$1" &
+    said=$1
+    shift
+    : >"$said"
+    $RUN_X86 $built/virtual_gate --ticks 60000 "$@" >"$said" &
     gate=$!
     trap 'kill $gate 2>/dev/null || true' EXIT
     second_port=
     for _ in 1 2 3 4 5 6 7 8 9 10 11 12 13 14 15 16 17 18 19 20; do
-        second_port=$(sed -n 's/^The second port is //p' "$1")
+        second_port=$(sed -n 's/^The second port is //p' "$said")
         [ -z "$second_port" ] || break
         sleep 0.5
     done
     [ -n "$second_port" ] || fail "the virtual gate opened no ports"
-    port=$(sed -n 's/^The service port is //p' "$1")
+    port=$(sed -n 's/^The service port is //p' "$said")
 }
 
 end_gate() {
@@ -59,4 +61,6 @@ tail -n 2 $built/gate.out
 if [ "$archive" -ef target/staticlib/liblog_gate.a ]; then
     ./run names >$built/names 2>$built/complained || { cat $built/complained; fail "./run names"; }
     cmp $built/names_due.out $built/names || fail "./run names lists other names"
+    ./run --station 5 --silence 9 --seed 3 --ticks 300 >$built/gate.out 2>$built/complained || { cat $built/complained; fail "./run with options"; }
+    grep -q 'station 5,' $built/gate.out && grep -q '^The gate is closed: 300 ticks' $built/gate.out || fail "./run hands its options on"
 fi

@@ -1,8 +1,8 @@
 /*
  * A technician at the virtual gate's service port: port_test PATH. Commands are written and answers read with the header's other
  * end of the line. It looks that commands sent in one go are all answered, that the coils are live, that a recorder triggers on
- * one, that a written threshold counts, that the self-test finds a coil whose wire is cut, and that the panel's button prepares
- * a trace of the next log.
+ * one, that a written threshold counts, that the self-test finds a coil whose wire is cut, that the panel's button prepares
+ * a trace of the next log, and that who comes anew finds no answers to another's commands.
  */
 #define _XOPEN_SOURCE 700
 #include "../gate/gate.h"
@@ -10,6 +10,7 @@
 #include "../gate/tools/line.h"
 #include "expect.h"
 
+#include <fcntl.h>
 #include <stdio.h>
 #include <string.h>
 #include <time.h>
@@ -225,6 +226,34 @@ static void test_panel(void)
     ask(LOG_GATE_STOP_RECORDER, data, 0, 0);
 }
 
+/* ---- one who leaves without reading an answer, and one who comes then */
+
+/* Commands are sent until the gate takes no more, since its answers have no room left. */
+static void send_unread(const char *path)
+{
+    uint8_t wire[256];
+    size_t length = form_reads(wire, sizeof wire);
+    int port = open(path, O_RDWR | O_NOCTTY | O_NONBLOCK);
+    for (int refused = 0; refused < 10; refused++) {
+        while (write(port, wire, length) > 0)
+            refused = 0;
+        pause_a_little();
+    }
+    close(port);
+}
+
+static void test_left(const char *path)
+{
+    close(line.port);
+    send_unread(path);
+    for (int i = 0; i < 50; i++)
+        pause_a_little();
+    line.port = open(path, O_RDWR | O_NOCTTY);
+    /* the other has left in the midst of a command, and perhaps behind a first 0x2B */
+    expect(write(line.port, "", 1) == 1, "bytes can be sent");
+    test_staple();
+}
+
 int main(int argc, char **argv)
 {
     expect(argc == 2, "one word is given, the port's path");
@@ -236,6 +265,7 @@ int main(int argc, char **argv)
     test_alarm();
     test_self_test();
     test_panel();
+    test_left(argv[1]);
     printf("port_test: all as it should be\n");
     return 0;
 }

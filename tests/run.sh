@@ -37,11 +37,13 @@ part() {
 
 times=
 part usage
+part first
 part header
 part calls
 part scripts
 part wrong
 part port
+part session
 part peers
 echo "tests/run.sh: compared $compared bytes of $played scripts and their answers: second/, the proved player, the archive and the plain C give the same"
 echo "tests/run.sh: compared the fuzzing loop's answers, states and memory: the archive and the plain C give the same"

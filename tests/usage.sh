@@ -18,6 +18,10 @@ refuses ./run names ""
 refuses ./run names tests
 refuses ./run names README.md
 refuses ./run names /dev/null /dev/null
+refuses ./run --baud 19200
+refuses ./run --station
+refuses ./run --station five
+refuses ./run --station 5 now
 refuses ./bench $built/no-such-archive
 refuses ./bench one two
 refuses tests/run.sh
@@ -28,6 +32,10 @@ refuses ./test times line fly
 refuses ./test times 'l.ne'
 refuses ./test times ""
 refuses ./test times long
+refuses ./test mutants fly
+refuses ./test mutants 7x
+refuses ./test mutants 7 --seed
+refuses ./test mutants 7 --fast
 for word in 'names ' 'names PATH ' 'play FILE '; do
     ./run --help | grep -q "^\./run $word" || fail "./run --help does not list what it can do"
 done

@@ -2,13 +2,28 @@
 # links them and qemu runs them. It sets CC_X86 and CFLAGS_X86 (compiler), SIZE_X86 (code sizes), NM_X86 (symbols) and RUN_X86 (what runs
 # a program).
 
+# apt WORDS..: what apt-get does. While another holds its lock it is tried again, for some ten minutes.
+apt() {
+    apt_tries=0
+    until apt_said=$(LC_ALL=C apt-get -o DPkg::Lock::Timeout=10 "$@" 2>&1); do
+        case $apt_said in
+        *"get lock"* | *"nable to lock"*) ;;
+        *) return 1 ;;
+        esac
+        [ $apt_tries -gt 0 ] || echo "$(basename "$0"): another program installs packages, and is waited for" >&2
+        apt_tries=$((apt_tries + 1))
+        [ $apt_tries -lt 30 ] || return 1
+        sleep 10
+    done
+}
+
 # need COMMAND PACKAGE..: installs what is missing, or says plainly what is lacking.
 need() {
     command -v "$1" >/dev/null && return
     wanted=$1
     shift
     echo "$(basename "$0"): installing $*" >&2
-    { apt-get update && apt-get install -y "$@"; } >/dev/null 2>&1 || true
+    { apt update && apt install -y "$@"; } || true
     command -v "$wanted" >/dev/null && return
     echo "$(basename "$0"): the command $wanted (Debian: $*) is missing and could not be installed" >&2
     exit 1

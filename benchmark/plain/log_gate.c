@@ -131,7 +131,7 @@ log_gate_said log_gate_prepare(uint8_t *state, size_t state_length, const uint8_
 {
     struct recorder *r = &((struct target *)state)->recorder;
     if (!state_taken(state, state_length))
-        return (log_gate_said){LOG_GATE_STATE_REFUSED, LOG_GATE_DONE};
+        return (log_gate_said){LOG_GATE_STATE_REFUSED, LOG_GATE_NOT_SERVED};
     if (data_length > MOST_DATA)
         return (log_gate_said){LOG_GATE_TAKEN, LOG_GATE_MESSAGE_TOO_LONG};
     return (log_gate_said){LOG_GATE_TAKEN, prepare_recorder(r, data, (unsigned)data_length, 2)};
@@ -140,7 +140,7 @@ log_gate_said log_gate_prepare(uint8_t *state, size_t state_length, const uint8_
 log_gate_said log_gate_start(uint8_t *state, size_t state_length)
 {
     if (!state_taken(state, state_length))
-        return (log_gate_said){LOG_GATE_STATE_REFUSED, LOG_GATE_DONE};
+        return (log_gate_said){LOG_GATE_STATE_REFUSED, LOG_GATE_NOT_SERVED};
     return (log_gate_said){LOG_GATE_TAKEN, start_recorder(&((struct target *)state)->recorder)};
 }
 

@@ -64,7 +64,7 @@ void throw_panel(void)
     struct message m = what == PANEL_prepare ? random_setup() : (struct message){.command = LOG_GATE_START_RECORDER};
     int is_live = lend_state(&state, live, sizeof live);
     lend(&block, m.data, m.length, m.length);
-    uint8_t due = state_refusal(), status = due == LOG_GATE_TAKEN ? status_as_message(&m) : LOG_GATE_DONE;
+    uint8_t due = state_refusal(), status = due == LOG_GATE_TAKEN ? status_as_message(&m) : LOG_GATE_NOT_SERVED;
     log_gate_said came = what == PANEL_prepare
                              ? log_gate_prepare(lent_bytes(&state), state.length, lent_bytes(&block), block.length)
                              : log_gate_start(lent_bytes(&state), state.length);

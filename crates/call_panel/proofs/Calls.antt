@@ -5,7 +5,7 @@ use Prim.Native.Nat.{ℕ, _<_, _≤_}
 use borrow.Author.Tests.{eq-eqb, ne-eqb}
 use lib.ListN.{length, getD}
 use lib.Seq.{sets}
-use Rattle.document.specs.Numbers.{taken}
+use Rattle.document.specs.Numbers.{notServed, taken}
 use Rattle.document.specs.Services.{serviceOf}
 use Rattle.document.specs.Gate.{Outcome}
 use Rattle.document.specs.Commands.{served}
@@ -31,12 +31,12 @@ module _ (block : List ℕ) where
   -- ---- refused with a number
 
   module _ (k : ℕ) (e : k ≡ panelNumber block) (some : k ≡ taken → ⊥) where
-    pub prepare-refused : (setup : List ℕ) → PrepareDone block setup (record { refusal = k; status = 0 }) block
+    pub prepare-refused : (setup : List ℕ) → PrepareDone block setup (record { refusal = k; status = notServed }) block
     prepare-refused setup =
         let refused = ne-eqb (panelNumber block) taken (λ z. some (e ∙ z)) in
         record { result = λ memory. rw (refused, e) refl; state = rw refused refl }
 
-    pub start-refused : StartDone block (record { refusal = k; status = 0 }) block
+    pub start-refused : StartDone block (record { refusal = k; status = notServed }) block
     start-refused =
         let refused = ne-eqb (panelNumber block) taken (λ z. some (e ∙ z)) in
         record { result = λ memory. rw (refused, e) refl; state = rw refused refl }

@@ -7,7 +7,7 @@ use Prim.Native.Nat.{ℕ}
 use lib.Dec.{eqb, ltb}
 use lib.ListN.{length}
 use lib.Seq.{sets}
-use Rattle.document.specs.Numbers.{mostData, done, messageTooLong, taken}
+use Rattle.document.specs.Numbers.{mostData, done, notServed, messageTooLong, taken}
 use Rattle.document.specs.Recorder.{Recorder, isRunning}
 use Rattle.document.specs.Panel.{panelPrepares, panelStarts}
 use Rattle.recorder_state.specs.declared.state.Recorder.{Recorder as RecorderState}
@@ -44,7 +44,8 @@ preparedTarget setup t = recorderChanged t (givenNext (t .instruments .recorder)
 abbrev pub startedTarget : Target → Target
 startedTarget t = recorderChanged t (startedState (t .instruments .recorder))
 
--- ---- the calls; whatever the memory is, which neither is lent
+-- ---- the calls; whatever the memory is, which neither is lent. Where one is refused nothing was prepared or started, and so that the status
+-- alone does not read as success it is 0x81, which neither call says when it is taken
 
 pub record PrepareDone (block setup : List ℕ) (r : Said) (after : List ℕ) : Type 0 where
   pub result :
@@ -52,7 +53,7 @@ pub record PrepareDone (block setup : List ℕ) (r : Said) (after : List ℕ) : 
       → r
       ≡ cond (eqb (panelNumber block) taken)
       (record { refusal = taken; status = panelPrepares (gateOf (decoded block .instruments) memory) setup .answer .status })
-      (record { refusal = panelNumber block; status = 0 })
+      (record { refusal = panelNumber block; status = notServed })
   pub state :
       after ≡ cond (eqb (panelNumber block) taken) (sets block 0 (encoded (preparedTarget setup (decoded block)))) block
 
@@ -62,5 +63,5 @@ pub record StartDone (block : List ℕ) (r : Said) (after : List ℕ) : Type 0 w
       → r
       ≡ cond (eqb (panelNumber block) taken)
       (record { refusal = taken; status = panelStarts (gateOf (decoded block .instruments) memory) .answer .status })
-      (record { refusal = panelNumber block; status = 0 })
+      (record { refusal = panelNumber block; status = notServed })
   pub state : after ≡ cond (eqb (panelNumber block) taken) (sets block 0 (encoded (startedTarget (decoded block)))) block

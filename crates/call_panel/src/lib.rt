@@ -10,12 +10,13 @@ use call_checks::check;
 use codes_table::DONE;
 use codes_table::MESSAGE_TOO_LONG;
 use codes_table::MOST_DATA;
+use codes_table::NOT_SERVED;
 use codes_table::TAKEN;
 use recorder_state::prepare_status;
 use state_block::recorder_runs;
 use state_given::store_given;
 
-// Whether the call refused, and what the panel is told; 0 where it refused.
+// Whether the call refused, and what the panel is told: an error where it refused.
 #[repr(C)]
 pub struct Said {
     pub refusal: u8,
@@ -50,7 +51,10 @@ pub fn prepare(state: &mut [u8], setup: &[u8]) -> Said
 {
     let refusal = check(state);
     if refusal != TAKEN {
-        return Said { refusal, status: 0 };
+        return Said {
+            refusal,
+            status: NOT_SERVED,
+        };
     }
     Said {
         refusal: TAKEN,
@@ -63,7 +67,10 @@ pub fn start(state: &mut [u8]) -> Said
 {
     let refusal = check(state);
     if refusal != TAKEN {
-        return Said { refusal, status: 0 };
+        return Said {
+            refusal,
+            status: NOT_SERVED,
+        };
     }
     Said {
         refusal: TAKEN,

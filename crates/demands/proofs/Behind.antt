@@ -27,7 +27,7 @@ module _ (room : ℕ) (c : Call) (l : Lent) (o : Outcome) (p : Promised l c o) w
   Leaves x = BehindKept room (l .buffer) (lengthOf x) (x .buffer)
 
   -- refused it writes nothing
-  either : (numberOf c l ≡ taken → BehindKept room (l .buffer) (lengthOf (leaves c l)) (leaves c l .buffer)) → lengthOf (kept l (leaves c l)) ≡ 0
+  either : (numberOf c l ≡ taken → BehindKept room (l .buffer) (lengthOf (leaves c l)) (leaves c l .buffer)) → lengthOf (kept c l) ≡ 0
       → BehindKept room (l .buffer) (lengthOf (o .left)) (o .left .buffer)
   either when-taken none =
       let known = call-refused l c o p in

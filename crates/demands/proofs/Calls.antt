@@ -40,7 +40,7 @@ module _ (c : Call) (h next : Board) (r : Makes c h next) where
 
   kept-back : (r .outcome .number ≡ taken → ⊥) → next ≡ h
   kept-back refused =
-      let stays : Left = kept lent (leaves c lent) in
+      let stays : Left = kept c lent in
       r .board
       ∙ ap (λ (x : Left). back x (sends c x)) (call-refused lent c (r .outcome) (r .promised) .unchanged refused)
       ∙ ap (back stays) (known c lent .none-sent)

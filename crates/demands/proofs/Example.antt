@@ -27,7 +27,7 @@ use Rattle.state_block.specs.Layout.{encoded}
 use Rattle.call_checks.proofs.Settled.{reset-done}
 use Rattle.laws_happenings.specs.Bytes.{AreBytes}
 use Rattle.laws_happenings.specs.Due.{AllDue}
-use Rattle.laws_happenings.specs.Example.{zeros, reset, plan, before, earlier, asking, stopping, starting, happened, rising}
+use Rattle.laws_happenings.specs.Example.{zeros, reset, plan, before, earlier, asking, stopping, starting, happened, rising, awaiting, repeating}
 use Rattle.laws_happenings.proofs.Example.{computed, all-small, happened-bytes, happened-due, happened-answers, happened-recorder, happened-application, happened-modbus}
 use Rattle.laws_calls.specs.Calls.{Call, tookOf}
 use Rattle.demands.specs.Board.{Board, gateIn, begun}
@@ -101,7 +101,7 @@ module _ (first hs more : List Happening) (is : happened ≡ first ++ (hs ++ mor
 
 -- until 0xE3 comes
 abbrev waited : List Happening
-waited = before ++ earlier ++ (aside tick ∷ byte 0x2B ∷ aside collects ∷ byte 0xC6 ∷ byte 0x3A ∷ [])
+waited = before ++ earlier ++ (aside tick ∷ awaiting) ++ (byte 0x3A ∷ repeating) ++ (byte 0xFF ∷ [])
 
 abbrev message : List ℕ
 message = 0x2B ∷ 0xE3 ∷ 0x00 ∷ 0x00 ∷ 0x09 ∷ 0x00 ∷ 0x14 ∷ []
@@ -167,7 +167,7 @@ last = whole .there
 stands : AsDefined (whole .there) (afterAll reset happened)
 stands = demand-2 block zeros [] begins long lent reset-there happened (whole .there) (whole .are) (whole .run)
 
-pub last-answers : whole .there .answers ≡ hex "2B01FF 2B0000 2B00FE02 2B0000 2B00FD03 2B02FE 2B0000"
+pub last-answers : whole .there .answers ≡ hex "2B01FF 2B0000 2B00FE02 2B8779 2B0000 2B00FD03 2B02FE 2B0000"
 unfolding answerOnWire
 last-answers = stands .answers ∙ ap answersOnWire happened-answers ∙ refl
 

@@ -5,7 +5,7 @@ use mathlib.Core.List.{List, [], _∷_, _++_}
 use Prim.Native.Nat.{ℕ}
 use native.Mathlib.Omega.{arith}
 use lib.ListN.{set, length-set}
-use Rattle.document.specs.Numbers.{done, taken}
+use Rattle.document.specs.Numbers.{done, busy, taken}
 use Rattle.document.specs.Message.{Message, summed, wellFormed, onWire}
 use Rattle.document.specs.Gate.{Gate}
 use Rattle.document.specs.Application.{isPending, isCollected}
@@ -18,10 +18,10 @@ use Rattle.state_block.specs.Layout.{decoded}
 use Rattle.call_checks.proofs.Settled.{reset-done}
 use Rattle.laws_calls.specs.Calls.{Call}
 use Rattle.laws_calls.specs.Calls as call
-use Rattle.laws_happenings.specs.Bytes.{AreBytes, besideBytes}
+use Rattle.laws_happenings.specs.Bytes.{bytesOf, AreBytes, besideBytes}
 use Rattle.laws_happenings.specs.Due.{AllDue}
-use Rattle.laws_happenings.specs.Example.{zeros, reset, before, meanwhile, firstSet, command, sending, earlier, question, collecting, untilReport, asking, later, stopping, starting, happened, stale, disturbed, unattended}
-use Rattle.laws_happenings.proofs.Example.{command-even, command-formed, command-wire, command-pending as pending-then, command-unreported, command-collected, result-unsent, question-finished, question-unrefused, disturbed-bytes, disturbed-due, unattended-bytes, unattended-due, stale-same, disturbed-happened, disturbed-found, stale-calibration, unattended-happened, unattended-shared}
+use Rattle.laws_happenings.specs.Example.{zeros, reset, before, meanwhile, firstSet, command, sending, earlier, question, untilReport, asking, later, stopping, starting, happened, stale, disturbed, unattended, awaiting, repeating, lastSet, pending}
+use Rattle.laws_happenings.proofs.Example.{command-even, command-formed, command-wire, command-pending as pending-then, command-unreported, awaiting-finished, awaiting-pending, repeating-finished, repeating-pending, command-unrefused, command-collected, result-unsent, question-finished, question-unrefused, disturbed-bytes, disturbed-due, unattended-bytes, unattended-due, stale-same, disturbed-happened, disturbed-found, stale-calibration, unattended-happened, unattended-shared}
 use Rattle.demands.specs.Board.{Board, gateIn, begun}
 use Rattle.demands.specs.Run.{Step, Reset, Run}
 use Rattle.demands.specs.Run.Reset.{by-reset}
@@ -29,7 +29,7 @@ use Rattle.demands.specs.Ports.{SinceReset, SameService}
 use Rattle.demands.specs.Fresh.{AnsweredFresh}
 use Rattle.demands.specs.Applying.{OnlySaid, TellsResult}
 use Rattle.demands.proofs.Joined.{run-behind}
-use Rattle.demands.proofs.Demands.{service-independent, modbus-independent, run-calls, runs-exist, demand-3-even, demand-3-next, command-pending, result-told}
+use Rattle.demands.proofs.Demands.{service-independent, modbus-independent, run-calls, runs-exist, demand-3-even, demand-3-next, command-pending, command-busy, result-awaited, result-told}
 use Rattle.demands.proofs.Example.{whole, block, begins, long, lent, reset-there, At, to, goes, further, are-next, at-gate, given}
 
 -- what is left behind the first bytes of the command
@@ -55,45 +55,57 @@ even-there =
 -- ---- the next one, sent directly behind another
 
 abbrev asked : List Happening
-asked = byte 0x2B ∷ aside collects ∷ byte 0xC6 ∷ byte 0x3A ∷ []
-
-abbrev writing : Message
-writing = summed 0xE3 (0x00 ∷ 0x00 ∷ 0x09 ∷ 0x00 ∷ [])
-
-abbrev half : List Happening
-half = byte 0x2B ∷ byte 0xE3 ∷ byte 0x00 ∷ byte 0x00 ∷ byte 0x09 ∷ byte 0x00 ∷ []
+asked = awaiting ++ (byte 0x3A ∷ [])
 
 abbrev rest : List Happening
-rest = (byte 0x14 ∷ aside collects ∷ aside tick ∷ aside (reports 0xFD) ∷ asking) ++ (byte 0x3A ∷ stopping) ++ starting ++ (byte 0x3F ∷ [])
+rest = (byte 0xFF ∷ lastSet) ++ (aside (reports 0xFD) ∷ asking) ++ (byte 0x3A ∷ stopping) ++ starting ++ (byte 0x3F ∷ [])
 
 abbrev ticked : At (before ++ earlier ++ (aside tick ∷ []))
-ticked = to (before ++ earlier ++ (aside tick ∷ [])) asked (half ++ rest) refl
+ticked = to (before ++ earlier ++ (aside tick ∷ [])) asked (repeating ++ rest) refl
 
 abbrev answered : At (before ++ earlier ++ (aside tick ∷ asked))
-answered = further (before ++ earlier ++ (aside tick ∷ [])) asked (half ++ rest) refl ticked
+answered = further (before ++ earlier ++ (aside tick ∷ [])) asked (repeating ++ rest) refl ticked
 
-abbrev halfway : At (before ++ earlier ++ (aside tick ∷ asked ++ half))
-halfway = further (before ++ earlier ++ (aside tick ∷ asked)) half rest refl answered
+abbrev halfway : At (before ++ earlier ++ (aside tick ∷ asked ++ repeating))
+halfway = further (before ++ earlier ++ (aside tick ∷ asked)) repeating rest refl answered
 
-abbrev written : (last : Board) × Step (halfway .there) (byte 0x14) last
-written = given (before ++ earlier ++ (aside tick ∷ asked ++ half)) halfway 0x14
+abbrev written : (last : Board) × Step (halfway .there) (byte 0xFF) last
+written = given (before ++ earlier ++ (aside tick ∷ asked ++ repeating)) halfway 0xFF
 
-formed : (wellFormed question ≡ true) × (wellFormed writing ≡ true)
+formed : wellFormed question ≡ true
 unfolding wellFormed
-formed = (refl, refl)
+formed = refl
 
-on-line : (onWire question ≡ 0x2B ∷ 0xC6 ∷ 0x3A ∷ []) × (onWire writing ≡ 0x2B ∷ 0xE3 ∷ 0x00 ∷ 0x00 ∷ 0x09 ∷ 0x00 ∷ 0x14 ∷ [])
+on-line : onWire question ≡ bytesOf asked
 unfolding onWire
-on-line = (refl, refl)
+on-line = refl
 
 pub next-there : AnsweredFresh (answered .there) (halfway .there) (written .0)
-    (afterAll (afterAll (afterAll reset (before ++ earlier ++ (aside tick ∷ []))) asked) (besideBytes half) .gate) writing
+    (afterAll (afterAll (afterAll reset (before ++ earlier ++ (aside tick ∷ []))) asked) (besideBytes repeating) .gate) command
 next-there =
-    demand-3-next block zeros [] begins long lent reset-there (before ++ earlier ++ (aside tick ∷ [])) (ticked .there) (ticked .are) (ticked .run) asked half (answered .there) (halfway .there)
-    0x14 (written .0) question writing (are-next (before ++ earlier ++ (aside tick ∷ [])) asked (half ++ rest) refl)
-    (are-next (before ++ earlier ++ (aside tick ∷ asked)) half rest refl) (omega arith) (formed .0) (formed .1) (on-line .0) (on-line .1)
-    (goes (before ++ earlier ++ (aside tick ∷ [])) asked (half ++ rest) refl ticked .1)
-    (goes (before ++ earlier ++ (aside tick ∷ asked)) half rest refl answered .1) (written .1)
+    demand-3-next block zeros [] begins long lent reset-there (before ++ earlier ++ (aside tick ∷ [])) (ticked .there) (ticked .are) (ticked .run) asked repeating (answered .there) (halfway .there)
+    0xFF (written .0) question command (are-next (before ++ earlier ++ (aside tick ∷ [])) asked (repeating ++ rest) refl)
+    (are-next (before ++ earlier ++ (aside tick ∷ asked)) repeating rest refl) (omega arith) formed command-formed on-line command-wire
+    (goes (before ++ earlier ++ (aside tick ∷ [])) asked (repeating ++ rest) refl ticked .1)
+    (goes (before ++ earlier ++ (aside tick ∷ asked)) repeating rest refl answered .1) (written .1)
+
+-- ---- an application command: while it is pending its result is awaited, and another one is refused
+
+abbrev waits : At (before ++ earlier ++ (aside tick ∷ awaiting))
+waits = to (before ++ earlier ++ (aside tick ∷ awaiting)) (byte 0x3A ∷ []) (repeating ++ rest) refl
+
+pub awaited-there : OnlySaid (record { status = done; body = 0xFE ∷ [] }) (waits .there) (given (before ++ earlier ++ (aside tick ∷ awaiting)) waits 0x3A .0)
+awaited-there =
+    let last = given (before ++ earlier ++ (aside tick ∷ awaiting)) waits 0x3A in
+    result-awaited block zeros [] begins long lent reset-there (before ++ earlier ++ (aside tick ∷ awaiting)) (waits .there) (waits .are) (waits .run) 0x3A (last .0)
+    (omega arith) (last .1) question [] awaiting-finished
+    (ap (λ (g : Gate). isPending (g .application)) (at-gate (before ++ earlier ++ (aside tick ∷ awaiting)) waits) ∙ awaiting-pending) question-unrefused refl
+
+pub busy-there : OnlySaid (record { status = busy; body = [] }) (halfway .there) (written .0)
+busy-there =
+    command-busy block zeros [] begins long lent reset-there (before ++ earlier ++ (aside tick ∷ asked ++ repeating)) (halfway .there) (halfway .are) (halfway .run) 0xFF (written .0)
+    (omega arith) (written .1) command [] repeating-finished
+    (ap (λ (g : Gate). isPending (g .application)) (at-gate (before ++ earlier ++ (aside tick ∷ asked ++ repeating)) halfway) ∙ repeating-pending) command-unrefused refl
 
 -- ---- an application command, pending until its result is reported; and its result
 
@@ -101,15 +113,15 @@ abbrev reporting : List Happening
 reporting = (aside (reports 0xFD) ∷ asking) ++ (byte 0x3A ∷ stopping) ++ starting ++ (byte 0x3F ∷ [])
 
 abbrev rise : At (before ++ earlier)
-rise = to (before ++ earlier) (aside tick ∷ collecting) reporting refl
+rise = to (before ++ earlier) (aside tick ∷ pending) reporting refl
 
 abbrev collected : At untilReport
-collected = further (before ++ earlier) (aside tick ∷ collecting) reporting refl rise
+collected = further (before ++ earlier) (aside tick ∷ pending) reporting refl rise
 
 pub pending-there : isPending (gateIn (collected .there) .application) ≡ true
 pending-there =
-    command-pending block zeros [] begins long lent reset-there (before ++ earlier) (rise .there) (rise .are) (rise .run) (aside tick ∷ collecting) (collected .there)
-    (are-next (before ++ earlier) (aside tick ∷ collecting) reporting refl) (goes (before ++ earlier) (aside tick ∷ collecting) reporting refl rise .1)
+    command-pending block zeros [] begins long lent reset-there (before ++ earlier) (rise .there) (rise .are) (rise .run) (aside tick ∷ pending) (collected .there)
+    (are-next (before ++ earlier) (aside tick ∷ pending) reporting refl) (goes (before ++ earlier) (aside tick ∷ pending) reporting refl rise .1)
     command-unreported (ap (λ (g : Gate). isPending (g .application)) (at-gate (before ++ earlier) rise) ∙ pending-then)
 
 -- 0xC6 behind the report: it is due, since the command was collected

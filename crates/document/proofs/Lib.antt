@@ -2,6 +2,8 @@ pub mod Areas
 pub mod Bytes
 pub mod Calls
 pub mod Cases
+pub mod Gate
+pub mod Happenings
 pub mod Levels
 pub mod Modbus
 pub mod Order
@@ -10,4 +12,5 @@ pub mod Panel
 pub mod Places
 pub mod Refused
 pub mod Rows
+pub mod Stay
 pub mod Values

@@ -12,13 +12,14 @@ use Rattle.document.specs.CheckSum.{shifted, shifts, stepped, checkSum}
 use Rattle.document.specs.Frames.{isSilenced}
 use Rattle.document.specs.Modbus.{exceptionTo, modbusAnswer, modbusMemory}
 use Rattle.document.specs.CallRows.{Line}
-use Rattle.document.specs.ModbusRows.{checkSumRows, silenceRows, functionRows, orderRows, bothPortsRows}
+use Rattle.document.specs.ModbusRows.{checkSumRows, fieldRows, silenceRows, functionRows, manyRows, addressRows, lengthRows, orderRows, refusalRows, bothPortsRows}
 use Rattle.document.proofs.Rows.{lists-eq}
 
 abbrev pub modbusRows : List Line
-unfolding checkSumRows silenceRows functionRows orderRows bothPortsRows
-modbusRows = checkSumRows ++ silenceRows ++ functionRows ++ orderRows ++ bothPortsRows
+unfolding checkSumRows fieldRows silenceRows functionRows manyRows addressRows lengthRows orderRows refusalRows bothPortsRows
+modbusRows =
+    checkSumRows ++ fieldRows ++ silenceRows ++ functionRows ++ manyRows ++ addressRows ++ lengthRows ++ orderRows ++ refusalRows ++ bothPortsRows
 
 pub modbus-holds : map (λ (l : Line). l .gives) modbusRows ≡ map (λ (l : Line). l .says) modbusRows
-unfolding checkSumRows silenceRows functionRows orderRows bothPortsRows answerOnWire heard finishedBy serviceOf refusal answered beside mayBeWritten shifted shifts stepped checkSum isSilenced exceptionTo modbusAnswer modbusMemory
+unfolding checkSumRows fieldRows silenceRows functionRows manyRows addressRows lengthRows orderRows refusalRows bothPortsRows answerOnWire heard finishedBy serviceOf refusal answered beside mayBeWritten shifted shifts stepped checkSum isSilenced exceptionTo modbusAnswer modbusMemory
 modbus-holds = lists-eq (map (λ (l : Line). l .gives) modbusRows) (map (λ (l : Line). l .says) modbusRows) refl

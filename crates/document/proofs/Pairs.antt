@@ -12,8 +12,9 @@ use Rattle.document.specs.Permission.{mayBeWritten}
 use Rattle.document.specs.Refusals.{order, refusal}
 use Rattle.document.specs.Commands.{answered}
 use Rattle.document.specs.Rows.{saidBy, stepByStep}
+use Rattle.document.specs.CallRows.{Line}
 use Rattle.document.specs.RefusalPairs.{Faulty, faultyMessages, pairRows, faultsOf}
-use Rattle.document.specs.KindRows.{kindRows, kindsIn, kindsFrom}
+use Rattle.document.specs.KindRows.{kindRows, kindsIn, kindsFrom, serviceRows}
 use Rattle.document.proofs.Rows.{holds-eq, lists-eq}
 
 pub pairs-hold : map stepByStep (pairRows faultyMessages) ≡ map saidBy (pairRows faultyMessages)
@@ -30,3 +31,7 @@ order-written = refl
 pub kinds-hold : kindsFrom 0 kindRows ≡ kindsIn kindRows
 unfolding kindOf
 kinds-hold = refl
+
+pub services-hold : map (λ (l : Line). l .gives) serviceRows ≡ map (λ (l : Line). l .says) serviceRows
+unfolding serviceRows serviceOf
+services-hold = lists-eq (map (λ (l : Line). l .gives) serviceRows) (map (λ (l : Line). l .says) serviceRows) refl

@@ -26,6 +26,8 @@ applicationRows =
     ∷ (sends (hex "10 41" ++ replicate 65 0x11) (hex "83") ∷ asks "C6" "00 FF" ∷ [])
     -- a collecting with nothing new, and a report with nothing collected, change nothing
     ∷ (collecting ∷ reporting 0x01 ∷ asks "C6" "00 FF" ∷ selfTest ∷ reporting 0x01 ∷ asks "C6" "00 FE" ∷ collecting ∷ collecting ∷ reporting 0x02 ∷ reporting 0x03 ∷ asks "C6" "00 02" ∷ [])
+    -- a result of 0 is one; a collecting behind it leaves it
+    ∷ (selfTest ∷ collecting ∷ reporting 0x00 ∷ asks "C6" "00 00" ∷ collecting ∷ asks "C6" "00 00" ∷ [])
     ∷ []
 
 abbrev sent : Application

@@ -27,6 +27,7 @@ lent n = replicate n 0xAA
 unfoldable pub callRows : List Line
 callRows =
     line (tickRefusal false [] ∷ tickRefusal true [] ∷ byteRefusal true [] [] ∷ byteRefusal false [] [] ∷ []) (hex "01 02 02 01")
+    ∷ line (tickRefusal true (lent 16384) ∷ byteRefusal true (lent 16384) (lent 132) ∷ byteRefusal true (lent 16384) (lent 131) ∷ []) (hex "00 00 03")
     -- "Bytes of it behind the answer keep their values; without an answer, all do."
     ∷ line (answerBufferAfter [] (lent 6)) (hex "AA AA AA AA AA AA")
     ∷ line (answerBufferAfter (record { status = 0; body = 0x7F ∷ [] } ∷ record { status = 0x81; body = [] } ∷ []) (lent 6)) (hex "2B 00 7F 81 AA AA")

@@ -70,3 +70,4 @@ pub mod BlockRows
 pub mod PanelRows
 pub mod ModbusRows
 pub mod SetRows
+pub mod StayRows

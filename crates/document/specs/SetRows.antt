@@ -10,7 +10,7 @@ use Rattle.document.specs.Recorder.{bufferAnswer}
 use Rattle.document.specs.Recorder.Recorder.{planned}
 use Rattle.document.specs.Run.{setOf}
 use Rattle.document.specs.Run.Watch.{unprimed}
-use Rattle.document.specs.Sets.{setsTaken, lastOf}
+use Rattle.document.specs.Sets.{setsTaken, readRound, lastOf}
 
 -- ---- every field at its full width: "samples 2, post-trigger 2, time divider 2", "threshold 4"
 
@@ -96,6 +96,10 @@ taken h = setsTaken (planOf h) (map single (h .ticks))
 
 abbrev pub written : History → List (List ℕ)
 written h = map single (h .sets)
+
+-- "reading round from it": from place 1 of 2
+abbrev pub rounds : List (List ℕ)
+rounds = readRound (planOf (history 0 0 "" "")) (replicate 12288 0 ++ hex "10 20 30") 1 3
 
 -- "the last sets of that history"
 abbrev pub lasts : List (List ℕ)

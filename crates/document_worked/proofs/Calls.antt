@@ -1,7 +1,6 @@
--- The rows of the calls, the tables' lists and the sets that want a whole memory hold of the definitions.
+-- The rows of the calls and the tables' lists that want a whole memory hold of the definitions.
 use mathlib.Core.Path.{_≡_, refl}
-use mathlib.Core.List.{List, [], _∷_, _++_, map}
-use Rattle.document.specs.Hex.{hex}
+use mathlib.Core.List.{List, _++_, map}
 use Rattle.document.specs.Message.{wellFormed, onWire}
 use Rattle.document.specs.CommandWriter.{commandRefusal, commandWritten, commandBuffer}
 use Rattle.document.specs.BaseTypes.{sizeOfCode}
@@ -9,8 +8,8 @@ use Rattle.document.specs.Tables.{isListGood}
 use Rattle.document.specs.CallRows.{Line}
 use Rattle.document.specs.TableRows.{listRows}
 use Rattle.document.proofs.Rows.{lists-eq}
-use Rattle.document_worked.specs.WholeRows.{callRows, writerRows, rounds}
-use Rattle.document_worked.specs.TableRows.{wide, wholeListRows}
+use Rattle.document_worked.specs.WholeRows.{callRows, writerRows}
+use Rattle.document_worked.specs.TableRows.{wide}
 
 abbrev pub lines : List Line
 unfolding callRows writerRows
@@ -20,13 +19,6 @@ pub lines-hold : map (λ (l : Line). l .gives) lines ≡ map (λ (l : Line). l .
 unfolding callRows writerRows wellFormed onWire commandRefusal commandWritten commandBuffer
 lines-hold = lists-eq (map (λ (l : Line). l .gives) lines) (map (λ (l : Line). l .says) lines) refl
 
-abbrev pub lists : List Line
-unfolding listRows wholeListRows
-lists = listRows wide ++ wholeListRows
-
-pub lists-hold : map (λ (l : Line). l .gives) lists ≡ map (λ (l : Line). l .says) lists
-unfolding listRows wholeListRows sizeOfCode isListGood
-lists-hold = lists-eq (map (λ (l : Line). l .gives) lists) (map (λ (l : Line). l .says) lists) refl
-
-pub rounds-hold : rounds ≡ (hex "20" ∷ hex "10" ∷ hex "20" ∷ [])
-rounds-hold = lists-eq rounds (hex "20" ∷ hex "10" ∷ hex "20" ∷ []) refl
+pub lists-hold : map (λ (l : Line). l .gives) (listRows wide) ≡ map (λ (l : Line). l .says) (listRows wide)
+unfolding listRows sizeOfCode isListGood
+lists-hold = lists-eq (map (λ (l : Line). l .gives) (listRows wide)) (map (λ (l : Line). l .says) (listRows wide)) refl

@@ -6,8 +6,7 @@ use Prim.Native.String.{String}
 use lib.ListN.{replicate}
 use Rattle.document.specs.Hex.{hex}
 use Rattle.document.specs.Areas.{bytesAt}
-use Rattle.document.specs.Modbus.{exceptionTo, modbusAnswer, modbusMemory, modbusRefusal, modbusBuffer}
-use Rattle.document.specs.declared.Function.the-variants.{ReadRegisters, WriteRegisters}
+use Rattle.document.specs.Modbus.{modbusAnswer, modbusMemory, modbusRefusal}
 use Rattle.document.specs.Rows.{zeros}
 use Rattle.document.specs.CallRows.{Line, line, lent}
 use Rattle.document.specs.ModbusRows.{summed, four, answers, leaves, silent, excepts}
@@ -24,8 +23,7 @@ checkSumRows =
 -- "A frame below 4 or above 256 bytes, a wrong check sum, another station, a broadcast or a function byte above 127"
 unfoldable pub silenceRows : List Line
 silenceRows =
-    silent (hex "11 7F4C")
-    ∷ excepts (hex "11 03 4DE1") "11 83 03 00F4"
+    excepts (hex "11 03 4DE1") "11 83 03 00F4"
     ∷ silent (hex "11 06 0001 0003 9B9A")
     ∷ silent (hex "12 03 0000 0001 86A9")
     ∷ silent (hex "00 10 0000 0001 02 0003 EBC1")
@@ -33,12 +31,17 @@ silenceRows =
     ∷ silent (hex "11 FF 0000 0001 D68E")
     ∷ []
 
--- of 256 bytes, and of 257
+-- the longest: of 256 bytes, and of 255
 unfoldable pub longRows : List Line
 longRows =
     line (modbusAnswer 0x11 (hex "11 03" ++ replicate 252 0 ++ hex "1CCE") four) (hex "11 83 03 00F4")
-    ∷ silent (hex "11 03" ++ replicate 253 0 ++ hex "CFC9")
+    -- the most registers that are read and written at once: 125 in an answer of 255 bytes, 123 in a frame of 255
+    ∷ line (modbusAnswer 0x11 (hex "11 03 0000 007D 877B") (replicate 252 0x55)) (hex "11 03 FA" ++ replicate 250 0x55 ++ hex "15D6")
+    ∷ line (modbusAnswer 0x11 many (replicate 248 0) ++ modbusMemory 0x11 many (replicate 248 0)) (hex "11 10 0000 007B 82BA" ++ replicate 246 0x55 ++ hex "0000")
     ∷ []
+  where
+    many : List ℕ
+    many = hex "11 10 0000 007B F6" ++ replicate 246 0x55 ++ hex "D431"
 
 -- "Serve functions 3, 6, 16 and 22"
 unfoldable pub functionRows : List Line
@@ -61,7 +64,6 @@ exceptionRows =
     -- 1, whatever follows
     excepts (hex "11 00 0000 0001 C29A") "11 80 01 81C5"
     ∷ excepts (hex "11 01 0000 0001 FF5A") "11 81 01 8055"
-    ∷ excepts (hex "11 7F 0000 0001 D750") "11 FF 01 A1F5"
     -- and so before 3
     ∷ excepts (hex "11 04 0C23") "11 84 01 8305"
     -- 3, "a quantity outside 1 to 125 (read)"
@@ -71,14 +73,8 @@ exceptionRows =
     -- "or 1 to 123 (write)"
     ∷ excepts (hex "11 10 0000 0000 00 1891") "11 90 03 0DC4"
     ∷ excepts (hex "11 10 0000 007C F8 0000 53CD") "11 90 03 0DC4"
-    -- 125 and 126; 123 and 124, which would make a frame of 257 bytes
-    ∷ line (exceptionTo ReadRegisters (hex "11 03 0000 007D 0000") four ∷ exceptionTo ReadRegisters (hex "11 03 0000 007E 0000") four ∷ []) (0 ∷ 3 ∷ [])
-    ∷ line (exceptionTo WriteRegisters (hex "11 10 0000 007B F6" ++ replicate 248 0) four ∷ exceptionTo WriteRegisters (hex "11 10 0000 007C F8" ++ replicate 250 0) four ∷ []) (0 ∷ 3 ∷ [])
-    -- "a byte count .. that doesn't fit" the quantity, or the frame
-    ∷ excepts (hex "11 10 0000 0001 03 000000 D013") "11 90 03 0DC4"
+    -- "a byte count .. that doesn't fit" the quantity
     ∷ excepts (hex "11 10 0000 0002 02 0000 6BD4") "11 90 03 0DC4"
-    ∷ excepts (hex "11 10 0000 0001 02 000000 D1EF") "11 90 03 0DC4"
-    ∷ excepts (hex "11 10 0000 0001 02 00 C1AA") "11 90 03 0DC4"
     -- 258 is no byte count: 2 in its place does not fit 129 registers
     ∷ excepts (hex "11 10 0000 0081 02 0000 4250") "11 90 03 0DC4"
     -- "or frame length that doesn't fit"
@@ -114,6 +110,8 @@ lasts frame last = line (bytesAt (modbusMemory 0x11 (hex frame) (replicate 8193 
 unfoldable pub endRows : List Line
 endRows =
     line (modbusAnswer 0x11 (hex "11 03 1FFF 0001 B17E") zeros) (hex "11 03 02 0000 7987")
+    -- a read from the variables on into the calibration area
+    ∷ line (modbusAnswer 0x11 (hex "11 03 0FFF 0002 F5BF") (replicate 8190 0 ++ hex "A1A2 B1B2")) (hex "11 03 04 A2A1 B2B1 2D7C")
     ∷ lasts "11 06 0FFF 0102 382F" "0000 0201 00"
     ∷ lasts "11 10 0FFE 0002 04 0102 0304 C958" "0201 0403 00"
     ∷ lasts "11 10 0FFF 0002 04 0102 0304 0894" "0000 0000 00"
@@ -127,7 +125,4 @@ modbusCallRows =
     line (map (λ (s : ℕ). modbusRefusal s (lent 16384) (lent 256)) (0 ∷ 1 ∷ 17 ∷ 247 ∷ 248 ∷ 255 ∷ 257 ∷ [])) (hex "09 00 00 00 09 09 09")
     ∷ line (modbusRefusal 1 (lent 16384) (lent 255) ∷ modbusRefusal 1 (lent 16383) (lent 256) ∷ modbusRefusal 1 (lent 16385) (lent 256) ∷ []) (hex "03 02 02")
     ∷ line (modbusRefusal 0 [] [] ∷ modbusRefusal 0 (lent 16384) [] ∷ []) (hex "02 03")
-    -- bytes behind the answer keep their values; with silence all do
-    ∷ line (modbusBuffer 0x11 (hex "11 04 0C23") four (lent 7)) (hex "11 84 01 8305 AAAA")
-    ∷ line (modbusBuffer 0x11 (hex "10 04 0DB3") four (lent 7)) (hex "AAAAAAAAAAAAAA")
     ∷ []

@@ -1,22 +1,18 @@
--- Rows that want a whole memory, or the place of the recorder's buffer in it, and rows that are long: of the calls and the writers, the scope,
--- and the sets read round.
-use mathlib.Core.Bool.{true, false}
+-- Rows that want a whole memory, and rows that are long: of the calls and the writers, and the scope.
+use mathlib.Core.Bool.{true}
 use mathlib.Core.List.{List, [], _∷_, _++_}
 use Prim.Native.Nat.{ℕ}
 use lib.ListN.{replicate}
 use Rattle.document.specs.Hex.{hex}
 use Rattle.document.specs.Calls.{tickRefusal, byteRefusal}
-use Rattle.document.specs.Sets.{readRound}
 use Rattle.document.specs.Rows.{Row, asks, puts}
 use Rattle.document.specs.CallRows.{Line, line, lent, commandLine, below, statuses}
-use Rattle.document.specs.SetRows.{history, planOf}
 
 -- "2 memory of another length", "3 a lent output buffer too short"; "Lowest number first"
 unfoldable pub callRows : List Line
 callRows =
-    line (tickRefusal true (lent 16384) ∷ tickRefusal true (lent 16385) ∷ tickRefusal false [] ∷ []) (hex "00 02 01")
-    ∷ line (byteRefusal true (lent 16384) (lent 132) ∷ byteRefusal true (lent 16384) (lent 131) ∷ []) (hex "00 03")
-    ∷ line (byteRefusal true (lent 16383) [] ∷ byteRefusal false [] [] ∷ byteRefusal true (lent 16384) (lent 133) ∷ []) (hex "02 01 00")
+    line (tickRefusal true (lent 16383) ∷ tickRefusal true (lent 16385) ∷ []) (hex "02 02")
+    ∷ line (byteRefusal true (lent 16383) [] ∷ byteRefusal true (lent 16385) [] ∷ byteRefusal true (lent 16384) (lent 133) ∷ []) (hex "02 02 00")
     ∷ []
 
 -- "standard data above 255"; "00 to 02 and 81 to 89", of all bytes
@@ -30,7 +26,3 @@ writerRows =
 -- "ranges are checked at setup": all that may be read, the last areas too
 unfoldable pub scopeRows : List Row
 scopeRows = (puts 12288 "11" ∷ puts 16383 "22" ∷ asks "08 07 02 01 0030 01 FF3F" "00" ∷ asks "C5" "00 11 22" ∷ []) ∷ []
-
--- "reading round from it": from place 1 of 2
-abbrev pub rounds : List (List ℕ)
-rounds = readRound (planOf (history 0 0 "" "")) (replicate 12288 0 ++ hex "10 20 30") 1 3

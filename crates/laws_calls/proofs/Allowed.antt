@@ -5,7 +5,7 @@ use mathlib.Core.List.{List, []}
 use Prim.Native.Nat.{ℕ}
 use lib.Dec.{eqb, leb}
 use lib.ListN.{length}
-use Rattle.document.specs.Numbers.{taken, done}
+use Rattle.document.specs.Numbers.{notServed, taken, done}
 use Rattle.document.specs.Refusals.{firstOf, recorderLines}
 use Rattle.document.specs.Panel.{panelPrepares, panelStarts}
 use Rattle.document.proofs.Cases.{split}
@@ -67,16 +67,16 @@ module _ (l : Lent) where
       (_, by-report result (numberOf c l) (either c (leaves c l .block) (l .block)) (record { number = refl; state = refl }))
   exists (prepare setup) =
       let c : Call = prepare setup in
-      let r : Said = either c (record { refusal = taken; status = lengthOf (leaves c l) }) (record { refusal = numberOf c l; status = 0 }) in (
+      let r : Said = either c (record { refusal = taken; status = lengthOf (leaves c l) }) (record { refusal = numberOf c l; status = notServed }) in (
         _,
         by-prepare setup r (either c (leaves c l .block) (l .block))
-            (record { result = λ memory. ap (λ (n : ℕ). either c (record { refusal = taken; status = n }) (record { refusal = numberOf c l; status = 0 })) (prepare-alike (decoded (l .block) .instruments) setup [] memory); state = refl }),
+            (record { result = λ memory. ap (λ (n : ℕ). either c (record { refusal = taken; status = n }) (record { refusal = numberOf c l; status = notServed })) (prepare-alike (decoded (l .block) .instruments) setup [] memory); state = refl }),
       )
   exists start =
-      let r : Said = either start (record { refusal = taken; status = lengthOf (leaves start l) }) (record { refusal = numberOf start l; status = 0 }) in (
+      let r : Said = either start (record { refusal = taken; status = lengthOf (leaves start l) }) (record { refusal = numberOf start l; status = notServed }) in (
         _,
         by-start r (either start (leaves start l .block) (l .block))
-            (record { result = λ memory. ap (λ (n : ℕ). either start (record { refusal = taken; status = n }) (record { refusal = numberOf start l; status = 0 })) (start-alike (decoded (l .block) .instruments) [] memory); state = refl }),
+            (record { result = λ memory. ap (λ (n : ℕ). either start (record { refusal = taken; status = n }) (record { refusal = numberOf start l; status = notServed })) (start-alike (decoded (l .block) .instruments) [] memory); state = refl }),
       )
   exists (frame station bytes) =
       let c : Call = frame station bytes in

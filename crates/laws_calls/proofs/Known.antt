@@ -23,7 +23,7 @@ pub record Fit (l : Lent) : Type 0 where
   pub memory : eqb (length (l .memory)) memoryEnd ≡ true
 
 pub record Known (c : Call) (l : Lent) : Type 0 where
-  pub none-sent : sends c (kept l (leaves c l)) ≡ nothingSent
+  pub none-sent : sends c (kept c l) ≡ nothingSent
   pub asked-taken : Fit l → row c .room ≤ length (l .buffer) → row c .due (decoded (l .block)) (l .memory) ≡ true → numberOf c l ≡ taken
 
 pub known : (c : Call) (l : Lent) → Known c l

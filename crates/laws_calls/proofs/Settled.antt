@@ -50,11 +50,11 @@ module _ (l : Lent) where
     abbrev fine : Bool
     fine = eqb (numberOf c l) taken
 
-    done : (number : ℕ) (x : Left) → number ≡ refusal → x .said ≡ cond fine (leaves c l .said) (kept l (leaves c l) .said)
+    done : (number : ℕ) (x : Left) → number ≡ refusal → x .said ≡ cond fine (leaves c l .said) (kept c l .said)
         → x .block ≡ cond fine (leaves c l .block) (l .block) → x .memory ≡ cond fine (leaves c l .memory) (l .memory)
         → x .buffer ≡ cond fine (leaves c l .buffer) (l .buffer) → record { number = number; left = x } ≡ outcome c l
     done number x is said block memory buffer =
-        λ j. record { number = is j; left = settles fine x (leaves c l) (kept l (leaves c l)) said block memory buffer j }
+        λ j. record { number = is j; left = settles fine x (leaves c l) (kept c l) said block memory buffer j }
 
     -- a result of which this is the number
     number-in : {R : Type 0} (f : R → ℕ) (r given stayed : R) → f given ≡ taken → f stayed ≡ refusal → r ≡ cond fine given stayed → f r ≡ refusal
@@ -98,7 +98,7 @@ module _ (l : Lent) where
   taken-leaves c o p right =
       let same = settled c o p in
       let number : numberOf c l ≡ taken = sym (ap (λ (x : Outcome). x .number) same) ∙ right in
-      ap (λ (x : Outcome). x .left) same ∙ ap (λ (t : Bool). cond t (leaves c l) (kept l (leaves c l))) (eq-eqb (numberOf c l) taken number)
+      ap (λ (x : Outcome). x .left) same ∙ ap (λ (t : Bool). cond t (leaves c l) (kept c l)) (eq-eqb (numberOf c l) taken number)
 
   pub call-refused : (c : Call) (o : Outcome) → Promised l c o → CallRefused c l o
   call-refused c o p =
@@ -108,5 +108,5 @@ module _ (l : Lent) where
         number = number;
         unchanged = λ other.
             ap (λ (x : Outcome). x .left) same
-            ∙ ap (λ (t : Bool). cond t (leaves c l) (kept l (leaves c l))) (ne-eqb (numberOf c l) taken (λ right. other (number ∙ right)));
+            ∙ ap (λ (t : Bool). cond t (leaves c l) (kept c l)) (ne-eqb (numberOf c l) taken (λ right. other (number ∙ right)));
       }

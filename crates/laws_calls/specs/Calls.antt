@@ -2,12 +2,12 @@
 -- goes out with it, and what it asks for. All that is said of a call in a run is read off its row.
 use mathlib.Core.Path.{_≡_}
 use mathlib.Core.Bool.{Bool, true, false, cond, _&&_}
-use mathlib.Core.List.{List, [], _∷_, map}
+use mathlib.Core.List.{List, [], _∷_}
 use Prim.Native.Nat.{ℕ}
 use lib.Dec.{eqb, leb}
 use lib.ListN.{length, take, getD}
 use lib.Seq.{sets}
-use Rattle.document.specs.Numbers.{answerRoom, mostData, taken, stateRefused}
+use Rattle.document.specs.Numbers.{answerRoom, mostData, notServed, taken, stateRefused}
 use Rattle.document.specs.Recorder.{tickedMemory}
 use Rattle.document.specs.Application.{Application, newCommand, collectBuffer, isCollected}
 use Rattle.document.specs.Tables.{registerRefusal}
@@ -133,6 +133,8 @@ pub record Row : Type 0 where
   pub number : Lent → ℕ
   -- what it does when it is taken
   pub does : Found → Done
+  -- what it says beside its number when it is refused
+  pub denied : List ℕ
   -- what goes out, of what it says and of the buffer behind it
   pub sends : List ℕ → List ℕ → Sent
   -- the room that it asks for, and what else of the state and the memory, beside that they are right
@@ -153,6 +155,7 @@ row (byte b) =
       brings = b ∷ [];
       number = λ l. byteNumber (l .block) (l .memory) (l .buffer);
       does = λ f. turned (turn (f .state) b (f .memory) (f .buffer));
+      denied = 0 ∷ [];
       sends = λ said told. answered (getD said 0 0) told;
       room = answerRoom;
       due = always;
@@ -164,6 +167,7 @@ row (receive bytes) =
       brings = bytes;
       number = λ l. byteNumber (l .block) (l .memory) (l .buffer);
       does = λ f. walkedOver (walked (begun (f .state) (f .memory) (f .buffer)) bytes);
+      denied = 0 ∷ 0 ∷ [];
       sends = λ said told. answered (getD said 1 0) told;
       room = answerRoom;
       due = always;
@@ -181,6 +185,7 @@ row tick =
             memory = tickedMemory (recorderOf (f .state .instruments .recorder)) (f .memory);
             buffer = f .buffer;
           };
+      denied = [];
       sends = silent;
       room = 0;
       due = always;
@@ -198,6 +203,7 @@ row collect =
             memory = f .memory;
             buffer = collectBuffer (commandIn (f .state)) (f .buffer);
           };
+      denied = 0 ∷ [];
       sends = λ said told. record { answers = []; commands = handedOut (getD said 0 0) told; modbus-answers = [] };
       room = mostData;
       due = always;
@@ -209,6 +215,7 @@ row (report result) =
       brings = result ∷ [];
       number = λ l. reportNumber (l .block) result;
       does = λ f. storing f (reportedTarget result (f .state)) [];
+      denied = [];
       sends = silent;
       room = 0;
       -- a report waits for its command
@@ -221,6 +228,7 @@ row (prepare setup) =
       brings = setup;
       number = λ l. panelNumber (l .block);
       does = λ f. storing f (preparedTarget setup (f .state)) (panelPrepares (gateFound f) setup .answer .status ∷ []);
+      denied = notServed ∷ [];
       sends = silent;
       room = 0;
       due = always;
@@ -232,6 +240,7 @@ row start =
       brings = [];
       number = λ l. panelNumber (l .block);
       does = λ f. storing f (startedTarget (f .state)) (panelStarts (gateFound f) .answer .status ∷ []);
+      denied = notServed ∷ [];
       sends = silent;
       room = 0;
       due = always;
@@ -249,6 +258,7 @@ row (frame station bytes) =
             memory = modbusMemory station bytes (f .memory);
             buffer = modbusBuffer station bytes (f .memory) (f .buffer);
           };
+      denied = 0 ∷ [];
       sends = λ said told. record { answers = []; commands = []; modbus-answers = handedOut (getD said 0 0) told };
       room = modbusRoom;
       due = λ t memory. isStation station;
@@ -260,6 +270,7 @@ row (register list) =
       brings = list;
       number = λ l. registerNumber (l .block) (l .memory) list;
       does = λ f. storing f (freshWith (registeredList list)) [];
+      denied = [];
       sends = silent;
       room = 0;
       due = λ t memory. eqb (registerRefusal memory list) taken;
@@ -271,6 +282,7 @@ row reset =
       brings = [];
       number = λ l. cond (leb stateLength (length (l .block))) taken stateRefused;
       does = λ f. storing f fresh [];
+      denied = [];
       sends = silent;
       room = 0;
       due = always;
@@ -306,18 +318,18 @@ sends c x = row c .sends (x .said) (x .buffer)
 
 -- ---- refused or not
 
--- "changes no byte lent to the call", and says 0 of all else
-abbrev pub kept : Lent → Left → Left
-kept l x = record { said = map (λ (n : ℕ). 0) (x .said); block = l .block; memory = l .memory; buffer = l .buffer }
+-- "changes no byte lent to the call"
+abbrev pub kept : Call → Lent → Left
+kept c l = record { said = row c .denied; block = l .block; memory = l .memory; buffer = l .buffer }
 
 pub record Outcome : Type 0 where
   pub number : ℕ
   pub left : Left
 
 abbrev pub outcome : Call → Lent → Outcome
-outcome c l = record { number = numberOf c l; left = cond (eqb (numberOf c l) taken) (leaves c l) (kept l (leaves c l)) }
+outcome c l = record { number = numberOf c l; left = cond (eqb (numberOf c l) taken) (leaves c l) (kept c l) }
 
 -- Demand 1: "one number from the document, given exactly when the document says, and changes no byte lent to the call"
 pub record CallRefused (c : Call) (l : Lent) (o : Outcome) : Type 0 where
   pub number : o .number ≡ numberOf c l
-  pub unchanged : (o .number ≡ taken → ⊥) → o .left ≡ kept l (leaves c l)
+  pub unchanged : (o .number ≡ taken → ⊥) → o .left ≡ kept c l

@@ -7,7 +7,7 @@ use Prim.Native.Nat.{ℕ}
 use native.Mathlib.Omega.{arith}
 use borrow.Author.Tests.{ltb-true}
 use lib.Dec.{ltb}
-use Rattle.document.specs.Numbers.{done, recorderRuns, recorderStopped}
+use Rattle.document.specs.Numbers.{done, recorderRuns, recorderStopped, busy}
 use Rattle.document.specs.Areas.{bufferBegin, bytesAt}
 use Rattle.document.specs.Bytes.{AllBytes}
 use Rattle.document.specs.Message.{wellFormed, onWire, heard, finishedBy}
@@ -39,14 +39,15 @@ use Rattle.recorder_history.specs.History.{memoriesLeft, NoneBeyond, TriggersNe
 use Rattle.recorder_history.specs.History as history
 use Rattle.document_outcomes.specs.Starts.{isStart}
 use Rattle.document_outcomes.specs.Sending.{sends, unrefusedSoFar}
-use Rattle.laws_happenings.specs.Asides.{preparesAnew, startsAnew, row}
+use Rattle.laws_happenings.specs.Asides.{preparesAnew, startsAnew}
 use Rattle.laws_happenings.specs.Bytes.{bytesOf, AreBytes}
 use Rattle.laws_happenings.specs.Due.{AllDue}
 use Rattle.laws_happenings.specs.Recording.{events, ticksOf, AllUnstarted, AllUndisturbed}
 use Rattle.laws_happenings.specs.Applying.{sentOf, handedOut, Pending, AllUnreported}
 use Rattle.laws_happenings.specs.Ports.{modbusOf, withoutFrames, found, SameService, withoutService, shared, calibrationIn}
-use Rattle.laws_happenings.specs.Example.{zeros, reset, setup, plan, before, begun, meanwhile, start, starting, firstSet, command, rising, sending, earlier, risen, oneTaken, question, collecting, untilReport, asking, later, since, happened, stale, raised, lowered, disturbed, unattended}
+use Rattle.laws_happenings.specs.Example.{zeros, reset, setup, plan, before, begun, meanwhile, start, starting, firstSet, command, rising, sending, earlier, risen, oneTaken, question, awaiting, repeating, pending, untilReport, asking, later, since, happened, stale, raised, lowered, disturbed, unattended}
 use Rattle.laws_happenings.proofs.Follows.{unstarted}
+use Rattle.laws_happenings.proofs.Due.{carried, carried-bytes}
 
 -- what a computation looks through
 unfoldable pub computed : Since → List Happening → Since
@@ -58,7 +59,7 @@ infixr 4 _and_
 _and_ : {A B : Type 0} → A → B → A × B
 a and b = (a, b)
 
--- ---- all that comes is bytes: whatever is below 256 will do
+-- ---- all that comes is bytes
 
 abbrev pub allSmall : List ℕ → Bool
 allSmall [] = true
@@ -66,8 +67,7 @@ allSmall (b ∷ bs) = ltb b 256 && allSmall bs
 
 abbrev areSmall : List Happening → Bool
 areSmall [] = true
-areSmall (byte b ∷ hs) = ltb b 256 && areSmall hs
-areSmall (aside a ∷ hs) = allSmall (row a .brings) && areSmall hs
+areSmall (h ∷ hs) = allSmall (carried h) && areSmall hs
 
 pub all-small : (bs : List ℕ) → allSmall bs ≡ true → AllBytes bs
 all-small [] small = tt
@@ -75,9 +75,8 @@ all-small (b ∷ bs) small = let t = both (ltb b 256) (allSmall bs) small in (lt
 
 are-small : (hs : List Happening) → areSmall hs ≡ true → AreBytes hs
 are-small [] small = tt
-are-small (byte b ∷ hs) small = let t = both (ltb b 256) (areSmall hs) small in (ltb-true b 256 (t .0), are-small hs (t .1))
-are-small (aside a ∷ hs) small =
-    let t = both (allSmall (row a .brings)) (areSmall hs) small in (all-small (row a .brings) (t .0), are-small hs (t .1))
+are-small (h ∷ hs) small =
+    let t = both (allSmall (carried h)) (areSmall hs) small in (carried-bytes h (all-small (carried h) (t .0)), are-small hs (t .1))
 
 pub happened-bytes : AreBytes happened
 happened-bytes = are-small happened refl
@@ -98,7 +97,8 @@ happened-due =
     and tt and tt and refl and tt and refl
     and tt and tt and tt and tt and refl and tt
     and refl
-    and tt and refl and tt and tt and tt and tt and tt and tt and tt and tt and tt and refl and refl
+    and tt and refl and tt and tt and tt and tt and tt and tt and tt
+    and tt and tt and tt and tt and tt and tt and tt and refl and refl
     and refl and refl and tt and refl and tt and tt
     and refl and tt and tt and tt
     and tt and tt and tt
@@ -112,7 +112,8 @@ disturbed-due =
     and tt and tt and refl and refl and tt and refl
     and tt and tt and tt and tt and refl and tt
     and refl and refl
-    and tt and refl and tt and tt and tt and tt and tt and tt and tt and tt and tt and refl and refl
+    and tt and refl and tt and tt and tt and tt and tt and tt and tt
+    and tt and tt and tt and tt and tt and tt and tt and refl and refl
     and refl and refl and refl and refl and tt and refl and tt and tt
     and refl and tt and tt and tt
     and tt and tt and tt
@@ -148,7 +149,8 @@ since-undisturbed =
     and tt and tt and (refl, neither) and refl and (refl, neither)
     and tt and tt and tt and tt and (refl, neither) and refl
     and (refl, neither)
-    and tt and (refl, neither) and tt and refl and tt and tt and tt and tt and tt and tt and refl and (refl, neither) and (refl, neither)
+    and tt and (refl, neither) and tt and refl and tt and tt and tt and tt and refl
+    and tt and tt and tt and tt and tt and tt and refl and (refl, neither) and (refl, neither)
     and (refl, neither) and (refl, neither) and tt and (refl, neither) and tt and refl
     and (refl, neither) and tt and tt and refl
     and tt
@@ -191,7 +193,8 @@ risen-triggers = record { running = refl; due = refl; comes-now = refl }
 pub later-unstarted : AllUnstarted (after risen (aside tick)) later
 unfolding computed
 later-unstarted =
-    tt and refl and tt and refl and tt and tt and tt and tt and tt and tt and refl and refl and refl
+    tt and refl and tt and refl and tt and tt and tt and tt and refl
+    and tt and tt and tt and tt and tt and tt and refl and refl and refl
     and refl and refl and tt and refl and tt and refl
     and tt
 
@@ -248,11 +251,12 @@ pub command-finished : finishedBy (bytesOf (before ++ meanwhile ++ starting ++ f
 unfolding computed
 command-finished = refl
 
--- what is said to 0xC1, 0x10, 0xC6, 0xE3, 0xC6, 0xC2 and 0xC1
+-- what is said to 0xC1, 0x10, 0xC6, 0x10, 0xE3, 0xC6, 0xC2 and 0xC1
 pub happened-answers : afterAll reset happened .answers
     ≡ record { status = recorderRuns; body = [] }
     ∷ record { status = done; body = [] }
     ∷ record { status = done; body = 0xFE ∷ [] }
+    ∷ record { status = busy; body = [] }
     ∷ record { status = done; body = [] }
     ∷ record { status = done; body = 0xFD ∷ [] }
     ∷ record { status = recorderStopped; body = [] }
@@ -277,12 +281,36 @@ pub command-pending : Pending risen
 unfolding computed
 command-pending = refl
 
-pub command-unreported : AllUnreported risen (aside tick ∷ collecting)
+pub command-unreported : AllUnreported risen (aside tick ∷ pending)
 unfolding computed
 command-unreported =
     tt
-    and tt and tt and tt and tt and tt and tt and tt and tt and tt and tt and tt and tt and tt
+    and tt and tt and tt and tt and tt and tt and tt and tt and tt
+    and tt and tt and tt and tt and tt and tt and tt and tt and tt
     and tt
+
+-- in between 0xC6 asks for its result, and another 0x10 comes too soon
+pub awaiting-finished : finishedBy (bytesOf (before ++ earlier ++ (aside tick ∷ awaiting))) 0x3A ≡ question ∷ []
+unfolding computed
+awaiting-finished = refl
+
+pub awaiting-pending : Pending (afterAll reset (before ++ earlier ++ (aside tick ∷ awaiting)))
+unfolding computed
+awaiting-pending = refl
+
+pub repeating-finished : finishedBy (bytesOf (before ++ earlier ++ (aside tick ∷ awaiting) ++ (byte 0x3A ∷ repeating))) 0xFF ≡ command ∷ []
+unfolding computed
+repeating-finished = refl
+
+pub repeating-pending : Pending (afterAll reset (before ++ earlier ++ (aside tick ∷ awaiting) ++ (byte 0x3A ∷ repeating)))
+unfolding computed
+repeating-pending = refl
+
+pub command-unrefused : unrefusedSoFar command ≡ true
+command-unrefused = refl
+
+pub question-unrefused : unrefusedSoFar question ≡ true
+question-unrefused = refl
 
 pub command-collected : afterAll reset untilReport .gate .application ≡ collected
 unfolding computed
@@ -296,9 +324,6 @@ result-unsent = refl
 pub question-finished : finishedBy (bytesOf untilReport ++ bytesOf asking) 0x3A ≡ question ∷ []
 unfolding computed
 question-finished = refl
-
-pub question-unrefused : unrefusedSoFar question ≡ true
-question-unrefused = refl
 
 pub happened-application : afterAll reset happened .gate .application ≡ ended 0xFD
 unfolding computed

@@ -82,25 +82,35 @@ oneTaken = record { running = true; wait = 0; place = 1; full = false; watch = p
 
 -- ---- behind the tick at which it comes
 
--- the command is pending: it is collected, and not again; 0xC6 asks for its result, 0xE3 writes 9 to byte 0, and the further set is taken
+-- the command is pending: it is collected in the midst of 0xC6, which is here but for its last byte
 abbrev pub question : Message
 question = summed 0xC6 []
 
-abbrev pub collecting : List Happening
-collecting =
-    byte 0x2B ∷ aside collects ∷ byte 0xC6 ∷ byte 0x3A
-    ∷ byte 0x2B ∷ byte 0xE3 ∷ byte 0x00 ∷ byte 0x00 ∷ byte 0x09 ∷ byte 0x00 ∷ byte 0x14
+abbrev pub awaiting : List Happening
+awaiting = byte 0x2B ∷ aside collects ∷ byte 0xC6 ∷ []
+
+-- another 0x10 but for its last byte
+abbrev pub repeating : List Happening
+repeating = byte 0x2B ∷ byte 0x10 ∷ byte 0x01 ∷ byte 0xF0 ∷ []
+
+-- 0xE3 writes 9 to byte 0, nothing is there to collect, and the further set is taken
+abbrev pub lastSet : List Happening
+lastSet =
+    byte 0x2B ∷ byte 0xE3 ∷ byte 0x00 ∷ byte 0x00 ∷ byte 0x09 ∷ byte 0x00 ∷ byte 0x14
     ∷ aside collects ∷ aside tick ∷ []
 
-abbrev pub untilReport : List Happening
-untilReport = before ++ earlier ++ (aside tick ∷ collecting)
+abbrev pub pending : List Happening
+pending = awaiting ++ (byte 0x3A ∷ repeating) ++ (byte 0xFF ∷ lastSet)
 
--- behind the report 0xC6 but for its last byte; the recorder has stopped
+abbrev pub untilReport : List Happening
+untilReport = before ++ earlier ++ (aside tick ∷ pending)
+
+-- behind its report 0xC6 again but for its last byte; the recorder has stopped
 abbrev pub asking : List Happening
 asking = aside collects ∷ byte 0x2B ∷ aside tick ∷ byte 0xC6 ∷ []
 
 abbrev pub later : List Happening
-later = collecting ++ (aside (reports 0xFD) ∷ asking) ++ (byte 0x3A ∷ [])
+later = pending ++ (aside (reports 0xFD) ∷ asking) ++ (byte 0x3A ∷ [])
 
 -- the panel's preparing of nothing is refused; 0xC2
 abbrev pub stopping : List Happening
@@ -134,7 +144,7 @@ disturbed =
     ++ starting
     ++ (aside (frames 247 lowered) ∷ firstSet)
     ++ sending
-    ++ (byte 0xFF ∷ aside (frames 1 []) ∷ aside tick ∷ collecting)
+    ++ (byte 0xFF ∷ aside (frames 1 []) ∷ aside tick ∷ pending)
     ++ (aside (frames 247 raised) ∷ aside (reports 0xFD) ∷ aside (frames 247 lowered) ∷ asking)
     ++ (byte 0x3A ∷ stopping)
     ++ starting

@@ -1,4 +1,4 @@
--- The words of demand 3, of the recorder's history, of application commands and of the two ports, over what happens to a gate.
+-- The words of demand 3, of the recorder's history, of application commands and of the two ports, over what happens to a gate; and an example.
 pub mod Along
 pub mod Asides
 pub mod Bytes

@@ -234,6 +234,8 @@ impl Maker {
             size / 4,
             base,
             size + 0x1000,
+            // An info at or above 0x8000.
+            size + 0x2000,
         ];
         let wrong = match *self.rng.pick(&sizes) {
             same if same == size => size + 16,
