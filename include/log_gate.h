@@ -26,7 +26,8 @@ extern "C" {
 
 /*
  * The version of this header: the major number counts changes for which a caller must be changed or a kept state is void (a call, a
- * number, a state's layout), the minor one additions. It counts apart from the protocol's version, 3, and from what 0xC0 answers.
+ * number, a state's layout), the minor one additions and changes that no caller has to follow. It counts apart from the protocol's
+ * version, 3, and from what 0xC0 answers.
  */
 #define LOG_GATE_VERSION_MAJOR 3
 #define LOG_GATE_VERSION_MINOR 4

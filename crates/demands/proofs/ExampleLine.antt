@@ -6,10 +6,10 @@ use Prim.Native.Nat.{ℕ}
 use native.Mathlib.Omega.{arith}
 use lib.ListN.{set, length-set}
 use Rattle.document.specs.Numbers.{done, busy, taken}
-use Rattle.document.specs.Message.{Message, summed, wellFormed, onWire}
+use Rattle.document.specs.Message.{wellFormed, onWire}
 use Rattle.document.specs.Gate.{Gate}
 use Rattle.document.specs.Application.{isPending, isCollected}
-use Rattle.document.specs.Asides.Aside.{tick, collects, reports}
+use Rattle.document.specs.Asides.Aside.{tick, reports}
 use Rattle.document.specs.Happenings.{Happening, afterAll}
 use Rattle.document.specs.Happenings.Happening.{byte, aside}
 use Rattle.state_parts.specs.Within.{MemoryWithin}
@@ -133,33 +133,33 @@ reported =
     let call = run-calls block zeros [] begins long lent reset-there untilReport (collected .there) (collected .are) (collected .run) (Call.report 0xFD) [] (omega arith) due in
     (call .0, call .1)
 
-abbrev told : List Happening
-told = untilReport ++ (aside (reports 0xFD) ∷ [])
+abbrev untilReported : List Happening
+untilReported = untilReport ++ (aside (reports 0xFD) ∷ [])
 
 abbrev behind-report : List Happening
 behind-report = (byte 0x3A ∷ stopping) ++ starting ++ (byte 0x3F ∷ [])
 
-abbrev ended : At told
+abbrev ended : At untilReported
 ended =
     record {
       there = reported .0;
-      are = to told asking behind-report refl .are;
+      are = to untilReported asking behind-report refl .are;
       run =
           run-behind (begun begins zeros) (collected .there) (reported .0) untilReport (aside (reports 0xFD) ∷ []) (collected .run)
           (Run.happens (collected .there) (reported .0) (reported .0) (aside (reports 0xFD)) [] (reported .1) (Run.ends (reported .0)));
     }
 
-abbrev asks : At (told ++ asking)
-asks = further told asking behind-report refl ended
+abbrev asks : At (untilReported ++ asking)
+asks = further untilReported asking behind-report refl ended
 
-pub result-there : TellsResult 0xFD question (asks .there) (given (told ++ asking) asks 0x3A .0)
+pub result-there : TellsResult 0xFD question (asks .there) (given (untilReported ++ asking) asks 0x3A .0)
 result-there =
-    let last = given (told ++ asking) asks 0x3A in
+    let last = given (untilReported ++ asking) asks 0x3A in
     result-told block zeros [] begins long lent reset-there untilReport (collected .there) (collected .are) (collected .run) 0xFD (reported .0) (reported .1) asking (asks .there)
-    (are-next told asking behind-report refl) (goes told asking behind-report refl ended .1) result-unsent 0x3A (last .0) (omega arith) (last .1) question [] question-finished
+    (are-next untilReported asking behind-report refl) (goes untilReported asking behind-report refl ended .1) result-unsent 0x3A (last .0) (omega arith) (last .1) question [] question-finished
 
 -- which is what it says
-pub result-said : OnlySaid (record { status = done; body = 0xFD ∷ [] }) (asks .there) (given (told ++ asking) asks 0x3A .0)
+pub result-said : OnlySaid (record { status = done; body = 0xFD ∷ [] }) (asks .there) (given (untilReported ++ asking) asks 0x3A .0)
 result-said = result-there refl question-unrefused
 
 -- ---- two ports: the same with further frames, and without service traffic, over a memory with another byte

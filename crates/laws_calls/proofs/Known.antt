@@ -13,7 +13,7 @@ use Rattle.document.proofs.Cases.{both}
 use Rattle.state_block.specs.Places.{stateLength}
 use Rattle.state_block.specs.Layout.{decoded}
 use Rattle.call_checks.specs.Promises.{blockSound}
-use Rattle.laws_calls.specs.Calls.{Call, Lent, nothingSent, commandIn, row, numberOf, leaves, sends, kept}
+use Rattle.laws_calls.specs.Calls.{Call, Lent, nothingSent, commandIn, row, numberOf, sends, kept}
 use Rattle.laws_calls.specs.Calls.Call.{byte, receive, tick, collect, report, prepare, start, frame, register, reset}
 
 -- a sound block of its length, and the whole memory
