@@ -1,6 +1,5 @@
 #include "gate.h"
 
-#include "memory.h"
 #include "names.h"
 
 #include <stdio.h>
@@ -61,7 +60,7 @@ static void use_panel(struct gate *g)
     if (panel_is_pressed(g->memory))
         panel_prepared(&g->panel, status_of(log_gate_prepare(g->state, sizeof g->state, panel_setup, PANEL_SETUP)), g->memory);
     else if (panel_log_came(&g->panel, g->memory))
-        panel_started(status_of(log_gate_start(g->state, sizeof g->state, g->memory, sizeof g->memory)), g->memory);
+        panel_started(status_of(log_gate_start(g->state, sizeof g->state)), g->memory);
 }
 
 void gate_tick(struct gate *g)
@@ -81,15 +80,10 @@ log_gate_block_taken gate_block(struct gate *g, const uint8_t *block, size_t len
     return done;
 }
 
-uint32_t gate_sets(const struct gate *g)
-{
-    return number_at(g->memory + LOG_GATE_SETS, 2);
-}
-
 size_t gate_frame(struct gate *g, const uint8_t *frame, size_t length)
 {
-    log_gate_taken taken = log_gate_modbus(g->state, sizeof g->state, g->station, frame, length, g->memory, sizeof g->memory,
-                                           g->frame_answer, sizeof g->frame_answer);
+    log_gate_taken taken =
+        log_gate_modbus(g->station, frame, length, g->memory, sizeof g->memory, g->frame_answer, sizeof g->frame_answer);
     expect_taken(taken.refusal);
     return taken.length;
 }

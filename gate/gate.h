@@ -37,9 +37,6 @@ void gate_tick(struct gate *gate);
 /* Bytes came. Tells how many were taken, and how many bytes of gate->answers are to be sent before the rest is given again. */
 log_gate_block_taken gate_block(struct gate *gate, const uint8_t *block, size_t length);
 
-/* How many sets of the trace are real: those that the recorder has taken since its last start, as the memory shows them. */
-uint32_t gate_sets(const struct gate *gate);
-
 /* A frame came over the second port. Tells how many bytes of gate->frame_answer are to be sent; 0 is silence. */
 size_t gate_frame(struct gate *gate, const uint8_t *frame, size_t length);
 

@@ -2,10 +2,7 @@
 #ifndef GATE_MAP_H
 #define GATE_MAP_H
 
-/*
- * Base types by their codes, and what an entry's info says beside the size: source document 000 gives both. No port writes what is
- * read only.
- */
+/* Base types by their codes, and what an entry's info says beside the size: source document 000 gives both. */
 enum { UNSIGNED_1 = 0xE0, UNSIGNED_2 = 0xE1, UNSIGNED_4 = 0xE2 };
 enum { READ_ONLY = 1, WRITABLE = 3 };
 

@@ -1,4 +1,4 @@
-/* One table of the map's variables, and behind it each variable's type and name. What it marks read only, the target keeps from both ports. */
+/* One table of the map's variables, and behind it each variable's type and name. */
 #include "names.h"
 
 #include "map.h"
@@ -18,8 +18,8 @@ static const struct variable variables[] = {GATE_MAP(GATE_VARIABLE)};
 /* A base type's string is its code and a zero. */
 enum { ENTRY_SIZE = 8, TYPE_SIZE = 2 };
 
-/* The calibration area. In its last two bytes the target shows how many sets are real. */
-enum { CALIBRATION = 8192, TABLES_END = LOG_GATE_SETS };
+/* The calibration area. Its last two bytes are left free. */
+enum { CALIBRATION = 8192, TABLES_END = 12286 };
 
 enum { VARIABLES = sizeof variables / sizeof variables[0], TABLE_SIZE = VARIABLES * ENTRY_SIZE };
 

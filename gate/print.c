@@ -51,7 +51,7 @@ static void print_map(const char *path)
     printf("Address  bytes  register    name          little-endian\n");
     GATE_MAP(GATE_LINE)
 #undef GATE_LINE
-    printf("What is not yours to write no port writes: a write with a byte of it is refused whole.\n");
+    printf("What is not yours to write is not kept from you yet: a write to it is carried out.\n");
     printf("The port itself gives them by name:\n  ./run names %s\n", path);
 }
 
@@ -66,18 +66,6 @@ static void print_example(struct gate *g, const char *path)
     print_bytes("  answer  ", g->answers, length);
     printf("  so coil 1 reads %u\n", (unsigned)number_at(g->answers + 2, 2));
     printf("From a shell, the same; it shows what comes within a second, and a byte 2b among data and sum comes twice:\n");
-    print_shell_line(wire, sent, path);
-}
-
-/* The gate's own program writes the coils, and nobody else does. */
-static void print_kept(struct gate *g, const char *path)
-{
-    const uint8_t write[] = {COIL_1, 0, 0, 0};
-    uint8_t wire[LOG_GATE_COMMAND_ROOM];
-    size_t sent = form(LOG_GATE_WRITE_2, write, sizeof write, wire), length = gate_block(g, wire, sent).written;
-    printf("A write to coil 1, which is read only, is refused with the status %02X:\n", LOG_GATE_RANGE_WRONG);
-    print_bytes("  send    ", wire, sent);
-    print_bytes("  answer  ", g->answers, length);
     print_shell_line(wire, sent, path);
 }
 
@@ -113,18 +101,6 @@ static void print_panel(const char *path)
            PANEL_WAITS, LOG_GATE_BUSY);
 }
 
-/* A trace may be stopped early, and the one before stands behind it then. */
-static void print_sets(const char *path)
-{
-    const uint8_t sets[] = {LOG_GATE_SETS % 256, LOG_GATE_SETS / 256};
-    uint8_t wire[LOG_GATE_COMMAND_ROOM];
-    size_t sent = form(LOG_GATE_READ_2, sets, sizeof sets, wire);
-    printf("How many readings of the trace are real, since the recorder's last start, is asked for with\n");
-    print_bytes("  send    ", wire, sent);
-    print_shell_line(wire, sent, path);
-    printf("  The third and fourth byte of that answer are the number, low byte first. Whatever else stands in the trace is older.\n");
-}
-
 /* mbpoll is a Debian package; with -0 it counts registers from 0, as the frames do. */
 static void print_mbpoll(const struct gate *g, int address, const char *count, const char *path, const char *value)
 {
@@ -138,10 +114,7 @@ static void print_second(const struct gate *g, const char *path)
     printf("The %d coils are read, and the threshold is written, with\n", COILS);
     print_mbpoll(g, COIL_1, " -c 4", path, "");
     print_mbpoll(g, THRESHOLD, "", path, " 1200");
-    printf("How many readings of the trace are real is register %u:\n", LOG_GATE_SETS / 2);
-    print_mbpoll(g, LOG_GATE_SETS, "", path, "");
     printf("Of two registers the first is the low word. Where two variables share a register, function 22 writes one half alone.\n");
-    printf("A write with a register that has a byte of a read-only variable gets exception 2, whatever it masks.\n");
 }
 
 void print_welcome(struct gate *g, const char *path, const char *second)
@@ -151,12 +124,10 @@ void print_welcome(struct gate *g, const char *path, const char *second)
     print_map(path);
     printf("\n");
     print_example(g, path);
-    print_kept(g, path);
     printf("\n");
     print_self_test(path);
     printf("\n");
     print_panel(path);
-    print_sets(path);
     printf("\n");
     print_second(g, second);
     printf("\nStop with Ctrl-C.\n");
@@ -168,7 +139,6 @@ void print_farewell(const struct gate *g)
     printf("\nThe gate is closed: %llu ticks, %u logs, %u alarms; %llu bytes came, %llu bytes of answers went.\n",
            (unsigned long long)g->ticks, (unsigned)number_at(g->memory + LOGS, 4),
            (unsigned)number_at(g->memory + ALARMS, 4), (unsigned long long)g->came, (unsigned long long)g->went);
-    printf("The recorder has taken %u sets since its last start.\n", (unsigned)gate_sets(g));
     printf("At the second port %llu frames came, %llu answers went.\n", (unsigned long long)g->frames_came,
            (unsigned long long)g->frames_went);
     if (g->lost > 0)

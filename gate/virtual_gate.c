@@ -2,10 +2,9 @@
  * A log gate without the iron: the proved target behind two pseudo-terminals, a tick every millisecond, and a live scene in its
  * variables. At the second port it is a Modbus station; a frame there ends when nothing came for so many milliseconds.
  *
- *     virtual_gate [--seed N] [--ticks N] [--station N] [--silence MS] [--calibration FILE] [--capture FILE]
+ *     virtual_gate [--seed N] [--ticks N] [--station N] [--silence MS]
  */
 #define _XOPEN_SOURCE 700
-#include "calibration.h"
 #include "frames.h"
 #include "gate.h"
 #include "port.h"
@@ -49,35 +48,17 @@ static void tick_until(struct gate *g, uint64_t now, uint64_t most_ticks)
         gate_tick(g);
 }
 
-/* The service port, and where the bytes that come over it are recorded, NULL for nowhere. */
-struct service {
-    struct port port;
-    FILE *capture;
-};
-
-/* The file has at any time what the gate has taken. Returns 0 where it cannot be written. */
-static int record(FILE *capture, const uint8_t *bytes, size_t length)
-{
-    return capture == NULL || (fwrite(bytes, 1, length, capture) == length && fflush(capture) == 0);
-}
-
-/*
- * What came is given whole; what was not taken for want of room is given again once the answers are sent. Returns 0 where it cannot be
- * recorded.
- */
-static int serve(struct gate *g, struct service *s)
+/* What came is given whole; what was not taken for want of room is given again once the answers are sent. */
+static void serve(struct gate *g, struct port *port)
 {
     size_t length;
-    for (const uint8_t *block = port_block(&s->port, &length); length > 0; block = port_block(&s->port, &length)) {
+    for (const uint8_t *block = port_block(port, &length); length > 0; block = port_block(port, &length)) {
         log_gate_block_taken done = gate_block(g, block, length);
-        if (!record(s->capture, block, done.taken))
-            return 0;
-        port_take(&s->port, done.taken);
+        port_take(port, done.taken);
         g->came += done.taken;
-        if (port_send(&s->port, g->answers, done.written))
+        if (port_send(port, g->answers, done.written))
             g->went += done.written;
     }
-    return 1;
 }
 
 /* ---- the second port */
@@ -113,29 +94,26 @@ static int serve_second(struct gate *g, struct second *s)
     return 1;
 }
 
-/* Returns what was lost, NULL for nothing. */
-static const char *run(struct gate *g, struct service *service, struct second *second, uint64_t most_ticks)
+/* Returns 0 where a port was lost. */
+static int run(struct gate *g, struct port *service, struct second *second, uint64_t most_ticks)
 {
     uint64_t start = milliseconds();
     while (!stopped && g->ticks < most_ticks) {
-        if (!port_wait(&service->port, 1) || !serve_second(g, second))
-            return "a port was lost";
-        if (!serve(g, service))
-            return "the capture cannot be written";
+        if (!port_wait(service, 1) || !serve_second(g, second))
+            return 0;
+        serve(g, service);
         tick_until(g, milliseconds() - start, most_ticks);
     }
-    return NULL;
+    return 1;
 }
 
 /* ---- the beginning */
 
 struct options {
     uint64_t seed, ticks, station, silence;
-    const char *calibration; /* the file in which it outlives the gate, or NULL */
-    const char *capture;     /* the file in which the service port's bytes are recorded, or NULL */
 };
 
-static uint64_t *number_named(struct options *o, const char *word)
+static uint64_t *option_named(struct options *o, const char *word)
 {
     struct {
         const char *word;
@@ -155,25 +133,13 @@ static int read_number(const char *text, uint64_t *number)
     return '0' <= text[0] && text[0] <= '9' && *end == '\0' && errno == 0;
 }
 
-static const char **file_named(struct options *o, const char *word)
-{
-    return strcmp(word, "--calibration") == 0 ? &o->calibration : strcmp(word, "--capture") == 0 ? &o->capture : NULL;
-}
-
-static int read_option(struct options *o, const char *word, const char *behind)
-{
-    uint64_t *number = number_named(o, word);
-    const char **file = file_named(o, word);
-    if (file != NULL)
-        *file = behind;
-    return file != NULL || (number != NULL && read_number(behind, number));
-}
-
 static int read_options(int argc, char **argv, struct options *o)
 {
-    for (int i = 1; i < argc; i += 2)
-        if (i + 1 == argc || !read_option(o, argv[i], argv[i + 1]))
+    for (int i = 1; i < argc; i += 2) {
+        uint64_t *number = option_named(o, argv[i]);
+        if (number == NULL || i + 1 == argc || !read_number(argv[i + 1], number))
             return 0;
+    }
     return 1 <= o->station && o->station <= 247;
 }
 
@@ -185,15 +151,6 @@ static int open_port(struct port *port)
     return opened;
 }
 
-/* Returns 0 where there is a file to record in and it cannot be opened. */
-static int open_capture(struct service *s, const char *path)
-{
-    s->capture = path != NULL ? fopen(path, "wb") : NULL;
-    if (path != NULL && s->capture == NULL)
-        fprintf(stderr, "virtual gate: the capture %s cannot be opened: %s\n", path, strerror(errno));
-    return path == NULL || s->capture != NULL;
-}
-
 static void listen_for_stops(void)
 {
     struct sigaction action = {.sa_handler = stop};
@@ -201,54 +158,27 @@ static void listen_for_stops(void)
     sigaction(SIGTERM, &action, NULL);
 }
 
-/* Once the tables are registered: from then on they are read as the memory holds them. */
-static int read_calibration(struct gate *g, const char *path)
-{
-    enum calibration came = path == NULL ? CALIBRATION_ABSENT : calibration_read(path, g->memory);
-    if (came == CALIBRATION_UNREADABLE)
-        fprintf(stderr, "virtual gate: %s cannot be read: %s\n", path, strerror(errno));
-    if (came == CALIBRATION_REFUSED)
-        fprintf(stderr, "virtual gate: %s is no calibration file (10)\n", path);
-    return came == CALIBRATION_READ || came == CALIBRATION_ABSENT;
-}
-
-static int keep_calibration(const struct gate *g, const char *path)
-{
-    int kept = path == NULL || calibration_write(path, g->memory);
-    if (!kept)
-        fprintf(stderr, "virtual gate: its calibration cannot be written to %s\n", path);
-    return kept;
-}
-
 int main(int argc, char **argv)
 {
     static struct gate gate;
     struct options options = {.seed = 1, .ticks = UINT64_MAX, .station = 1, .silence = FRAMES_SILENCE_MS};
-    struct service service;
+    struct port service;
     struct second second = {.frames = {.length = 0}};
     if (!read_options(argc, argv, &options)) {
-        fprintf(stderr, "virtual gate: the words it knows are --seed N, --ticks N, --station N (1 to 247), --silence MS, --calibration FILE "
-                        "and --capture FILE\n");
+        fprintf(stderr, "virtual gate: the words it knows are --seed N, --ticks N, --station N (1 to 247) and --silence MS\n");
         return 2;
     }
     second.silence = options.silence;
-    if (!open_capture(&service, options.capture) || !open_port(&service.port) || !open_port(&second.port))
+    if (!open_port(&service) || !open_port(&second.port))
         return 1;
     listen_for_stops();
     gate_begin(&gate, options.seed, (uint16_t)options.station);
-    if (!read_calibration(&gate, options.calibration))
-        return 1;
-    if (options.capture != NULL)
-        printf("What comes over the service port is recorded; in words:\n  ./run capture %s\n", options.capture);
-    print_welcome(&gate, service.port.path, second.port.path);
-    const char *lost = run(&gate, &service, &second, options.ticks);
-    if (lost != NULL)
-        fprintf(stderr, "virtual gate: %s: %s\n", lost, strerror(errno));
-    port_close(&service.port);
+    print_welcome(&gate, service.path, second.port.path);
+    int ended = run(&gate, &service, &second, options.ticks);
+    if (!ended)
+        fprintf(stderr, "virtual gate: a port was lost: %s\n", strerror(errno));
+    port_close(&service);
     port_close(&second.port);
-    if (service.capture != NULL)
-        fclose(service.capture);
     print_farewell(&gate);
-    int kept = keep_calibration(&gate, options.calibration);
-    return lost == NULL && kept ? 0 : 1;
+    return ended ? 0 : 1;
 }

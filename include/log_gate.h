@@ -6,10 +6,10 @@
  * call can check are asked of the caller:
  *
  * - Pointers are not NULL (a length of 0 does not change that).
- * - Each points to as many bytes as its length says, the list of a capture to as many numbers.
+ * - Each points to as many bytes as its length says.
  * - What is lent for writing overlaps nothing else that is lent.
  * - While a call runs, nobody else touches what it was lent: one call at a time for one state and its memory. Who ticks or gives
- *   bytes in an interrupt holds it off while another call runs, those of the gate's own program, its panel and its second port too.
+ *   bytes in an interrupt holds it off while another call runs, those of the gate's own program and its panel too.
  *
  * A state needs no alignment. Calls over different states and memories share nothing.
  */
@@ -29,25 +29,16 @@ extern "C" {
  * number, a state's layout), the minor one additions and changes that no caller has to follow. It counts apart from the protocol's
  * version, 3, and from what 0xC0 answers.
  */
-#define LOG_GATE_VERSION_MAJOR 5
-#define LOG_GATE_VERSION_MINOR 2
+#define LOG_GATE_VERSION_MAJOR 3
+#define LOG_GATE_VERSION_MINOR 4
 #define LOG_GATE_VERSION (LOG_GATE_VERSION_MAJOR * 256 + LOG_GATE_VERSION_MINOR)
 
 /* Bytes of a target's state and of an answer reader's state; docs/STATE.md has their layout. More may be lent. */
-#define LOG_GATE_STATE 315u
+#define LOG_GATE_STATE 313u
 #define LOG_GATE_READER 70u
 
 /* The gate's memory, exactly. */
 #define LOG_GATE_MEMORY 16384u
-
-/*
- * Bytes 12,286 and 12,287 of the memory show, low byte first, how many sets the recorder has taken since its last start, and stay at
- * 65,535 once there. The library writes them: 0 at every start, then the number with every set, after the set is copied. A stop, a
- * preparing, a reset and a tick without a set leave them. Either port can read them and neither can write them; a scope may show them.
- * The gate's own program leaves them alone: what it writes there stands until the next set or start, and does not change the count,
- * which the state keeps.
- */
-#define LOG_GATE_SETS 12286u
 
 /* Room for an answer, at least; room for the data of an answer that is read or for a command that is collected, at least. */
 #define LOG_GATE_ANSWER_ROOM 132u
@@ -55,9 +46,6 @@ extern "C" {
 
 /* Room for an answer at the second port, at least. */
 #define LOG_GATE_MODBUS_ROOM 256u
-
-/* Characters of an exported calibration file: room for one, exactly as many as are written. */
-#define LOG_GATE_EXPORT_ROOM 11529u
 
 /* Bytes of a list for each table that is registered, and how many tables a list may name. */
 #define LOG_GATE_TABLE 4u
@@ -82,8 +70,7 @@ enum {
     LOG_GATE_SUM_REFUSED = 6,      /* a finished answer whose sum is wrong */
     LOG_GATE_RESULT_REFUSED = 7,   /* a result above 0xFD, or no collected command that waits for one */
     LOG_GATE_LIST_REFUSED = 8,     /* a list of tables that cannot be registered */
-    LOG_GATE_STATION_REFUSED = 9,  /* an own station outside 1 to 247 */
-    LOG_GATE_FILE_REFUSED = 10     /* a text that is no calibration file */
+    LOG_GATE_STATION_REFUSED = 9   /* an own station outside 1 to 247 */
 };
 
 /* Statuses of answers on the wire. */
@@ -152,7 +139,7 @@ enum {
 
 /* ---- the target */
 
-/* A refusal or LOG_GATE_TAKEN, and how many bytes of the lent buffer are an answer to be sent, a message, a command or a file; 0 is none. */
+/* A refusal or LOG_GATE_TAKEN, and how many bytes of the lent buffer are an answer to be sent, or a message, or a command; 0 is none. */
 typedef struct {
     log_gate_result refusal;
     size_t length;
@@ -163,17 +150,11 @@ log_gate_result log_gate_reset(uint8_t *state, size_t state_length);
 
 /*
  * A reset with tables, in which a laptop finds variables by their names. The list has an address and a size for each table, 2 bytes
- * each, lowest first; tables may lie at odd addresses and overlap. A table lies inside bytes 8,192 to 12,285 and is one or more whole
+ * each, lowest first; tables may lie at odd addresses and overlap. A table lies inside bytes 8,192 to 12,287 and is one or more whole
  * entries of 8 bytes: name, type, address and info, 2 bytes each. Every entry's type is an address inside the memory; where a base
  * type's string stands there, info divided by 4 is that type's size. Such a string is one of fourteen codes and a zero: E0, F0 one
- * byte; E1, F1, E5, F5 two; E2, F2, E6, F6, FA four; E3, F3, FB eight. Another string is another type, of any size. All this is checked
- * here and never again. The state may hold anything before.
- *
- * An entry whose info leaves 1 when it is divided by 4 marks its variable read-only: the bytes from its address on, as many as info
- * divided by 4, none where that is 0; they do not come round behind 65,535. While its table is registered, neither port writes them: a
- * write with one of them in its range is refused whole, whatever its mask, with LOG_GATE_RANGE_WRONG or at the second port with
- * exception 2, and an entry that lets the same bytes be written does not help. Marks are found anew at every write, in the entries as
- * the memory then holds them. They bind the ports alone: the recorder, an import and the gate's own program write as if there were none.
+ * byte; E1, F1, E5, F5 two; E2, F2, E6, F6, FA four; E3, F3, FB eight. Another string is another type, of any size. All this is looked
+ * at here and never again. The state may hold anything before.
  *
  * Refuses LOG_GATE_STATE_REFUSED for a state that is too short, then LOG_GATE_MEMORY_REFUSED, then LOG_GATE_LIST_REFUSED: half a pair,
  * more than LOG_GATE_MOST_TABLES, or a table or an entry that is not as said. Nothing is registered then, and the state stays.
@@ -184,11 +165,7 @@ log_gate_result log_gate_register(uint8_t *state, size_t state_length, const uin
 /* Whether the calls below would take this state: LOG_GATE_TAKEN or LOG_GATE_STATE_REFUSED. */
 log_gate_result log_gate_check(const uint8_t *state, size_t state_length);
 
-/*
- * A byte came over the port. A command that writes may go to bytes 0 to 8,191, but for those that a registered table marks read-only;
- * where its range has any other byte, nothing is written and the answer is LOG_GATE_RANGE_WRONG. Refuses LOG_GATE_STATE_REFUSED, then
- * LOG_GATE_MEMORY_REFUSED, then LOG_GATE_ROOM_REFUSED, answered or not.
- */
+/* A byte came over the port. */
 log_gate_taken log_gate_byte(uint8_t *state, size_t state_length, uint8_t byte, uint8_t *memory, size_t memory_length,
                              uint8_t *answer, size_t answer_length);
 
@@ -212,7 +189,7 @@ typedef struct {
 log_gate_block_taken log_gate_block(uint8_t *state, size_t state_length, const uint8_t *block, size_t block_length,
                                     uint8_t *memory, size_t memory_length, uint8_t *answers, size_t answers_length);
 
-/* A tick, each millisecond. With a set it writes the set's place in the recorder buffer and the bytes at LOG_GATE_SETS, else nothing. */
+/* A tick, each millisecond. */
 log_gate_result log_gate_tick(uint8_t *state, size_t state_length, uint8_t *memory, size_t memory_length);
 
 /*
@@ -236,56 +213,29 @@ typedef struct {
 /*
  * The gate's front panel prepares the recorder. It gives 0x09's data part, numbers lowest byte first: mode (1 byte: 0 none, 1 rising, 2
  * falling), samples (2), post-trigger (2), time divider (2), the trigger's address (2), size (1), sign (1: 0 unsigned, 1 signed) and
- * threshold (4), then how many variables (1 byte, 1 to 8) and of each its size (1) and address (2). Variables and trigger end before
- * the bytes at LOG_GATE_SETS, which this call leaves. It is told 0x09's statuses in their order: LOG_GATE_MESSAGE_TOO_LONG above 64
- * bytes, then LOG_GATE_BUSY, LOG_GATE_LAYOUT_WRONG, LOG_GATE_SIZE_WRONG, LOG_GATE_RANGE_WRONG; each leaves the former setup. After
- * LOG_GATE_DONE the recorder stands until it is started, as one that has taken no set. A message that is coming over the port goes on.
+ * threshold (4), then how many variables (1 byte, 1 to 8) and of each its size (1) and address (2). It is told 0x09's statuses in
+ * their order: LOG_GATE_MESSAGE_TOO_LONG above 64 bytes, then LOG_GATE_BUSY, LOG_GATE_LAYOUT_WRONG, LOG_GATE_SIZE_WRONG,
+ * LOG_GATE_RANGE_WRONG; each leaves the former setup. After LOG_GATE_DONE the recorder stands until it is started, as one that has
+ * taken no set. A message that is coming over the port goes on.
  */
 log_gate_said log_gate_prepare(uint8_t *state, size_t state_length, const uint8_t *data, size_t data_length);
 
-/*
- * The front panel starts the recorder: LOG_GATE_DONE, LOG_GATE_RECORDER_RUNS or LOG_GATE_NOT_SET_UP, as 0xC1 answers. With
- * LOG_GATE_DONE it writes 0 at LOG_GATE_SETS, and no other byte of the memory. Refuses LOG_GATE_STATE_REFUSED, then
- * LOG_GATE_MEMORY_REFUSED.
- */
-log_gate_said log_gate_start(uint8_t *state, size_t state_length, uint8_t *memory, size_t memory_length);
+/* The front panel starts the recorder: LOG_GATE_DONE, LOG_GATE_RECORDER_RUNS or LOG_GATE_NOT_SET_UP, as 0xC1 answers. */
+log_gate_said log_gate_start(uint8_t *state, size_t state_length);
 
 /* ---- the second port */
 
 /*
  * A whole Modbus frame came over the second port, marked off by the gate: Modbus on a serial line, RTU framing, for the station that
  * the gate is there. Functions 3, 6, 16 and 22 are served. Register r is bytes 2r and 2r + 1 of the memory, low byte first; all of
- * the memory can be read, and bytes 0 to 8,191 can be written, but for those that a registered table marks read-only. Register 6,143 is
- * the number of sets at LOG_GATE_SETS. The answer's length is told, check sum and all; a length of 0 is silence: for a frame below 4
- * or above 256 bytes, another station or station 0, a function byte above 127, or a wrong check sum. An exception is told in this
- * order: 1 for another function, 3 for a quantity outside 1 to 125 (read) or 123 (write), or a byte count or a frame length that does
- * not fit, 2 for an address: a register that cannot be read, or to be written one with a byte that cannot. Silence and exceptions
- * change nothing. The state is the one that the gate's other calls are lent. It is looked at for the registered tables alone, and
- * stays: the second port remembers nothing from frame to frame. Refuses LOG_GATE_STATE_REFUSED, then LOG_GATE_MEMORY_REFUSED, then
+ * the memory can be read, bytes 0 to 8,191 can be written. The answer's length is told, check sum and all; a length of 0 is
+ * silence: for a frame below 4 or above 256 bytes, another station or station 0, a function byte above 127, or a wrong check sum. An
+ * exception is told in this order: 1 for another function, 3 for a quantity outside 1 to 125 (read) or 123 (write), or a byte count or
+ * a frame length that does not fit, 2 for an address. Silence and exceptions change nothing. The two ports share the memory and nothing else, so no state is lent. Refuses LOG_GATE_MEMORY_REFUSED, then
  * LOG_GATE_ROOM_REFUSED below LOG_GATE_MODBUS_ROOM, where silence follows too, then LOG_GATE_STATION_REFUSED.
  */
-log_gate_taken log_gate_modbus(const uint8_t *state, size_t state_length, uint16_t station, const uint8_t *frame, size_t frame_length,
-                               uint8_t *memory, size_t memory_length, uint8_t *out, size_t out_length);
-
-/* ---- calibration files, for the test bench */
-
-/*
- * Bytes 8,192 to 12,285 of the memory as a calibration file, Intel HEX: type 00 records of 16 data bytes, the last one of 14, then the
- * end record, in upper case, each line ended by CR LF. It is LOG_GATE_EXPORT_ROOM characters, which is the length that is told; no
- * zero stands behind them, and what is lent behind them keeps its values. The memory is only read. Refuses LOG_GATE_MEMORY_REFUSED,
- * then LOG_GATE_ROOM_REFUSED below LOG_GATE_EXPORT_ROOM.
- */
-log_gate_taken log_gate_export(const uint8_t *memory, size_t memory_length, uint8_t *text, size_t text_length);
-
-/*
- * A calibration file is stored in the memory. It is lines, each ended by LF or CR LF, the last one too: type 00 records of 1 to 255
- * bytes in any order, digits in upper or lower case, each record inside bytes 8,192 to 12,285, and last the record :00000001FF, behind
- * which nothing stands. The whole text is looked at before a byte is written; where two records name a byte, the later counts, and
- * bytes that none names stay. Nothing else is touched: a message that is coming over the port goes on, and the recorder too. Registered
- * tables that lie there are not checked again, and are from then on read as the memory holds them, their names and their marks. What a
- * table marks read-only may be among what is stored. Refuses LOG_GATE_MEMORY_REFUSED, then LOG_GATE_FILE_REFUSED for any other text.
- */
-log_gate_result log_gate_import(const uint8_t *text, size_t text_length, uint8_t *memory, size_t memory_length);
+log_gate_taken log_gate_modbus(uint16_t station, const uint8_t *frame, size_t frame_length, uint8_t *memory, size_t memory_length,
+                               uint8_t *out, size_t out_length);
 
 /* ---- both ends of the line */
 
@@ -310,32 +260,6 @@ log_gate_result log_gate_reader_begin(uint8_t *reader, size_t reader_length, siz
 /* A byte came from the target. Needs LOG_GATE_DATA_ROOM, and writes it only with a whole right answer. */
 log_gate_read log_gate_reader_byte(uint8_t *reader, size_t reader_length, uint8_t byte, uint8_t *data, size_t data_length);
 
-/* ---- captures of the line */
-
-/* Numbers of a list for each message that a capture holds: the place of its start byte, its command, its class. */
-#define LOG_GATE_ENTRY 3u
-
-enum {
-    LOG_GATE_WHOLE_AND_RIGHT = 0,         /* the target answers it with neither of the two below */
-    LOG_GATE_WHOLE_WITH_WRONG_SUM = 1,    /* the target answers LOG_GATE_SUM_WRONG, however long it is */
-    LOG_GATE_TOO_LONG_WITH_RIGHT_SUM = 2  /* the target answers LOG_GATE_MESSAGE_TOO_LONG */
-};
-
-/* A refusal or LOG_GATE_TAKEN, and how many messages the list has; none where it is refused. */
-typedef struct {
-    log_gate_result refusal;
-    size_t count;
-} log_gate_listed;
-
-/*
- * What the target was told: the messages in a capture of the bytes that it received since reset, in order, each as LOG_GATE_ENTRY numbers
- * from the list's beginning on. They are the ones that it answered, served or not; a message that is not whole at the end is none. Places
- * count the capture's bytes from 0. Numbers behind the entries keep their values. The list's length is how many numbers it has; a third
- * as many entries as the capture has bytes are always enough, and with such a list the bytes are gone over once, else twice. Refuses
- * LOG_GATE_ROOM_REFUSED where the list has room for fewer entries than there are messages, and writes nothing then.
- */
-log_gate_listed log_gate_capture(const uint8_t *bytes, size_t bytes_length, uint64_t *list, size_t list_length);
-
 /* ---- how the library lays out what it returns, and how wide a length is there; looked at where the language can */
 
 #if defined __cplusplus && __cplusplus >= 201103L
@@ -351,8 +275,6 @@ LOG_GATE_ASSERT(offsetof(log_gate_taken, length) == sizeof(size_t), "its length 
 LOG_GATE_ASSERT(sizeof(log_gate_block_taken) == 3 * sizeof(size_t), "log_gate_block_taken is three words");
 LOG_GATE_ASSERT(offsetof(log_gate_block_taken, taken) == sizeof(size_t), "what was taken is the second");
 LOG_GATE_ASSERT(offsetof(log_gate_block_taken, written) == 2 * sizeof(size_t), "what was written is the third");
-LOG_GATE_ASSERT(sizeof(log_gate_listed) == 2 * sizeof(size_t), "log_gate_listed is two words");
-LOG_GATE_ASSERT(offsetof(log_gate_listed, count) == sizeof(size_t), "its count is the second");
 LOG_GATE_ASSERT(sizeof(log_gate_said) == 2, "log_gate_said is two bytes");
 LOG_GATE_ASSERT(sizeof(log_gate_read) == 4, "log_gate_read is four bytes");
 #ifdef __x86_64__

@@ -1,18 +1,15 @@
 /*
  * The virtual gate without its port. A log stands in it with its nail under a coil: a recorder that starts then stops with its first
- * set. Its front panel prepares the recorder, which starts when the next log arrives; of a trace stopped early it can be told which
- * sets are that log's. Frames are marked off by silence, and the mill's controller finds the coils in registers. Neither port writes a
- * coil or a counter, and the gate's own program does.
+ * set. Its front panel prepares the recorder, which starts when the next log arrives. Frames are marked off by silence, and the
+ * mill's controller finds the coils in registers.
  */
 #include "../gate/frames.h"
 #include "../gate/gate.h"
 #include "../gate/map.h"
 #include "../gate/memory.h"
-#include "check_sum.h"
 #include "expect.h"
 
 #include <stdio.h>
-#include <string.h>
 
 /* Milliseconds until a nail has come for sure, and from the alarm until it is well under a coil. */
 enum { A_MINUTE = 60000, WELL_UNDER = 10 };
@@ -107,36 +104,6 @@ static void test_panel(void)
     printf("gate_test: prepared %u ms before the log, the recorder starts with it\n", waited);
 }
 
-/* ---- a trace stopped early, with the whole one of the test before behind it */
-
-enum { SETS_TAKEN = 11, TRACE = 2 * PANEL_READINGS, TAKEN = 2 * SETS_TAKEN };
-
-/* Register 6,143, with its high byte first. */
-static unsigned sets_by_register(void)
-{
-    uint8_t asked[] = {STATION, 3, LOG_GATE_SETS / 2 / 256, LOG_GATE_SETS / 2 % 256, 0, 1, 0, 0};
-    put_number(asked + 6, 2, check_sum(asked, 6));
-    expect(gate_frame(&gate, asked, sizeof asked) == 7, "the number of sets can be read at the second port");
-    return gate.frame_answer[3] * 256u + gate.frame_answer[4];
-}
-
-static void test_stopped_early(void)
-{
-    uint8_t last[TRACE];
-    const uint8_t *trace = gate.memory + BUFFER;
-    memcpy(last, trace, sizeof last);
-    expect(gate_sets(&gate) == PANEL_READINGS, "every set of a whole trace is real");
-    press();
-    wait_for_log();
-    for (int i = 0; i < (SETS_TAKEN - 1) * PANEL_STEP_MS; i++)
-        gate_tick(&gate);
-    expect(status_of(LOG_GATE_STOP_RECORDER, NULL, 0) == LOG_GATE_DONE, "the trace is stopped early");
-    expect(gate_sets(&gate) == SETS_TAKEN && sets_by_register() == SETS_TAKEN, "it is told how many sets are real");
-    expect(memcmp(trace, last, TAKEN) != 0 && memcmp(trace + TAKEN, last + TAKEN, TRACE - TAKEN) == 0,
-           "behind these the last log's sets still stand");
-    printf("gate_test: of a trace stopped early, %u of %u sets are told to be real\n", (unsigned)gate_sets(&gate), PANEL_READINGS);
-}
-
 /* ---- the second port */
 
 enum { SILENCE = 5 };
@@ -168,64 +135,12 @@ static void test_registers(void)
     expect(gate_frame(&gate, asked, sizeof asked - 1) == 0, "a frame cut short gets silence");
 }
 
-/* ---- read-only variables */
-
-/* At the service port, two bytes at an address. */
-static uint8_t write_bytes(unsigned address, unsigned value)
-{
-    const uint8_t data[] = {(uint8_t)address, 0, (uint8_t)value, (uint8_t)(value >> 8)};
-    return status_of(LOG_GATE_WRITE_2, data, sizeof data);
-}
-
-/* At the second port, the register that they are: 0, or the exception. */
-static uint8_t write_register(unsigned address, unsigned value)
-{
-    uint8_t frame[] = {STATION, 6, 0, (uint8_t)(address / 2), (uint8_t)(value >> 8), (uint8_t)value, 0, 0};
-    put_number(frame + 6, 2, check_sum(frame, 6));
-    expect(gate_frame(&gate, frame, sizeof frame) >= 5, "a write at the second port is answered");
-    return gate.frame_answer[1] == 6 ? 0 : gate.frame_answer[2];
-}
-
-static void expect_kept(unsigned address)
-{
-    uint8_t before[LOG_GATE_MEMORY];
-    memcpy(before, gate.memory, sizeof before);
-    expect(write_bytes(address, 0x5A5A) == LOG_GATE_RANGE_WRONG, "the service port does not write what is read only");
-    expect(write_register(address, 0x5A5A) == 2, "nor does the second port");
-    expect(memcmp(before, gate.memory, sizeof before) == 0, "what is refused changes nothing");
-}
-
-static void expect_written(unsigned address)
-{
-    expect(write_bytes(address, 0x0302) == LOG_GATE_DONE && number_at(gate.memory + address, 2) == 0x0302,
-           "the service port writes what may be written");
-    expect(write_register(address, 0) == 0 && number_at(gate.memory + address, 2) == 0, "and so does the second port");
-}
-
-/* Cut coil and belt stopped share a register, and so do panel and a byte that no table names. */
-static void test_read_only(void)
-{
-    const unsigned kept[] = {COIL_1, COIL_2, COIL_3, COIL_4, ALARM, LOGS, LOGS + 2, ALARMS, ALARMS + 2};
-    const unsigned written[] = {THRESHOLD, CUT_COIL, PANEL};
-    for (size_t i = 0; i < sizeof kept / sizeof kept[0]; i++)
-        expect_kept(kept[i]);
-    for (size_t i = 0; i < sizeof written / sizeof written[0]; i++)
-        expect_written(written[i]);
-    expect(write_bytes(THRESHOLD - 1, 0) == LOG_GATE_RANGE_WRONG, "a byte of a coil is enough to refuse both");
-    put_number(gate.memory + COIL_1, 2, 0xFFFF);
-    gate_tick(&gate);
-    expect(number_at(gate.memory + COIL_1, 2) != 0xFFFF, "the gate's own program writes its coils");
-    printf("gate_test: neither port writes a coil or a counter\n");
-}
-
 int main(void)
 {
     gate_begin(&gate, 1, STATION);
     test_nail();
     test_panel();
-    test_stopped_early();
     test_frames();
     test_registers();
-    test_read_only();
     return 0;
 }

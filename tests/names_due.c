@@ -14,7 +14,7 @@ static const char *in_words(int type)
 
 int main(void)
 {
-    printf("Name              type                       address  bytes  access\n");
+    printf("Name              type                       address  bytes  access (read only is not kept yet: a write is carried out)\n");
     GATE_MAP(DUE)
     return 0;
 }

@@ -55,7 +55,7 @@ echo "names: $(($(wc -l <$built/names) - 1)) variables at the port, as gate/map.
 
 $RUN_X86 $built/port_test "$port" || fail "the technician at the port"
 end_gate
-tail -n 3 $built/gate.out
+tail -n 2 $built/gate.out
 
 # ./run takes the proved archive. Where that is the one under test, the gate that it starts gives the same list.
 if [ "$archive" -ef target/staticlib/liblog_gate.a ]; then

@@ -2,8 +2,7 @@
  * A technician at the virtual gate's service port: port_test PATH. Commands are written and answers read with the header's other
  * end of the line. It looks that commands sent in one go are all answered, that the coils are live, that a recorder triggers on
  * one, that a written threshold counts, that the self-test finds a coil whose wire is cut, that the panel's button prepares
- * a trace of the next log, that it can be told how many of its sets are real, and that who comes anew finds no answers to another's
- * commands.
+ * a trace of the next log, and that who comes anew finds no answers to another's commands.
  */
 #define _XOPEN_SOURCE 700
 #include "../gate/gate.h"
@@ -221,13 +220,10 @@ static void test_panel(void)
     expect(ask(LOG_GATE_QUERY_BUFFER, data, 0, 4) == LOG_GATE_DONE && word(data + 2) == 0, "the trace is whole");
     expect(ask(LOG_GATE_READ_BYTES, first, sizeof first, 2) == LOG_GATE_DONE && word(data) >= WOOD_AT_LEAST,
            "the trace begins with the log");
-    expect(read_word(LOG_GATE_SETS) == PANEL_READINGS, "every set of a whole trace is real");
     expect(ask(LOG_GATE_START_RECORDER, data, 0, 0) == LOG_GATE_DONE, "the laptop starts it again");
     write_byte(PANEL, PANEL_PRESSED);
     expect(panel_in_time() == LOG_GATE_BUSY, "a running recorder is not prepared");
-    uint8_t stopped = ask(LOG_GATE_STOP_RECORDER, data, 0, 0);
-    unsigned sets = read_word(LOG_GATE_SETS);
-    expect(stopped == LOG_GATE_DONE ? sets < PANEL_READINGS : sets == PANEL_READINGS, "a trace stopped early has fewer");
+    ask(LOG_GATE_STOP_RECORDER, data, 0, 0);
 }
 
 /* ---- one who leaves without reading an answer, and one who comes then */

@@ -43,10 +43,8 @@ part calls
 part scripts
 part wrong
 part port
-part capture
 part session
 part peers
-part files
 echo "tests/run.sh: compared $compared bytes of $played scripts and their answers: second/, the proved player, the archive and the plain C give the same"
 echo "tests/run.sh: compared the fuzzing loop's answers, states and memory: the archive and the plain C give the same"
 echo "tests/run.sh: all passed (${times#, })"

@@ -13,28 +13,13 @@ scripts=
 played=0
 compared=0
 
-# The proved player takes the lines of a running gate and of its cable's other end. Those of captures change nothing, and are left out for
-# it; a script with calibration files, which change the memory, it does not play.
-captures='^L '
-files='^[XI]'
-
-# as_expected EXPECTED PLAYER SCRIPT: the player plays it and says what is expected.
-as_expected() {
-    $RUN_X86 "$2" <"$3" >$built/played || fail "$3 is not played to its end by $2"
-    cmp -s "$1" $built/played || { $second compare "$1" $built/played; fail "$3, played by $2"; }
-}
-
 # same SCRIPT: all play it, and say the same.
 same() {
     $second play "$1" >$built/expected
-    for player in $built/play $built/play-plain; do
-        as_expected $built/expected $player "$1"
+    for player in "$proved" $built/play $built/play-plain; do
+        $RUN_X86 "$player" <"$1" >$built/played || fail "$1 is not played to its end by $player"
+        cmp -s $built/expected $built/played || { $second compare $built/expected $built/played; fail "$1, played by $player"; }
     done
-    if ! grep -q "$files" "$1"; then
-        grep -v "$captures" "$1" >$built/script
-        grep -v "$captures" $built/expected >$built/expected-within || true
-        as_expected $built/expected-within "$proved" $built/script
-    fi
     scripts="$scripts $1"
     played=$((played + 1))
     compared=$((compared + $(wc -c <"$1") + $(wc -c <$built/expected)))
@@ -61,14 +46,6 @@ while [ $seed -lt $last ]; do
     seed=$((seed + 1))
 done
 
-# Half as many of the test bench, with calibration files among all else
-bench=0
-while [ $bench -lt $((seeds / 2)) ]; do
-    $second bench $((first + bench)) 600 >$built/scripts/bench_$((first + bench))
-    same $built/scripts/bench_$((first + bench))
-    bench=$((bench + 1))
-done
-
 # The kept script, the longest, comes last in the list. What the gate's own run of the player is held to is still what the independent
 # implementation answers.
 $second play crates/play/stdin | cmp - crates/play/stdout || fail "crates/play/stdout is not the independent implementation's answer"
@@ -81,7 +58,7 @@ while IFS= read -r line; do
     lines=$((lines + 1))
 done <tests/bad_lines
 echo "scripts: $lines lines that cannot be read, each refused by its number"
-echo "scripts: case 14, $seeds random ones of 1,000 operations (seeds $first to $((last - 1))), $bench with calibration files and the kept one: no difference"
+echo "scripts: case 14, $seeds random ones of 1,000 operations (seeds $first to $((last - 1))) and the kept one: no difference"
 
 # Every pair that can be reached is, and no other. Some 50 random scripts are enough for that.
 $second cover $scripts || fail "the scripts reach too little or too much"

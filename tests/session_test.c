@@ -1,7 +1,7 @@
 /*
- * A new user at the virtual gate: session_test SAID TIMES. Each line for a shell that the gate has printed into the file SAID is run as it
- * is printed, so many times. What a line shows must be one whole right answer and nothing else. Prints how many readings had a byte that
- * is doubled on the wire.
+ * A new user at the virtual gate: session_test SAID READINGS. Each line for a shell that the gate has printed into the file SAID is run
+ * as it is printed, that of the reading so many times. What a line shows must be one whole right answer and nothing else. Prints how many
+ * readings had a byte that is doubled on the wire.
  */
 #define _XOPEN_SOURCE 700
 #include "../gate/map.h"
@@ -16,7 +16,7 @@
 #include <unistd.h>
 
 /* The lines in the order in which they are printed. */
-enum { READING, KEPT, START, RESULT, PRESS, SETS, LINES };
+enum { READING, START, RESULT, PRESS, LINES };
 
 enum { LINE_ROOM = 256, SHOWN_ROOM = 2 * LOG_GATE_ANSWER_ROOM };
 
@@ -53,8 +53,8 @@ static size_t bytes_shown(const char *line, uint8_t shown[SHOWN_ROOM])
     return count;
 }
 
-/* The data of the answer with the status that is due, so many as are expected; gives how many bytes were shown. */
-static size_t run_for(uint8_t status, const char *line, size_t expected, uint8_t data[LOG_GATE_DATA_ROOM])
+/* The data of the answer, so many as are expected; gives how many bytes were shown. */
+static size_t run(const char *line, size_t expected, uint8_t data[LOG_GATE_DATA_ROOM])
 {
     uint8_t shown[SHOWN_ROOM], reader[LOG_GATE_READER];
     log_gate_read came = {0, 0, 0, 0};
@@ -63,14 +63,9 @@ static size_t run_for(uint8_t status, const char *line, size_t expected, uint8_t
     for (; read < count && !came.whole; read++)
         came = log_gate_reader_byte(reader, sizeof reader, shown[read], data, LOG_GATE_DATA_ROOM);
     expect(came.whole && came.refusal == LOG_GATE_TAKEN, "a printed line shows a whole right answer");
-    expect(came.status == status && came.length == expected, "the answer is the one that the line is for");
+    expect(came.status == LOG_GATE_DONE && came.length == expected, "the answer is the one that the line is for");
     expect(read == count, "a printed line shows one answer");
     return count;
-}
-
-static size_t run(const char *line, size_t expected, uint8_t data[LOG_GATE_DATA_ROOM])
-{
-    return run_for(LOG_GATE_DONE, line, expected, data);
 }
 
 /* ---- the gate in air, so that a reading's sum byte is 0x2B once in 32 */
@@ -104,40 +99,19 @@ static void stop_in_air(void)
     close(line.port);
 }
 
-/* ---- each line once, in the order in which they are printed */
-
-/* A further self-test is taken once the last one has its result. */
-static void run_self_test(void)
-{
-    uint8_t data[LOG_GATE_DATA_ROOM];
-    run(lines[START], 0, data);
-    do
-        run(lines[RESULT], 1, data);
-    while (data[0] == LOG_GATE_RESULT_DUE);
-    expect(data[0] == 0, "the self-test ends well");
-}
-
-/* Whether the reading had a doubled byte. */
-static int run_each(void)
-{
-    uint8_t data[LOG_GATE_DATA_ROOM];
-    int is_doubled = run(lines[READING], 2, data) > 5;
-    run_for(LOG_GATE_RANGE_WRONG, lines[KEPT], 0, data);
-    run_self_test();
-    run(lines[PRESS], 0, data);
-    run(lines[SETS], 2, data);
-    expect(data[0] == 0 && data[1] == 0, "the belt stands, so the recorder has not been started");
-    return is_doubled;
-}
-
 int main(int argc, char **argv)
 {
+    uint8_t data[LOG_GATE_DATA_ROOM];
     int doubled = 0;
-    expect(argc == 3, "two words are given, what the gate said and how many times");
+    expect(argc == 3, "two words are given, what the gate said and a number of readings");
     read_said(argv[1]);
     stop_in_air();
     for (int left = atoi(argv[2]); left > 0; left--)
-        doubled += run_each();
+        doubled += run(lines[READING], 2, data) > 5;
+    run(lines[START], 0, data);
+    run(lines[RESULT], 1, data);
+    expect(data[0] == LOG_GATE_RESULT_DUE || data[0] == 0, "the self-test runs, or has ended well");
+    run(lines[PRESS], 0, data);
     printf("%d\n", doubled);
     return 0;
 }

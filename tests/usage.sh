@@ -13,25 +13,11 @@ refuses ./run play
 refuses ./run play $built/no-such-file
 refuses ./run play tests
 refuses ./run play crates/play/stdin crates/play/stdin
-refuses ./run capture
-refuses ./run capture $built/no-such-file
-refuses ./run capture tests
-refuses ./run capture README.md README.md
-refuses ./run --capture
-refuses ./run --capture tests
-refuses ./run --capture $built/no-such-folder/file
 refuses ./run names $built/no-such-port
 refuses ./run names ""
 refuses ./run names tests
 refuses ./run names README.md
 refuses ./run names /dev/null /dev/null
-refuses ./run hex
-refuses ./run hex fly calibration.hex
-refuses ./run hex export
-refuses ./run hex import one two three
-refuses ./run --calibration
-refuses ./run --calibration tests
-refuses ./run --calibration $built/no-such-folder/file
 refuses ./run --baud 19200
 refuses ./run --station
 refuses ./run --station five
@@ -50,7 +36,7 @@ refuses ./test mutants fly
 refuses ./test mutants 7x
 refuses ./test mutants 7 --seed
 refuses ./test mutants 7 --fast
-for word in 'names ' 'names PATH ' 'hex export FILE ' 'hex import FILE ' 'capture FILE ' 'play FILE '; do
+for word in 'names ' 'names PATH ' 'play FILE '; do
     ./run --help | grep -q "^\./run $word" || fail "./run --help does not list what it can do"
 done
 echo "usage: wrong words are refused with a sentence"

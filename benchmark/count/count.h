@@ -30,13 +30,6 @@ static inline size_t give(const struct message *m, size_t length)
     return taken.length;
 }
 
-/*
- * So many tables, each of the same so many entries, which all mark the two bytes before BESIDE read-only. A write there is held against
- * every mark, and passes it.
- */
-enum { BESIDE = 16 };
-void register_marks(unsigned tables, unsigned entries);
-
 /* A message that the gate takes; it is given once. */
 void form(struct message *m, uint8_t command, const uint8_t *bytes, size_t length);
 

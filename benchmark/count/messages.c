@@ -40,24 +40,6 @@ void prepare_masked(void)
     form(&message, LOG_GATE_WRITE_1_MASKED, (uint8_t[]){16, 0, 0xF0, 0x3C}, 4);
 }
 
-void prepare_write(void)
-{
-    form(&message, LOG_GATE_WRITE_1, (uint8_t[]){BESIDE, 0, 0x3C, 0}, 4);
-}
-
-void prepare_write_table(void)
-{
-    register_marks(1, 8);
-    prepare_write();
-}
-
-/* As many tables as there can be, all the longest there is. */
-void prepare_write_most(void)
-{
-    register_marks(LOG_GATE_MOST_TABLES, 511);
-    prepare_write();
-}
-
 void prepare_block_read(void)
 {
     form(&message, LOG_GATE_READ_BYTES, (uint8_t[]){64, 64, 0}, 3);

@@ -9,7 +9,7 @@ static size_t frame_length;
 
 void give_frame(void)
 {
-    log_gate_modbus(state, sizeof state, STATION, frame, frame_length, memory, sizeof memory, frame_answer, sizeof frame_answer);
+    log_gate_modbus(STATION, frame, frame_length, memory, sizeof memory, frame_answer, sizeof frame_answer);
 }
 
 /* The frame with its check sum behind it. Its answer has so many bytes: a case must not measure an exception. */
@@ -19,7 +19,7 @@ static void form_frame(size_t length, size_t answer_due)
     memcpy(frame + length, (uint8_t[]){(uint8_t)sum, (uint8_t)(sum >> 8)}, 2);
     frame_length = length + 2;
     log_gate_taken taken =
-        log_gate_modbus(state, sizeof state, STATION, frame, frame_length, memory, sizeof memory, frame_answer, sizeof frame_answer);
+        log_gate_modbus(STATION, frame, frame_length, memory, sizeof memory, frame_answer, sizeof frame_answer);
     expect(taken.length == answer_due, "a frame gets the answer that is counted");
 }
 
@@ -37,20 +37,8 @@ void prepare_write_registers(void)
 
 void prepare_mask_register(void)
 {
-    memcpy(frame, (uint8_t[]){STATION, 22, 0, BESIDE / 2, 0, 0xF2, 0, 0x25}, 8);
+    memcpy(frame, (uint8_t[]){STATION, 22, 0, 8, 0, 0xF2, 0, 0x25}, 8);
     form_frame(8, 10);
-}
-
-void prepare_mask_table(void)
-{
-    register_marks(1, 8);
-    prepare_mask_register();
-}
-
-void prepare_mask_most(void)
-{
-    register_marks(LOG_GATE_MOST_TABLES, 511);
-    prepare_mask_register();
 }
 
 void prepare_other_station(void)

@@ -21,19 +21,6 @@ void prepare_tables(void)
     expect(refusal == LOG_GATE_TAKEN, "the tables are good");
 }
 
-/* Their type is an empty string, the last byte of the variables. A mark before a write is the one that takes longest to be passed. */
-void register_marks(unsigned tables, unsigned entries)
-{
-    enum { FIRST = BESIDE - 2, READ_ONLY_2 = 2 * 4 + 1, ENTRY = 8 };
-    unsigned size = ENTRY * entries;
-    for (unsigned i = 0; i < entries; i++)
-        memcpy(memory + 0x2000 + ENTRY * i, (uint8_t[]){0xFF, 0x1F, 0xFF, 0x1F, FIRST, 0, READ_ONLY_2, 0}, ENTRY);
-    for (unsigned i = 0; i < tables; i++)
-        memcpy(list + LOG_GATE_TABLE * i, (uint8_t[]){0x00, 0x20, (uint8_t)size, (uint8_t)(size >> 8)}, LOG_GATE_TABLE);
-    log_gate_result refusal = log_gate_register(state, sizeof state, memory, sizeof memory, list, LOG_GATE_TABLE * tables);
-    expect(refusal == LOG_GATE_TAKEN, "the tables with marks are good");
-}
-
 void prepare_table(void)
 {
     prepare_tables();

@@ -57,7 +57,7 @@ static bool trigger_right(const struct plan *p)
         return false;
     if (p->mode == 0 ? p->size != 0 : !trigger_size_right(p->size))
         return false;
-    return ends_by(p->address, p->size, NUMBER_SHOWN) && fits(p->threshold, p->size);
+    return ends_by(p->address, p->size, CALIBRATION_END) && fits(p->threshold, p->size);
 }
 
 static bool plan_right(const struct plan *p)
@@ -65,7 +65,7 @@ static bool plan_right(const struct plan *p)
     const struct variables *v = &p->variables;
     if (p->samples == 0 || !trigger_right(p))
         return false;
-    if (!count_right(v->count) || !variables_right(v, NUMBER_SHOWN))
+    if (!count_right(v->count) || !variables_right(v, CALIBRATION_END))
         return false;
     return p->samples * set_size(v) <= BUFFER_SIZE;
 }

@@ -3,7 +3,6 @@
 #define PLAIN_COMMANDS_H
 
 #include "application.h"
-#include "permission.h"
 #include "recorder.h"
 #include "tables.h"
 
@@ -120,14 +119,14 @@ static void read_memory(const struct command *c, const uint8_t *body, unsigned l
         say(a, memory + r.address, r.size);
 }
 
-static uint8_t write_memory(const struct command *c, const struct target *t, uint8_t *memory)
+static uint8_t write_memory(const struct command *c, const uint8_t *body, unsigned length, uint8_t *memory)
 {
     struct range r;
     bool masked = c->operation == WRITE_MASKED;
-    uint8_t status = find_range(c, t->body, t->receiver.length, masked ? 2 : 1, &r);
+    uint8_t status = find_range(c, body, length, masked ? 2 : 1, &r);
     if (status != LOG_GATE_DONE)
         return status;
-    if (!may_write(&t->tables, memory, r.address, r.size))
+    if (!ends_by(r.address, r.size, VARIABLES_END))
         return LOG_GATE_RANGE_WRONG;
     if (masked)
         store_masked(memory + r.address, r.behind, r.behind + r.size, r.size);
@@ -197,15 +196,15 @@ static void say_string_length(const uint8_t *memory, uint32_t address, struct an
     say(a, a->gathered, 2);
 }
 
-static void carry_out_on_recorder(const struct command *c, struct target *t, uint8_t *memory, struct answer *a)
+static void carry_out_on_recorder(const struct command *c, struct target *t, struct answer *a)
 {
     struct recorder *r = &t->recorder;
     switch (c->operation) {
     case SET_UP_RECORDER:
-        a->status = set_up_recorder(r, t->body, t->receiver.length, c->width, memory);
+        a->status = set_up_recorder(r, t->body, t->receiver.length, c->width);
         break;
     case START_RECORDER:
-        a->status = start_recorder(r, memory);
+        a->status = start_recorder(r);
         break;
     case STOP_RECORDER:
         a->status = stop_recorder(r);
@@ -235,7 +234,7 @@ static void carry_out(struct target *t, uint8_t *memory, struct answer *a)
         break;
     case WRITE:
     case WRITE_MASKED:
-        a->status = write_memory(c, t, memory);
+        a->status = write_memory(c, body, length, memory);
         break;
     case SET_UP_SCOPE:
         a->status = set_up_scope(&t->scope, body, length, c->width);
@@ -256,7 +255,7 @@ static void carry_out(struct target *t, uint8_t *memory, struct answer *a)
         say_string_length(memory, number_at(body, c->width), a);
         break;
     default:
-        carry_out_on_recorder(c, t, memory, a);
+        carry_out_on_recorder(c, t, a);
     }
 }
 

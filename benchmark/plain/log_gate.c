@@ -2,9 +2,7 @@
  * The target in plain C, to be measured beside the proved one: the calls of include/log_gate.h, each with its refusals first.
  * It is one unit, so that the compiler may inline as freely as it does in the proved archive.
  */
-#include "captures.h"
 #include "commands.h"
-#include "files.h"
 #include "modbus.h"
 #include "reader.h"
 
@@ -139,21 +137,16 @@ log_gate_said log_gate_prepare(uint8_t *state, size_t state_length, const uint8_
     return (log_gate_said){LOG_GATE_TAKEN, prepare_recorder(r, data, (unsigned)data_length, 2)};
 }
 
-log_gate_said log_gate_start(uint8_t *state, size_t state_length, uint8_t *memory, size_t memory_length)
+log_gate_said log_gate_start(uint8_t *state, size_t state_length)
 {
     if (!state_taken(state, state_length))
         return (log_gate_said){LOG_GATE_STATE_REFUSED, LOG_GATE_NOT_SERVED};
-    if (memory_length != LOG_GATE_MEMORY)
-        return (log_gate_said){LOG_GATE_MEMORY_REFUSED, LOG_GATE_NOT_SERVED};
-    return (log_gate_said){LOG_GATE_TAKEN, start_recorder(&((struct target *)state)->recorder, memory)};
+    return (log_gate_said){LOG_GATE_TAKEN, start_recorder(&((struct target *)state)->recorder)};
 }
 
-log_gate_taken log_gate_modbus(const uint8_t *state, size_t state_length, uint16_t station, const uint8_t *frame, size_t frame_length,
-                               uint8_t *memory, size_t memory_length, uint8_t *out, size_t out_length)
+log_gate_taken log_gate_modbus(uint16_t station, const uint8_t *frame, size_t frame_length, uint8_t *memory, size_t memory_length,
+                               uint8_t *out, size_t out_length)
 {
-    const struct tables *tables = &((const struct target *)state)->tables;
-    if (!state_taken(state, state_length))
-        return (log_gate_taken){LOG_GATE_STATE_REFUSED, 0};
     if (memory_length != LOG_GATE_MEMORY)
         return (log_gate_taken){LOG_GATE_MEMORY_REFUSED, 0};
     if (out_length < LOG_GATE_MODBUS_ROOM)
@@ -162,27 +155,7 @@ log_gate_taken log_gate_modbus(const uint8_t *state, size_t state_length, uint16
         return (log_gate_taken){LOG_GATE_STATION_REFUSED, 0};
     if (!frame_taken(station, frame, frame_length))
         return (log_gate_taken){LOG_GATE_TAKEN, 0};
-    return (log_gate_taken){LOG_GATE_TAKEN, answer_frame(tables, frame, frame_length, memory, out)};
-}
-
-log_gate_taken log_gate_export(const uint8_t *memory, size_t memory_length, uint8_t *text, size_t text_length)
-{
-    if (memory_length != LOG_GATE_MEMORY)
-        return (log_gate_taken){LOG_GATE_MEMORY_REFUSED, 0};
-    if (text_length < LOG_GATE_EXPORT_ROOM)
-        return (log_gate_taken){LOG_GATE_ROOM_REFUSED, 0};
-    write_file(memory, text);
-    return (log_gate_taken){LOG_GATE_TAKEN, LOG_GATE_EXPORT_ROOM};
-}
-
-log_gate_result log_gate_import(const uint8_t *text, size_t text_length, uint8_t *memory, size_t memory_length)
-{
-    if (memory_length != LOG_GATE_MEMORY)
-        return LOG_GATE_MEMORY_REFUSED;
-    if (!file_taken(text, text + text_length))
-        return LOG_GATE_FILE_REFUSED;
-    store_file(text, text + text_length, memory);
-    return LOG_GATE_TAKEN;
+    return (log_gate_taken){LOG_GATE_TAKEN, answer_frame(frame, frame_length, memory, out)};
 }
 
 static bool is_status(uint8_t status)
@@ -257,12 +230,4 @@ log_gate_read log_gate_reader_byte(uint8_t *reader, size_t reader_length, uint8_
     if (data_length < LOG_GATE_DATA_ROOM)
         return (log_gate_read){.refusal = LOG_GATE_ROOM_REFUSED};
     return read_byte((struct reader *)reader, byte, data);
-}
-
-log_gate_listed log_gate_capture(const uint8_t *bytes, size_t bytes_length, uint64_t *list, size_t list_length)
-{
-    size_t room = list_length / LOG_GATE_ENTRY;
-    if (room < bytes_length / 3 && walk_capture(bytes, bytes_length, NULL, 0) > room)
-        return (log_gate_listed){LOG_GATE_ROOM_REFUSED, 0};
-    return (log_gate_listed){LOG_GATE_TAKEN, walk_capture(bytes, bytes_length, list, room)};
 }

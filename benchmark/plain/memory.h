@@ -7,9 +7,6 @@
 
 enum { VARIABLES_END = 8192, CALIBRATION_END = 12288, MEMORY_END = 16384, BUFFER_SIZE = 4096 };
 
-/* The calibration's last two bytes show the number of sets. Recorded variables, trigger and tables end before them. */
-enum { NUMBER_SHOWN = 12286, MOST_NUMBER = 65535 };
-
 /* Whether a range ends at or below `end`; an EX address can be anything of 32 bits. */
 static bool ends_by(uint32_t address, uint32_t size, uint32_t end)
 {

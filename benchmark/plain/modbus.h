@@ -1,10 +1,9 @@
-/* The second port: a Modbus station on a serial line, over the memory and what the registered tables say of it. */
+/* The second port: a Modbus station on a serial line, over the memory alone. */
 #ifndef PLAIN_MODBUS_H
 #define PLAIN_MODBUS_H
 
 #include "../../include/log_gate.h"
 #include "memory.h"
-#include "permission.h"
 
 #include <string.h>
 
@@ -75,14 +74,9 @@ static size_t tell_beginning(const uint8_t *frame, size_t length, uint8_t *out)
     return finish_frame(out, length);
 }
 
-static bool registers_read(unsigned first, unsigned quantity)
+static bool registers_end_by(unsigned first, unsigned quantity, unsigned end)
 {
-    return 2 * (first + quantity) <= MEMORY_END;
-}
-
-static bool registers_written(const struct tables *tables, const uint8_t *memory, unsigned first, unsigned quantity)
-{
-    return may_write(tables, memory, 2 * first, 2 * quantity);
+    return 2 * (first + quantity) <= end;
 }
 
 /* A register's high byte comes first in a frame, its low byte in memory. */
@@ -100,7 +94,7 @@ static size_t read_registers(const uint8_t *frame, size_t length, const uint8_t 
     unsigned first = word_at(frame + 2), quantity = word_at(frame + 4);
     if (length != 8 || quantity == 0 || quantity > MOST_READ)
         return tell_exception(frame, EXCEPTION_VALUE, out);
-    if (!registers_read(first, quantity))
+    if (!registers_end_by(first, quantity, MEMORY_END))
         return tell_exception(frame, EXCEPTION_ADDRESS, out);
     memcpy(out, frame, 2);
     out[2] = (uint8_t)(2 * quantity);
@@ -108,12 +102,12 @@ static size_t read_registers(const uint8_t *frame, size_t length, const uint8_t 
     return finish_frame(out, 3 + 2 * quantity);
 }
 
-static size_t write_register(const struct tables *tables, const uint8_t *frame, size_t length, uint8_t *memory, uint8_t *out)
+static size_t write_register(const uint8_t *frame, size_t length, uint8_t *memory, uint8_t *out)
 {
     unsigned at = word_at(frame + 2);
     if (length != 8)
         return tell_exception(frame, EXCEPTION_VALUE, out);
-    if (!registers_written(tables, memory, at, 1))
+    if (!registers_end_by(at, 1, VARIABLES_END))
         return tell_exception(frame, EXCEPTION_ADDRESS, out);
     put_number(memory + 2 * at, 2, word_at(frame + 4));
     return tell_beginning(frame, 6, out);
@@ -125,36 +119,36 @@ static bool write_fits(const uint8_t *frame, size_t length)
     return 1 <= quantity && quantity <= MOST_WRITTEN && frame[6] == 2 * quantity && length == 9 + 2 * quantity;
 }
 
-static size_t write_registers(const struct tables *tables, const uint8_t *frame, size_t length, uint8_t *memory, uint8_t *out)
+static size_t write_registers(const uint8_t *frame, size_t length, uint8_t *memory, uint8_t *out)
 {
     if (length < 9 || !write_fits(frame, length))
         return tell_exception(frame, EXCEPTION_VALUE, out);
     unsigned first = word_at(frame + 2), quantity = word_at(frame + 4);
-    if (!registers_written(tables, memory, first, quantity))
+    if (!registers_end_by(first, quantity, VARIABLES_END))
         return tell_exception(frame, EXCEPTION_ADDRESS, out);
     copy_swapped(memory + 2 * first, frame + 7, quantity);
     return tell_beginning(frame, 6, out);
 }
 
-static size_t mask_register(const struct tables *tables, const uint8_t *frame, size_t length, uint8_t *memory, uint8_t *out)
+static size_t mask_register(const uint8_t *frame, size_t length, uint8_t *memory, uint8_t *out)
 {
     unsigned at = word_at(frame + 2);
     if (length != 10)
         return tell_exception(frame, EXCEPTION_VALUE, out);
-    if (!registers_written(tables, memory, at, 1))
+    if (!registers_end_by(at, 1, VARIABLES_END))
         return tell_exception(frame, EXCEPTION_ADDRESS, out);
     const uint8_t values[] = {frame[7], frame[6]}, masks[] = {(uint8_t)~frame[5], (uint8_t)~frame[4]};
     store_masked(memory + 2 * at, values, masks, 2);
     return tell_beginning(frame, 8, out);
 }
 
-static size_t answer_frame(const struct tables *tables, const uint8_t *frame, size_t length, uint8_t *memory, uint8_t *out)
+static size_t answer_frame(const uint8_t *frame, size_t length, uint8_t *memory, uint8_t *out)
 {
     switch (frame[1]) {
     case READ_REGISTERS: return read_registers(frame, length, memory, out);
-    case WRITE_REGISTER: return write_register(tables, frame, length, memory, out);
-    case WRITE_REGISTERS: return write_registers(tables, frame, length, memory, out);
-    case MASK_REGISTER: return mask_register(tables, frame, length, memory, out);
+    case WRITE_REGISTER: return write_register(frame, length, memory, out);
+    case WRITE_REGISTERS: return write_registers(frame, length, memory, out);
+    case MASK_REGISTER: return mask_register(frame, length, memory, out);
     default: return tell_exception(frame, EXCEPTION_FUNCTION, out);
     }
 }

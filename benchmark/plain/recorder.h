@@ -6,15 +6,9 @@
 
 enum { NO_TRIGGER, RISING, FALLING };
 
-static void show_number(const struct run *r, uint8_t *memory)
-{
-    put_number(memory + NUMBER_SHOWN, 2, r->number);
-}
-
-static void start_run(struct run *r, uint8_t *memory)
+static void start_run(struct run *r)
 {
     *r = (struct run){.running = 1};
-    show_number(r, memory);
 }
 
 /* Where the fields of a setup stand: mode, samples, post-trigger, divider, then the trigger, then the variables. */
@@ -51,7 +45,7 @@ static uint8_t read_plan(const uint8_t *body, unsigned length, unsigned width, s
         return LOG_GATE_LAYOUT_WRONG;
     if (status != LOG_GATE_DONE || plan_size_wrong(p))
         return LOG_GATE_SIZE_WRONG;
-    if (!all_end_by(&p->variables, NUMBER_SHOWN) || !ends_by(p->address, p->size, NUMBER_SHOWN))
+    if (!all_end_by(&p->variables, CALIBRATION_END) || !ends_by(p->address, p->size, CALIBRATION_END))
         return LOG_GATE_RANGE_WRONG;
     return LOG_GATE_DONE;
 }
@@ -73,20 +67,20 @@ static uint8_t prepare_recorder(struct recorder *r, const uint8_t *body, unsigne
     return status;
 }
 
-static uint8_t start_recorder(struct recorder *r, uint8_t *memory)
+static uint8_t start_recorder(struct recorder *r)
 {
     if (!r->ready)
         return LOG_GATE_NOT_SET_UP;
     if (r->run.running)
         return LOG_GATE_RECORDER_RUNS;
-    start_run(&r->run, memory);
+    start_run(&r->run);
     return LOG_GATE_DONE;
 }
 
-static uint8_t set_up_recorder(struct recorder *r, const uint8_t *body, unsigned length, unsigned width, uint8_t *memory)
+static uint8_t set_up_recorder(struct recorder *r, const uint8_t *body, unsigned length, unsigned width)
 {
     uint8_t status = prepare_recorder(r, body, length, width);
-    return status == LOG_GATE_DONE ? start_recorder(r, memory) : status;
+    return status == LOG_GATE_DONE ? start_recorder(r) : status;
 }
 
 static uint8_t stop_recorder(struct recorder *r)
@@ -163,9 +157,6 @@ static void take_set(const struct plan *p, struct run *r, uint8_t *memory)
         r->full = 1;
     }
     r->wait = p->divider;
-    if (r->number < MOST_NUMBER)
-        r->number++;
-    show_number(r, memory);
     watch_trigger(p, r, number_at(memory + p->address, p->size));
 }
 

@@ -52,10 +52,9 @@ struct BLOCK run {
     uint8_t running;
     uint8_t full; /* 'samples' sets are taken */
     uint8_t watch;
-    uint16_t wait;   /* ticks that pass before the next set */
-    uint16_t place;  /* that would be written next */
-    uint32_t value;  /* of the trigger variable at the previous set, or the sets that are left */
-    uint16_t number; /* of sets since the start, 65,535 at most */
+    uint16_t wait;  /* ticks that pass before the next set */
+    uint16_t place; /* that would be written next */
+    uint32_t value; /* of the trigger variable at the previous set, or the sets that are left */
 };
 
 struct BLOCK recorder {

@@ -1,4 +1,4 @@
-/* Tables of names: a list is checked once, when it is registered; strings are measured. */
+/* Tables of names: a list is looked at once, when it is registered; strings are measured. */
 #ifndef PLAIN_TABLES_H
 #define PLAIN_TABLES_H
 
@@ -8,7 +8,7 @@
 #include "state.h"
 
 /* An entry is name, type, address and info, 2 bytes each. */
-enum { ENTRY_TYPE = 2, ENTRY_ADDRESS = 4, ENTRY_INFO = 6, ENTRY_SIZE = 8, TABLE_FLAGS = 2 };
+enum { ENTRY_TYPE = 2, ENTRY_INFO = 6, ENTRY_SIZE = 8, TABLE_FLAGS = 2 };
 
 /* By the code that, with a zero behind it, is a base type's string; 0 where none is. */
 static const uint8_t base_sizes[256] = {
@@ -28,7 +28,7 @@ static bool entry_right(const uint8_t *entry, const uint8_t *memory)
 
 static bool table_right(uint32_t address, uint32_t size, const uint8_t *memory)
 {
-    if (address < VARIABLES_END || !ends_by(address, size, NUMBER_SHOWN))
+    if (address < VARIABLES_END || !ends_by(address, size, CALIBRATION_END))
         return false;
     if (size == 0 || size % ENTRY_SIZE != 0)
         return false;

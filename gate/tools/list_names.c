@@ -103,7 +103,7 @@ static const char *type_in_words(char *type)
 
 static void print_heading(void)
 {
-    printf("%-16s  %-25s  %7s  %5s  %s\n", "Name", "type", "address", "bytes", "access");
+    printf("%-16s  %-25s  %7s  %5s  %s\n", "Name", "type", "address", "bytes", "access (read only is not kept yet: a write is carried out)");
 }
 
 /* An entry's info is its size times 4, and one of these four. */

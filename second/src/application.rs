@@ -1,8 +1,8 @@
 //! Commands for the gate's own program (request 2026-01), as lists of what was
-//! sent and reported since reset, and how many were collected.
+//! sent, collected and reported since reset.
 //!
 //! Nothing here keeps a phase: how far the last command has come is found by
-//! comparing these three.
+//! comparing how long the lists are.
 
 use crate::host::Refusal;
 

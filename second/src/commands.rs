@@ -48,19 +48,18 @@ pub fn carry_out(request: Request, target: &mut Target) -> Answer {
         }
         recorder_request => {
             let recorder = target.recorder.as_mut();
-            let recorder = recorder.expect("0x88 refuses others");
-            on_recorder(recorder_request, recorder, &mut target.memory)
+            on_recorder(recorder_request, recorder.expect("0x88 refuses others"))
         }
     }
 }
 
-fn on_recorder(request: Request, recorder: &mut Recorder, memory: &mut [u8]) -> Answer {
+fn on_recorder(request: Request, recorder: &mut Recorder) -> Answer {
     let status = match (request, recorder.runs()) {
         (Request::BufferQuery { address_bytes }, _) => {
             return (OK, buffer_answer(recorder, address_bytes))
         }
         (Request::Start, false) => {
-            recorder.start(memory);
+            recorder.start();
             OK
         }
         (Request::Stop, true) => {

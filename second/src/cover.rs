@@ -1,13 +1,10 @@
 //! Counts what scripts reached: which statuses answered which commands, which
-//! refusals the calls gave, how blocks ended, what the panel was told, how
-//! frames ended, how the number of sets was shown and how writes met read-only
-//! variables; and holds it against what can be reached.
+//! refusals the calls gave, how blocks ended, what the panel was told and how
+//! frames ended; and holds it against what can be reached.
 
 mod rows;
 
-use crate::met::{Asker, Meeting};
 use crate::modbus::Silence;
-use crate::shown::{Held, Limited, Port, Writer};
 use crate::watch::{End, Panel, Standing, Watch};
 use rows::Row;
 
@@ -22,9 +19,6 @@ pub struct Counts {
     panel: Vec<Row>,
     functions: Vec<Row>,
     silences: Vec<Row>,
-    number: Vec<Row>,
-    limits: Vec<Row>,
-    writes: Vec<Row>,
 }
 
 impl Counts {
@@ -36,14 +30,11 @@ impl Counts {
             panel: rows::panel(),
             functions: rows::functions(),
             silences: rows::silences(),
-            number: rows::number(),
-            limits: rows::limits(),
-            writes: rows::writes(),
         }
     }
 
     /// The tables, each with its title, what its results are, and its rows.
-    fn tables(&self) -> [(&'static str, &'static str, &[Row]); 9] {
+    fn tables(&self) -> [(&'static str, &'static str, &[Row]); 6] {
         [
             ("command", "status", &self.commands),
             ("call", "refusal", &self.calls),
@@ -51,9 +42,6 @@ impl Counts {
             ("panel", "status", &self.panel),
             ("function", "exception", &self.functions),
             ("silence", "bytes", &self.silences),
-            ("number of sets", "finding", &self.number),
-            ("end", "result", &self.limits),
-            ("write", "meeting", &self.writes),
         ]
     }
 
@@ -71,7 +59,7 @@ impl Counts {
     }
 
     /// How many pairs can be reached, of each table.
-    pub fn reachable(&self) -> [usize; 9] {
+    pub fn reachable(&self) -> [usize; 6] {
         let pairs = |rows: &[Row]| rows.iter().map(|row| row.reachable.len()).sum();
         self.tables().map(|(_, _, rows)| pairs(rows))
     }
@@ -111,27 +99,6 @@ impl Watch for Counts {
 
     fn frame_silent(&mut self, silence: Silence) {
         count(&mut self.silences, rows::silence_name(silence), 0);
-    }
-
-    fn number_written(&mut self, writer: Writer, held: Held) {
-        count(&mut self.number, &rows::writer_name(writer), held as usize);
-    }
-
-    fn number_read(&mut self, standing: Standing, port: Port) {
-        let name = rows::reader_name(standing);
-        count(&mut self.number, &name, port as usize);
-    }
-
-    /// Ends that are far from the two bytes are not counted.
-    fn went_to(&mut self, last: Limited, end: u64, result: u8) {
-        if (12_285..=12_288).contains(&end) {
-            let name = rows::limit_name(last, end);
-            count(&mut self.limits, &name, usize::from(result));
-        }
-    }
-
-    fn write_met(&mut self, asker: Asker, meeting: Meeting) {
-        count(&mut self.writes, &rows::asker_name(asker), meeting as usize);
     }
 }
 
@@ -185,12 +152,6 @@ mod tests {
         counts.frame_silent(Silence::Long);
         counts.at_panel(Panel::Starts, Standing::Runs, true, 0x01);
         counts.at_panel(Panel::Starts, Standing::Full, false, 0x88);
-        counts.number_written(Writer::SetsPast, Held::Other);
-        counts.number_read(Standing::Stopped, Port::Second);
-        counts.went_to(Limited::Trigger, 12_286, 0x89);
-        counts.went_to(Limited::Trigger, 12_289, 0x00);
-        counts.write_met(Asker::Command(0xE3), Meeting::Last);
-        counts.write_met(Asker::Function(16), Meeting::Maskless);
         let faults = counts.faults();
         let has = |line: &str| faults.lines().any(|l| l == line);
         assert!(has("never reached: C8 with status 82"));
@@ -212,15 +173,6 @@ mod tests {
         assert!(has("never reached: S in message with status 00"));
         assert!(!has("never reached: S in message with status 01"));
         assert!(has("not to be reached: S, full with status 88"));
-        assert!(has("never reached: past 65,535 with finding 01"));
-        assert!(!has("never reached: past 65,535 with finding 02"));
-        assert!(has("never reached: read, stopped with finding 00"));
-        assert!(!has("never reached: read, stopped with finding 01"));
-        assert!(has("not to be reached: trigger 12286 with result 89"));
-        assert!(has("never reached: table 12286 with result 08"));
-        assert!(has("never reached: write E3 with meeting 04"));
-        assert!(!has("never reached: write E3 with meeting 05"));
-        assert!(has("not to be reached: function 16 with meeting 07"));
     }
 
     #[test]
@@ -230,7 +182,7 @@ mod tests {
         let told = counts.tell();
         assert_eq!(
             told.lines().count(),
-            1 + 36 + 1 + 12 + 1 + 4 + 1 + 12 + 1 + 5 + 1 + 6 + 1 + 12 + 1 + 12 + 1 + 12
+            1 + 36 + 1 + 9 + 1 + 4 + 1 + 12 + 1 + 5 + 1 + 6
         );
         let last = told.lines().find(|l| l.starts_with("other fast")).unwrap();
         let cells: Vec<&str> = last.split_whitespace().collect();

@@ -4,17 +4,13 @@
 mod adler;
 mod application;
 mod areas;
-mod capture;
 mod commands;
 mod compare;
 mod cover;
-mod files;
 mod host;
 mod line;
 mod make;
-mod marks;
 mod message;
-mod met;
 mod modbus;
 mod panel;
 mod play;
@@ -24,7 +20,6 @@ mod refusals;
 mod request;
 mod rng;
 mod script;
-mod shown;
 mod tables;
 mod target;
 mod trigger;
@@ -36,13 +31,7 @@ mod application_test;
 #[cfg(test)]
 mod block_test;
 #[cfg(test)]
-mod files_test;
-#[cfg(test)]
-mod marks_test;
-#[cfg(test)]
 mod modbus_test;
-#[cfg(test)]
-mod number_test;
 #[cfg(test)]
 mod order_test;
 #[cfg(test)]
@@ -65,7 +54,6 @@ use std::process::ExitCode;
 const USAGE: &str = "\
 second play [FILE]               plays a script (standard input without FILE)
 second make SEED [OPERATIONS]    writes a random script (1,000 operations)
-second bench SEED [OPERATIONS]   writes one with calibration files among them
 second compare A B               compares two outputs byte for byte
 second cover FILE..              counts what scripts reach, of what they can
 second wrong LIST SOURCES BUILT FILE..
@@ -77,10 +65,8 @@ fn main() -> ExitCode {
     let done = match words.as_slice() {
         ["play"] => play_from(io::stdin().lock()),
         ["play", file] => open(file).and_then(play_from),
-        ["make", seed] => make_script(make::script, seed, "1000"),
-        ["make", seed, operations] => make_script(make::script, seed, operations),
-        ["bench", seed] => make_script(make::bench_script, seed, "1000"),
-        ["bench", seed, operations] => make_script(make::bench_script, seed, operations),
+        ["make", seed] => make_script(seed, "1000"),
+        ["make", seed, operations] => make_script(seed, operations),
         ["compare", first, second] => compare_files(first, second),
         ["cover", files @ ..] if !files.is_empty() => cover_scripts(files),
         ["wrong", list, sources, built, scripts @ ..] => {
@@ -108,16 +94,12 @@ fn play_from(mut script: impl BufRead) -> Result<ExitCode, String> {
     Ok(ExitCode::SUCCESS)
 }
 
-fn make_script(
-    make: fn(u64, usize) -> String,
-    seed: &str,
-    operations: &str,
-) -> Result<ExitCode, String> {
+fn make_script(seed: &str, operations: &str) -> Result<ExitCode, String> {
     let seed = seed.parse().map_err(|_| format!("`{seed}` is no seed"))?;
     let operations = operations
         .parse()
         .map_err(|_| format!("`{operations}` is no number of operations"))?;
-    let script = make(seed, operations);
+    let script = make::script(seed, operations);
     let written = io::stdout().lock().write_all(script.as_bytes());
     written.map_err(|e| e.to_string())?;
     Ok(ExitCode::SUCCESS)
@@ -143,14 +125,12 @@ fn cover_scripts(files: &[&str]) -> Result<ExitCode, String> {
         let played = play::play_watched(&mut open(file)?, &mut io::sink(), &mut counts);
         played.map_err(|wrong| format!("{file}: {wrong}"))?;
     }
-    let [commands, calls, blocks, panel, functions, silences, number, limits, writes] =
-        counts.reachable();
+    let [commands, calls, blocks, panel, functions, silences] = counts.reachable();
     print!("{}", counts.tell());
     println!(
         "reachable: {commands} pairs of command and status, {calls} of call and refusal, \
          {blocks} of a block's end and answers, {panel} of the panel's finding and status, \
-         {functions} of function and exception; {silences} silences; {number} of the number \
-         of sets, {limits} of an end before it; {writes} of a write and read-only variables"
+         {functions} of function and exception; {silences} silences"
     );
     let faults = counts.faults();
     print!("{faults}");

@@ -4,21 +4,15 @@
 //! recordings that are set up, triggered and read back, commands for the gate's
 //! own program with its calls, tables of names that are registered and asked
 //! for, blocks of wire bytes, a panel that prepares and starts the recorder,
-//! frames at the second port, the number of sets and what writes over it, writes
-//! beside and into read-only variables, captures of the cable, and calls of the
-//! other end of it; of the test bench also calibration files.
+//! frames at the second port, and calls of the other end of the cable.
 
 mod application;
 mod blocks;
-mod captures;
 mod entries;
-mod files;
 mod host;
-mod marks;
 mod memory;
 mod modbus;
 mod noise;
-mod number;
 mod panel;
 mod plan;
 mod recording;
@@ -52,11 +46,11 @@ pub struct Maker {
 type Step = fn(&mut Maker);
 
 /// Each step with its weight.
-const STEPS: [(u64, Step); 44] = [
+const STEPS: [(u64, Step); 37] = [
     (8, Maker::fast_read),
     (8, Maker::fast_write),
     (10, Maker::block),
-    (9, Maker::wrong_block),
+    (7, Maker::wrong_block),
     (2, Maker::information),
     (5, Maker::scope_used),
     (5, Maker::scope_wrong),
@@ -71,7 +65,7 @@ const STEPS: [(u64, Step); 44] = [
     (4, Maker::any_command),
     (2, Maker::sweep),
     (3, Maker::start_sums),
-    (8, Maker::long_message),
+    (6, Maker::long_message),
     (8, Maker::wrong_sum),
     (4, Maker::some_poke),
     (4, Maker::some_ticks),
@@ -90,29 +84,10 @@ const STEPS: [(u64, Step); 44] = [
     (5, Maker::panel_amid),
     (12, Maker::frames),
     (2, Maker::frames_beside_recorder),
-    (5, Maker::short_trace),
-    (3, Maker::full_number),
-    (4, Maker::setup_to_number),
-    (4, Maker::read_number),
-    (2, Maker::overwrite_number),
-    (8, Maker::marks_used),
-    (4, Maker::captures),
 ];
 
 /// The script of a seed: so many operations, then the memory shown.
 pub fn script(seed: u64, operations: usize) -> String {
-    script_of(seed, operations, Maker::step)
-}
-
-/// The same of the test bench: calibration files among all else.
-pub fn bench_script(seed: u64, operations: usize) -> String {
-    script_of(seed, operations, |maker| {
-        maker.step();
-        maker.bench();
-    })
-}
-
-fn script_of(seed: u64, operations: usize, step: Step) -> String {
     let mut maker = Maker {
         rng: Rng::new(seed),
         served: reachable::commands().into_iter().map(|row| row.0).collect(),
@@ -123,7 +98,7 @@ fn script_of(seed: u64, operations: usize, step: Step) -> String {
     };
     maker.opening();
     while maker.lines.len() < operations + 1 {
-        step(&mut maker);
+        maker.step();
     }
     // A step may have gone past the end; the line with the seed is no operation.
     maker.lines.truncate(operations + 1);
@@ -173,9 +148,8 @@ impl Maker {
         }
     }
 
-    /// The variables, the number of sets and the recorder buffer.
+    /// The variables and the recorder buffer.
     fn closing(&mut self) {
-        self.lines.push("M 12286 2".to_string());
         let variables = (0..8_192).step_by(SHOWN);
         let buffer = (BUFFER..BUFFER + BUFFER_LENGTH).step_by(SHOWN);
         for address in variables.chain(buffer) {
@@ -233,18 +207,17 @@ mod tests {
 
     #[test]
     fn so_many_operations_and_the_memory() {
-        assert_eq!(script(5, 300).lines().count(), 1 + 300 + 1 + 32 + 16);
+        assert_eq!(script(5, 300).lines().count(), 1 + 300 + 32 + 16);
     }
 
     /// Every script can be read, and together they reach everything.
     #[test]
     fn scripts_reach_everything() {
         let mut counts = Counts::none();
-        for seed in 0..120 {
-            for script in [script(seed, 500), bench_script(seed, 200)] {
-                let played = play_watched(&mut script.as_bytes(), &mut sink(), &mut counts);
-                assert_eq!(played, Ok(()));
-            }
+        for seed in 0..60 {
+            let script = script(seed, 500);
+            let played = play_watched(&mut script.as_bytes(), &mut sink(), &mut counts);
+            assert_eq!(played, Ok(()));
         }
         assert_eq!(counts.faults(), "");
     }

@@ -1,16 +1,13 @@
 //! The second port (request 2026-07): a Modbus station on a serial line, which
-//! shares the memory with the service port, and since 2026-09 the tables that
-//! say what of it is read-only.
+//! shares the memory with the service port and nothing else.
 //!
 //! A frame is taken apart from the outside in: who it is for, what it asks, and
 //! only then whether the memory has it. Each step has its own way to end.
 
-use std::ops::{Range, RangeInclusive};
+use std::ops::RangeInclusive;
 
-use crate::areas::READ_END;
+use crate::areas::{READ_END, WRITE_END};
 use crate::host::Refusal;
-use crate::marks::may_be_written;
-use crate::tables::Table;
 
 /// "call number 3 for an output below 256 bytes"
 const ROOM: usize = 256;
@@ -87,7 +84,6 @@ pub fn summed(mut bytes: Vec<u8>) -> Vec<u8> {
 pub fn call(
     station: u16,
     frame: &[u8],
-    tables: &[Table],
     memory: &mut [u8],
     lent: &mut [u8],
 ) -> Result<Result<Answer, Silence>, Refusal> {
@@ -97,8 +93,7 @@ pub fn call(
     if !STATIONS.contains(&station) {
         return Err(9);
     }
-    let request = addressed(station as u8, frame);
-    let answer = request.map(|request| answer(frame[0], request, tables, memory));
+    let answer = addressed(station as u8, frame).map(|request| answer(frame[0], request, memory));
     if let Ok(answer) = &answer {
         lent[..answer.frame.len()].copy_from_slice(&answer.frame);
     }
@@ -125,9 +120,9 @@ fn addressed(station: u8, frame: &[u8]) -> Result<&[u8], Silence> {
     }
 }
 
-fn answer(station: u8, request: &[u8], tables: &[Table], memory: &mut [u8]) -> Answer {
+fn answer(station: u8, request: &[u8], memory: &mut [u8]) -> Answer {
     let function = request[0];
-    let done = asked(request).and_then(|asked| carry_out(asked, request, tables, memory));
+    let done = asked(request).and_then(|asked| carry_out(asked, request, memory));
     let (exception, told) = match done {
         Ok(data) => (0, [vec![station, function], data]),
         Err(code) => (code, [vec![station, function | 0x80], vec![code]]),
@@ -189,28 +184,23 @@ fn word(bytes: &[u8]) -> u16 {
 }
 
 /// The data behind the function: what was read, or how the request began.
-fn carry_out(
-    asked: Asked,
-    request: &[u8],
-    tables: &[Table],
-    memory: &mut [u8],
-) -> Result<Vec<u8>, Exception> {
+fn carry_out(asked: Asked, request: &[u8], memory: &mut [u8]) -> Result<Vec<u8>, Exception> {
     match asked {
         Asked::Read { from, quantity } => {
-            readable(from, quantity)?;
+            within(from, quantity, READ_END)?;
             let read = (from..from + quantity).map(|r| register(memory, r));
             let data = read.flat_map(u16::to_be_bytes);
             Ok([2 * quantity as u8].into_iter().chain(data).collect())
         }
         Asked::Write { from, values } => {
-            writable(from, values.len() as u16, tables, memory)?;
+            within(from, values.len() as u16, WRITE_END)?;
             for (r, value) in (from..).zip(values) {
                 set_register(memory, r, value);
             }
             Ok(request[1..5].to_vec())
         }
         Asked::Mask { at, and, or } => {
-            writable(at, 1, tables, memory)?;
+            within(at, 1, WRITE_END)?;
             let old = register(memory, at);
             set_register(memory, at, old & and | or & !and);
             Ok(request[1..].to_vec())
@@ -218,22 +208,10 @@ fn carry_out(
     }
 }
 
-/// "then 2 for an address"
-fn readable(from: u16, quantity: u16) -> Result<(), Exception> {
-    let bytes = bytes_of(from, quantity);
-    (bytes.end <= READ_END).then_some(()).ok_or(ADDRESS)
-}
-
-/// "exception 2 for Modbus" where the service port would refuse with 0x89
-fn writable(from: u16, quantity: u16, tables: &[Table], memory: &[u8]) -> Result<(), Exception> {
-    let may = may_be_written(bytes_of(from, quantity), tables, memory);
-    may.then_some(()).ok_or(ADDRESS)
-}
-
-/// Wide enough that no sum can wrap.
-fn bytes_of(from: u16, quantity: u16) -> Range<u64> {
-    let from = u64::from(from);
-    2 * from..2 * (from + u64::from(quantity))
+/// "then 2 for an address", wide enough that none can wrap.
+fn within(from: u16, quantity: u16, end: u64) -> Result<(), Exception> {
+    let behind = u64::from(from) + u64::from(quantity);
+    (2 * behind <= end).then_some(()).ok_or(ADDRESS)
 }
 
 /// "Register r is bytes 2r and 2r+1, low byte first in memory".

@@ -18,7 +18,7 @@ fn asked(memory: &mut [u8], words: &str) -> Result<Answer, Silence> {
 
 fn given(memory: &mut [u8], frame: &[u8]) -> Result<Answer, Silence> {
     let mut lent = vec![0xEE; 256];
-    let answer = call(STATION, frame, &[], memory, &mut lent).unwrap();
+    let answer = call(STATION, frame, memory, &mut lent).unwrap();
     let length = answer.as_ref().map_or(0, |answer| answer.frame.len());
     if let Ok(answer) = &answer {
         assert_eq!(lent[..length], answer.frame);
@@ -204,15 +204,9 @@ fn refusals_lowest_first() {
         (273, 600, 9),
     ] {
         let mut lent = vec![0xEE; room];
-        assert_eq!(
-            call(station, &frame, &[], &mut memory, &mut lent),
-            Err(refusal)
-        );
+        assert_eq!(call(station, &frame, &mut memory, &mut lent), Err(refusal));
         // Where silence would follow too.
-        assert_eq!(
-            call(station, &[], &[], &mut memory, &mut lent),
-            Err(refusal)
-        );
+        assert_eq!(call(station, &[], &mut memory, &mut lent), Err(refusal));
         assert!(lent.iter().all(|byte| *byte == 0xEE));
     }
     assert_eq!(memory, before);

@@ -121,14 +121,14 @@ fn the_answer_before_the_range() {
 #[test]
 fn ranges_of_setups() {
     let mut target = Target::reset();
-    let variable = setup(0, 1, [0, 0, 0], 0, [2, 0xFD, 0x2F]);
+    let variable = setup(0, 1, [0, 0, 0], 0, [2, 0xFF, 0x2F]);
     assert_eq!(told(&mut target, 0x09, &variable), 0x89);
-    let trigger = setup(1, 1, [2, 0xFD, 0x2F], 0, [1, 0xFD, 0x2F]);
+    let trigger = setup(1, 1, [2, 0xFF, 0x2F], 0, [1, 0xFF, 0x2F]);
     assert_eq!(told(&mut target, 0x09, &trigger), 0x89);
     assert_eq!(told(&mut target, 0x08, &[1, 1, 0x00, 0x40]), 0x89);
     assert_eq!(told(&mut target, 0x08, &[1, 255, 0x01, 0x3F]), 0x00);
     assert_eq!(told(&mut target, 0xC5, &[]), 0x84);
-    let not_looked_at = setup(0, 1, [9, 0xFF, 0xFF], 9, [1, 0xFD, 0x2F]);
+    let not_looked_at = setup(0, 1, [9, 0xFF, 0xFF], 9, [1, 0xFF, 0x2F]);
     assert_eq!(told(&mut target, 0x09, &not_looked_at), 0x00);
 }
 

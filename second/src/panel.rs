@@ -8,7 +8,7 @@ use crate::refusals::judge;
 use crate::request::Request;
 use crate::target::Target;
 
-pub const RECORDER_SETUP: u8 = 0x09;
+const RECORDER_SETUP: u8 = 0x09;
 const START: u8 = 0xC1;
 
 impl Target {

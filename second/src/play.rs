@@ -3,16 +3,9 @@
 use std::io::{BufRead, Write};
 
 use crate::adler::adler32;
-use crate::capture;
-use crate::commands::OK;
-use crate::files;
 use crate::host::{write_answer, write_command, Reader, Refusal};
-use crate::message::Message;
-use crate::met;
 use crate::modbus;
-use crate::panel::RECORDER_SETUP;
 use crate::script::{parse, Call, Operation};
-use crate::shown::{self, Held};
 use crate::tables::Table;
 use crate::target::{Block, Target};
 use crate::watch::{End, Panel, Standing, Watch};
@@ -91,9 +84,7 @@ impl<O: Write, W: Watch> Player<'_, O, W> {
         match operation {
             Operation::Bytes(bytes) => bytes.iter().try_for_each(|byte| self.wire_byte(*byte)),
             Operation::Ticks(count) => {
-                let (before, held) = (self.target.sets(), Held::by(&self.target));
                 self.target.ticks(count);
-                shown::tell_ticks(before, held, &self.target, self.watch);
                 Ok(())
             }
             Operation::Poke(address, bytes) => {
@@ -114,28 +105,22 @@ impl<O: Write, W: Watch> Player<'_, O, W> {
             Operation::Report(result) => self.report(result),
             Operation::Register(list) => self.register(list),
             Operation::Block { room, bytes } => self.block(room, &bytes),
-            Operation::Prepare(data) => self.prepare(&data),
-            Operation::Start => self.start(),
+            Operation::Prepare(data) => self.panel(Panel::Prepares, |gate| gate.prepare(&data)),
+            Operation::Start => self.panel(Panel::Starts, Target::start),
             Operation::Frame {
                 station,
                 room,
                 bytes,
             } => self.frame(station, room, &bytes),
-            Operation::Export(room) => self.export(room),
-            Operation::Import(text) => self.import(&text),
-            Operation::Capture { room, bytes } => self.capture(room, &bytes),
         }
     }
 
     fn wire_byte(&mut self, byte: u8) -> Result<(), Failure> {
         let index = self.given;
         self.given += 1;
-        let held = Held::by(&self.target);
         match self.target.byte(byte) {
             Some(answer) => {
-                self.watch.answered(answer.message.command, answer.status);
-                shown::tell_answer(&answer, held, &self.target, self.watch);
-                met::tell_answer(&answer, &self.target, self.watch);
+                self.watch.answered(answer.command, answer.status);
                 self.print(&format!("A {index}"), &answer.wire)
             }
             None => Ok(()),
@@ -157,82 +142,30 @@ impl<O: Write, W: Watch> Player<'_, O, W> {
         self.print(&format!("K {refusal} {taken} {written}"), &lent)
     }
 
-    /// What the two bytes held before each of a block's answers is not known here,
-    /// so nothing is told of them.
     fn tell_block(&mut self, block: &Block, end: End) {
         for answer in &block.answers {
-            self.watch.answered(answer.message.command, answer.status);
+            self.watch.answered(answer.command, answer.status);
         }
         self.watch.ended(end, block.answers.len());
     }
 
-    fn prepare(&mut self, data: &[u8]) -> Result<(), Failure> {
-        let status = self.panel(Panel::Prepares, |gate| gate.prepare(data));
-        shown::tell_setup(&Message::right(RECORDER_SETUP, data), status, self.watch);
-        self.print(&format!("F {status:02X}"), &[])
-    }
-
-    fn start(&mut self) -> Result<(), Failure> {
-        let held = Held::by(&self.target);
-        let status = self.panel(Panel::Starts, Target::start);
-        if status == OK {
-            self.watch.number_written(shown::Writer::Panel, held);
-        }
-        self.print(&format!("S {status:02X}"), &[])
-    }
-
-    /// The status that the panel gets.
-    fn panel(&mut self, panel: Panel, does: impl FnOnce(&mut Target) -> u8) -> u8 {
+    fn panel(&mut self, panel: Panel, does: impl FnOnce(&mut Target) -> u8) -> Result<(), Failure> {
         let (standing, in_message) = (Standing::at(&self.target), self.target.is_in_message());
         let status = does(&mut self.target);
         self.watch.at_panel(panel, standing, in_message, status);
-        status
+        self.print(&format!("{} {status:02X}", panel.letter()), &[])
     }
 
     fn frame(&mut self, station: u16, room: usize, frame: &[u8]) -> Result<(), Failure> {
         let mut lent = vec![FILL; room];
-        let Target { tables, memory, .. } = &mut self.target;
-        let called = modbus::call(station, frame, tables, memory, &mut lent);
+        let called = modbus::call(station, frame, &mut self.target.memory, &mut lent);
         match &called {
-            Ok(Ok(answer)) => {
-                self.watch.frame_answered(answer.function, answer.exception);
-                met::tell_frame(frame, answer.exception, &self.target, self.watch);
-                if answer.exception == 0 {
-                    shown::tell_frame(frame, &self.target, self.watch);
-                }
-            }
+            Ok(Ok(answer)) => self.watch.frame_answered(answer.function, answer.exception),
             Ok(Err(silence)) => self.watch.frame_silent(*silence),
             Err(_) => {}
         }
         let length = called.map(|answer| answer.map_or(0, |answer| answer.frame.len()));
         self.print_lent('U', length, &lent)
-    }
-
-    /// A file is long: its sum is printed.
-    fn export(&mut self, room: usize) -> Result<(), Failure> {
-        let mut lent = vec![FILL; room];
-        let exported = files::export(&self.target.memory, &mut lent);
-        let (refusal, count) = refusal_and_count(exported);
-        self.watch.called('X', refusal);
-        self.print(&format!("X {refusal} {count} {:08X}", adler32(&lent)), &[])
-    }
-
-    fn import(&mut self, text: &[u8]) -> Result<(), Failure> {
-        let imported = files::import(text, &mut self.target.memory);
-        self.print_refusal('I', imported)
-    }
-
-    fn capture(&mut self, room: usize, bytes: &[u8]) -> Result<(), Failure> {
-        let listed = capture::list(bytes, room);
-        let refusal = listed.as_ref().err().copied().unwrap_or(0);
-        let entries = listed.unwrap_or_default();
-        self.watch.called('L', refusal);
-        let mut line = format!("L {refusal} {}", entries.len());
-        for entry in entries {
-            let (place, command, class) = (entry.place, entry.command, entry.class as u8);
-            line.push_str(&format!(" {place} {command:02X} {class}"));
-        }
-        self.print(&line, &[])
     }
 
     fn write(&mut self, letter: char, writer: Writer, call: Call) -> Result<(), Failure> {
@@ -253,8 +186,7 @@ impl<O: Write, W: Watch> Player<'_, O, W> {
     }
 
     fn register(&mut self, list: Vec<Table>) -> Result<(), Failure> {
-        let registered = self.target.register(list.clone());
-        shown::tell_list(&list, registered.err().unwrap_or(0), self.watch);
+        let registered = self.target.register(list);
         self.print_refusal('G', registered)
     }
 
@@ -272,7 +204,10 @@ impl<O: Write, W: Watch> Player<'_, O, W> {
         counted: Result<usize, Refusal>,
         lent: &[u8],
     ) -> Result<(), Failure> {
-        let (refusal, count) = refusal_and_count(counted);
+        let (refusal, count) = match counted {
+            Ok(count) => (0, count),
+            Err(refusal) => (refusal, 0),
+        };
         self.watch.called(letter, refusal);
         self.print(&format!("{letter} {refusal} {count}"), lent)
     }
@@ -312,13 +247,5 @@ impl<O: Write, W: Watch> Player<'_, O, W> {
         self.out
             .write_all(line.as_bytes())
             .map_err(|e| e.to_string())
-    }
-}
-
-/// What a call says that hands something out.
-fn refusal_and_count(counted: Result<usize, Refusal>) -> (Refusal, usize) {
-    match counted {
-        Ok(count) => (0, count),
-        Err(refusal) => (refusal, 0),
     }
 }

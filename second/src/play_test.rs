@@ -111,12 +111,3 @@ fn a_line_that_cannot_be_read_ends_it() {
 fn an_empty_script_prints_nothing() {
     assert_eq!(played("# nothing\n"), (Ok(()), String::new()));
 }
-
-#[test]
-fn captures_are_listed_and_print_no_sum() {
-    let (result, out) = played("L 2 55 2B C8 38 2B C9 38\nL 1 2B C8 38 2B C9 38\nL 0\n");
-    assert_eq!(result, Ok(()));
-    assert_eq!(out, "L 0 2 1 C8 0 4 C9 1\nL 3 0\nL 0 0\n");
-    let (result, _) = played("L 201 2B\n");
-    assert!(result.is_err());
-}

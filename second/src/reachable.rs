@@ -1,16 +1,12 @@
 //! What can be reached, written down from the paper: the statuses that answer
 //! each command, the refusals of each call that a script makes, how blocks end,
-//! what the panel is told, how frames at the second port end, how the number of
-//! sets is written and read, what ends near it, and how writes lie to read-only
-//! variables.
+//! what the panel is told and how frames at the second port end.
 //!
 //! Nothing here is computed from the refusals' table: a row there that refuses
 //! too much or too little shows as a pair too few or too many. What the calls
 //! of C are held to as well stands in one list with theirs, the rest here.
 
-use crate::met::{Asker, Meeting};
 use crate::modbus::Silence;
-use crate::shown::{Held, Limited, Port, Writer};
 use crate::watch::{End, Panel, Standing};
 
 /// The list is a header of C, and a row of it a line: a kind, and in brackets
@@ -112,78 +108,6 @@ pub const PANEL: [(Panel, Standing, &[u8]); 10] = [
 
 /// The statuses of a setup that is looked at to its end.
 const READ: &[u8] = &[0x00, 0x83, 0x85, 0x86, 0x89];
-
-/// What can write the two bytes that show the number of sets, over what they
-/// held before.
-pub const WRITERS: [(Writer, &[Held]); 7] = [
-    (Writer::Command(0x09), HELD),
-    (Writer::Command(0x0B), HELD),
-    (Writer::Command(0xC1), HELD),
-    (Writer::Panel, HELD),
-    (Writer::SetsBelow, HELD),
-    (Writer::SetsTo, HELD),
-    (Writer::SetsPast, HELD),
-];
-
-const HELD: &[Held] = &[Held::Zero, Held::Number, Held::Other];
-
-/// However the recorder stands, either port can read them.
-pub const READERS: [(Standing, &[Port]); 5] = [
-    (Standing::NotSetUp, PORTS),
-    (Standing::Fresh, PORTS),
-    (Standing::Runs, PORTS),
-    (Standing::Stopped, PORTS),
-    (Standing::Full, PORTS),
-];
-
-const PORTS: &[Port] = &[Port::Service, Port::Second];
-
-/// What can come of a setup or a list of tables by where the last of it ends:
-/// "must end at or below 12,286". A list can be bad for other reasons.
-pub const LIMITS: [(Limited, u64, &[u8]); 12] = [
-    (Limited::Variable, 12_285, &[0x00]),
-    (Limited::Variable, 12_286, &[0x00]),
-    (Limited::Variable, 12_287, &[0x89]),
-    (Limited::Variable, 12_288, &[0x89]),
-    (Limited::Trigger, 12_285, &[0x00]),
-    (Limited::Trigger, 12_286, &[0x00]),
-    (Limited::Trigger, 12_287, &[0x89]),
-    (Limited::Trigger, 12_288, &[0x89]),
-    (Limited::Table, 12_285, &[0, 8]),
-    (Limited::Table, 12_286, &[0, 8]),
-    (Limited::Table, 12_287, &[8]),
-    (Limited::Table, 12_288, &[8]),
-];
-
-/// "every writing command and both block writes follow": each can be taken beside a
-/// read-only variable and refused for one. Only a masked one can have no bits.
-pub const WRITES: [(Asker, &[Meeting]); 12] = [
-    (Asker::Command(0x02), PLAIN),
-    (Asker::Command(0x03), MASKED),
-    (Asker::Command(0x05), PLAIN),
-    (Asker::Command(0x06), MASKED),
-    (Asker::Command(0xE3), PLAIN),
-    (Asker::Command(0xE4), PLAIN),
-    (Asker::Command(0xE5), MASKED),
-    (Asker::Command(0xF0), PLAIN),
-    (Asker::Command(0xF1), MASKED),
-    (Asker::Function(6), PLAIN),
-    (Asker::Function(16), PLAIN),
-    (Asker::Function(22), MASKED),
-];
-
-const PLAIN: &[Meeting] = MASKED.split_at(7).0;
-
-const MASKED: &[Meeting] = &[
-    Meeting::Before,
-    Meeting::Behind,
-    Meeting::OverNone,
-    Meeting::Unwrapped,
-    Meeting::First,
-    Meeting::Last,
-    Meeting::Overruled,
-    Meeting::Maskless,
-];
 
 /// Why a frame can get silence.
 pub const SILENCES: [Silence; 6] = [

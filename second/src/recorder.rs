@@ -4,22 +4,16 @@
 //! at each tick; the ticks that take sets, the trigger, the stop, the places
 //! and the start index are computed from it. Ticks at which the memory held the
 //! same recorded bytes stand in the list as one stretch. A tick changes only
-//! the recorder buffer and the two bytes that show the number of sets, where
-//! no recorded variable lies, so ticks in a row always make one stretch.
-//!
-//! The number of sets is computed from the list too. The two bytes only show
-//! it: nothing is ever read from them.
+//! the recorder buffer, where no recorded variable lies, so ticks in a row
+//! always make one stretch.
 
-use crate::areas::{BUFFER, NUMBER};
+use crate::areas::BUFFER;
 use crate::request::Setup;
 use crate::trigger::Trigger;
 
 /// Ticks and sets are counted wider than any script can reach: set numbers do
 /// not wrap, however long the recorder runs.
 type Count = u128;
-
-/// "the number of sets taken since the start, staying at 65,535 once there"
-const MOST_NUMBER: Count = 65_535;
 
 /// Ticks in a row that found the same bytes.
 #[derive(Clone)]
@@ -67,11 +61,9 @@ impl Recorder {
     }
 
     /// A start forgets everything of the run before; the buffer's bytes stay.
-    /// "A start writes 0", the number of a run without sets.
-    pub fn start(&mut self, memory: &mut [u8]) {
+    pub fn start(&mut self) {
         *self = Recorder::prepared(self.setup.clone());
         self.stands = false;
-        self.show_number(memory);
     }
 
     pub fn stop(&mut self) {
@@ -90,17 +82,6 @@ impl Recorder {
     /// 'samples' sets are taken.
     pub fn is_full(&self) -> bool {
         self.taken() >= self.samples()
-    }
-
-    /// The number in the record: it can be told of, and is not what the two bytes
-    /// may hold by now.
-    pub fn number(&self) -> u16 {
-        self.taken().min(MOST_NUMBER) as u16
-    }
-
-    /// "low byte first, at bytes 12,286 and 12,287"
-    fn show_number(&self, memory: &mut [u8]) {
-        memory[NUMBER].copy_from_slice(&self.number().to_le_bytes());
     }
 
     /// "The start index is 0 until 'samples' sets are taken, then the place
@@ -123,10 +104,6 @@ impl Recorder {
         self.found = self.found.or_else(|| self.search(self.searched));
         self.searched = self.list.len() - 1;
         self.fill(before, self.taken(), memory);
-        // "each taken set writes the count": of sets in a row, the last stays.
-        if self.taken() > before {
-            self.show_number(memory);
-        }
     }
 
     /// Puts the ticks behind the list, with what the memory holds now.
@@ -184,7 +161,7 @@ impl Recorder {
     }
 
     /// The sets taken: those due, up to the last before the stop.
-    pub fn taken(&self) -> Count {
+    fn taken(&self) -> Count {
         let due = self.due(self.tick_count());
         self.last_set().map_or(due, |last| due.min(last + 1))
     }

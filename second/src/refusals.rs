@@ -1,7 +1,6 @@
 //! The numbers that refuse on the wire: the paper's table as a table.
 
-use crate::areas::{Range, BUFFER_LENGTH, READ_END, RECORD_END};
-use crate::marks::may_be_written;
+use crate::areas::{Range, BUFFER_LENGTH, READ_END, RECORD_END, WRITE_END};
 use crate::message::Message;
 use crate::request::{order, request, Order, Request, Setup};
 use crate::tables::string_length;
@@ -135,14 +134,12 @@ fn answer_too_long(case: &Case) -> bool {
     }
 }
 
-/// "an address range not wholly where that command may go", whatever the mask of a
-/// write; a string's "address outside"
+/// "an address range not wholly where that command may go"; a string's "address
+/// outside"
 fn out_of_place(case: &Case) -> bool {
     match &case.request {
         Some(Request::Read(range)) => !range.ends_by(READ_END),
-        Some(Request::Write { range, .. }) => {
-            !may_be_written(range.bytes(), &case.target.tables, &case.target.memory)
-        }
+        Some(Request::Write { range, .. }) => !range.ends_by(WRITE_END),
         Some(Request::ScopeSetup(variables)) => !all_end_by(variables, READ_END),
         Some(Request::RecorderSetup(setup)) => {
             !all_end_by(&setup.variables, RECORD_END)

@@ -15,11 +15,6 @@ const MOST_SETUP: usize = 255;
 /// The most bytes a frame on a U line may have, and the most room there.
 const MOST_FRAME: usize = 600;
 
-/// The most room an X line may lend.
-const MOST_TEXT: usize = 12_000;
-/// The most entries for which an L line may lend room.
-const MOST_ENTRIES: usize = 200;
-
 /// The most tables a G line may name, more than can be registered.
 const MOST_TABLES: usize = 40;
 
@@ -55,15 +50,6 @@ pub enum Operation {
         room: usize,
         bytes: Vec<u8>,
     },
-    /// The room for a calibration file.
-    Export(usize),
-    /// The text of one.
-    Import(Vec<u8>),
-    /// A capture of the cable, and the room for its entries.
-    Capture {
-        room: usize,
-        bytes: Vec<u8>,
-    },
 }
 
 impl Operation {
@@ -76,7 +62,6 @@ impl Operation {
                 | Operation::WriteAnswer(_)
                 | Operation::BeginReader(_)
                 | Operation::Read { .. }
-                | Operation::Capture { .. }
         )
     }
 }
@@ -143,12 +128,6 @@ impl Words<'_> {
                 station: self.number_of_16_bits("station")?,
                 room: self.room_up_to(MOST_FRAME)?,
                 bytes: self.bytes_up_to(MOST_FRAME)?,
-            }),
-            "X" => Ok(Operation::Export(self.room_up_to(MOST_TEXT)?)),
-            "I" => Ok(Operation::Import(self.bytes()?)),
-            "L" => Ok(Operation::Capture {
-                room: self.room_up_to(MOST_ENTRIES)?,
-                bytes: self.bytes()?,
             }),
             other => Err(format!("`{other}` is no operation")),
         }

@@ -1,20 +1,15 @@
-//! Tables of names (request 2026-03): which lists of them can be registered, what
-//! their entries say, and how long a string is.
+//! Tables of names (request 2026-03): which lists of them can be registered,
+//! and how long a string is.
 
 use std::ops::Range;
 
-use crate::areas::{MEMORY, TABLES};
+use crate::areas::{CALIBRATION, MEMORY};
 
 /// "The gate registers up to 16 tables"
 const MOST_TABLES: usize = 16;
 
 /// "16-bit entries of 8 bytes"
 const ENTRY: usize = 8;
-
-/// What the two lowest bits of an info say of a variable: `RO_VAR` and `RW_VAR` of
-/// source document 000.
-pub const READ_ONLY: u16 = 1;
-pub const WRITABLE: u16 = 3;
 
 /// "Sizes of the base types are": each size with its codes.
 pub const BASE_TYPES: [(u16, &[u8]); 4] = [
@@ -42,56 +37,46 @@ impl Table {
         !self.is_as_said() || self.entries(memory).any(|entry| entry.is_bad(memory))
     }
 
-    /// "each inside the calibration area and one or more whole entries", and
-    /// before the two bytes at its end
+    /// "each inside the calibration area and one or more whole entries"
     fn is_as_said(&self) -> bool {
         let Range { start, end } = self.range();
-        let inside = TABLES.start <= start && end <= TABLES.end;
+        let inside = CALIBRATION.start <= start && end <= CALIBRATION.end;
         inside && self.size > 0 && usize::from(self.size).is_multiple_of(ENTRY)
     }
 
     /// Wide enough that no sum can wrap.
-    pub fn range(&self) -> Range<usize> {
+    fn range(&self) -> Range<usize> {
         let start = usize::from(self.address);
         start..start + usize::from(self.size)
     }
 
-    pub fn entries<'a>(&self, memory: &'a [u8]) -> impl Iterator<Item = Entry> + 'a {
+    fn entries<'a>(&self, memory: &'a [u8]) -> impl Iterator<Item = Entry> + 'a {
         memory[self.range()].chunks_exact(ENTRY).map(Entry::of)
     }
 }
 
-/// Of name, type, address and info all but the name, which nobody here looks at.
-pub struct Entry {
+/// What is looked at of an entry, whatever the two low bits of its info say: of
+/// name, type, address and info neither the name nor the address.
+struct Entry {
     type_address: usize,
-    address: u16,
     size: u16,
-    pub kind: u16,
 }
 
 impl Entry {
-    pub fn of(bytes: &[u8]) -> Entry {
+    fn of(bytes: &[u8]) -> Entry {
         let word = |at: usize| u16::from_le_bytes([bytes[at], bytes[at + 1]]);
         Entry {
             type_address: usize::from(word(2)),
-            address: word(4),
             // "an entry's size is its info divided by 4"
             size: word(6) / 4,
-            kind: word(6) % 4,
         }
     }
 
     /// "an entry whose type address is outside memory or whose size differs
-    /// from its base type's", whatever its kind and its address
+    /// from its base type's"
     fn is_bad(&self, memory: &[u8]) -> bool {
         self.type_address >= MEMORY
             || base_size(&memory[self.type_address..]).is_some_and(|size| size != self.size)
-    }
-
-    /// The bytes of the variable; wide enough that no sum can wrap.
-    pub fn variable(&self) -> Range<u64> {
-        let first = u64::from(self.address);
-        first..first + u64::from(self.size)
     }
 }
 

@@ -22,9 +22,9 @@ pub struct Target {
     heard: Heard,
 }
 
-/// An answer, and the message that it answers.
+/// An answer, and the command of the message that it answers.
 pub struct Answer {
-    pub message: Message,
+    pub command: u8,
     pub status: u8,
     pub wire: Vec<u8>,
 }
@@ -79,7 +79,7 @@ impl Target {
         let message = Message::of(&literals);
         let (status, data) = self.answer(&message);
         Some(Answer {
-            message,
+            command: message.command,
             status,
             wire: wire(status, &data),
         })
@@ -125,11 +125,6 @@ impl Target {
         if let Some(recorder) = &mut self.recorder {
             recorder.ticks(count, &mut self.memory);
         }
-    }
-
-    /// The sets taken since the start, however many.
-    pub fn sets(&self) -> u128 {
-        self.recorder.as_ref().map_or(0, Recorder::taken)
     }
 
     /// "the variables' bytes in that order"

@@ -1,9 +1,7 @@
 //! What a player tells whoever counts what scripts reach.
 
 use crate::host::ANSWER_ROOM;
-use crate::met::{Asker, Meeting};
 use crate::modbus::Silence;
-use crate::shown::{Held, Limited, Port, Writer};
 use crate::target::{Block, Target};
 
 /// How a block ended that was not refused.
@@ -75,8 +73,7 @@ impl Standing {
 }
 
 /// Whoever is told of every answer, of every call at the other end, of how
-/// blocks end, of what the panel does, of every frame at the second port, of the
-/// number of sets and of writes beside and into read-only variables.
+/// blocks end, of what the panel does and of every frame at the second port.
 pub trait Watch {
     /// A message of a command was answered with a status.
     fn answered(&mut self, command: u8, status: u8);
@@ -90,15 +87,6 @@ pub trait Watch {
     fn frame_answered(&mut self, function: u8, exception: u8);
     /// A frame got silence.
     fn frame_silent(&mut self, silence: Silence);
-    /// The two bytes were written that show the number of sets.
-    fn number_written(&mut self, writer: Writer, held: Held);
-    /// They were read, the recorder standing so.
-    fn number_read(&mut self, standing: Standing, port: Port);
-    /// What ends last of a setup or a list of tables ends there, and it was taken,
-    /// 0, or refused with this status or number.
-    fn went_to(&mut self, last: Limited, end: u64, result: u8);
-    /// A write lay so to what the tables say.
-    fn write_met(&mut self, asker: Asker, meeting: Meeting);
 }
 
 /// Nobody.
@@ -109,8 +97,4 @@ impl Watch for () {
     fn at_panel(&mut self, _panel: Panel, _standing: Standing, _in_message: bool, _status: u8) {}
     fn frame_answered(&mut self, _function: u8, _exception: u8) {}
     fn frame_silent(&mut self, _silence: Silence) {}
-    fn number_written(&mut self, _writer: Writer, _held: Held) {}
-    fn number_read(&mut self, _standing: Standing, _port: Port) {}
-    fn went_to(&mut self, _last: Limited, _end: u64, _result: u8) {}
-    fn write_met(&mut self, _asker: Asker, _meeting: Meeting) {}
 }

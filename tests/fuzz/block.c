@@ -53,7 +53,6 @@ static void look_at_block(log_gate_block_taken came)
     expect(memcmp(lent_bytes(&state), singly.state, sizeof singly.state) == 0, "block: another state than singly");
     expect(same(lent_bytes(&mem), singly.memory, sizeof singly.memory), "block: another memory than singly");
     expect(memcmp(lent_bytes(&out), singly.answers, came.written) == 0, "block: other answers than singly");
-    keep_memory(SETS, came.written > 0 ? BUFFER : SETS);
     expect(kept_but(&state, 0, LOG_GATE_STATE) && kept_but(&mem, 0, VARIABLES_END), "block: a byte that is not its own");
     expect(kept_but(&out, 0, came.written), "block: bytes behind the answers");
     ends[block.length == 0 ? NO_BYTES : came.taken == block.length ? ALL_TAKEN : STOPPED]++;

@@ -16,12 +16,12 @@ static void look_at_answer(size_t length)
     digest_bytes(answer, length);
     expect(3 <= length && length <= LOG_GATE_ANSWER_ROOM && answer[0] == 0x2B, "an answer that is none");
     expect(kept_but(&out, 0, length), "bytes behind the answer");
+    expect(kept_but(&mem, 0, VARIABLES_END), "a command writes outside the variables");
     expect(changed_in(&state, BODY, SCOPE) == 0, "an answered byte changes the body");
     if (answer[1] >= 0x80)
         expect(length == 3 && kept(&mem) && kept_but(&state, 0, BODY), "a refused message changes the gate");
 #define ANSWERED(name) look_at_##name(answer, length);
 #include "subjects.h"
-    expect(kept_but(&mem, 0, VARIABLES_END), "a command writes outside the variables and the number of sets");
     keep_memory(0, VARIABLES_END);
 }
 

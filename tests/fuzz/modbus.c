@@ -21,9 +21,8 @@ static uint64_t frames[FUNCTIONS][EXCEPTIONS], silences;
 
 static uint8_t modbus_refusal(unsigned station)
 {
-    uint8_t refusal = tick_refusal();
-    if (refusal != LOG_GATE_TAKEN)
-        return refusal;
+    if (mem.length != LOG_GATE_MEMORY)
+        return LOG_GATE_MEMORY_REFUSED;
     if (out.length < LOG_GATE_MODBUS_ROOM)
         return LOG_GATE_ROOM_REFUSED;
     return 1 <= station && station <= 247 ? LOG_GATE_TAKEN : LOG_GATE_STATION_REFUSED;
@@ -42,18 +41,6 @@ static size_t function_row(uint8_t function)
     return row;
 }
 
-/* Whether it is a write, and its values fit; how many registers it writes then. */
-static size_t registers_written(const struct frame *f, uint8_t exception)
-{
-    if (exception == 3)
-        return 0;
-    switch (f->bytes[1]) {
-    case WRITE_REGISTER: case MASK_REGISTER: return 1;
-    case WRITE_REGISTERS: return f->bytes[5];
-    default: return 0;
-    }
-}
-
 /* An answer begins as its frame and has a right check sum. One with an exception has five bytes, and leaves the memory. */
 static void look_at_frame(const struct frame *f, size_t length)
 {
@@ -65,8 +52,6 @@ static void look_at_frame(const struct frame *f, size_t length)
     expect(exception < EXCEPTIONS && (!refused || length == 5), "modbus: another exception");
     expect(kept_but(&mem, 0, refused || f->bytes[1] == READ_REGISTERS ? 0 : VARIABLES_END), "modbus: a byte that is not its own");
     frames[function_row(f->bytes[1])][exception]++;
-    if (registers_written(f, exception) > 0)
-        look_at_registers(f->bytes[1], 256u * f->bytes[2] + f->bytes[3], registers_written(f, exception), exception);
     digest_bytes(answer, length);
     keep_memory(0, VARIABLES_END);
 }
@@ -75,17 +60,15 @@ void throw_modbus(void)
 {
     unsigned station = one_in(16) ? random_number() & 0xFFFF : one_in(16) ? 246 + below(3) : below(4);
     struct frame f = random_frame((uint8_t)station);
-    lend_state(&state, live, sizeof live);
     lend_memory();
     lend_room(some_length(LOG_GATE_MODBUS_ROOM, 60));
     lend(&block, f.bytes, f.length, f.length);
     uint8_t due = modbus_refusal(station);
-    log_gate_taken taken = log_gate_modbus(lent_bytes(&state), state.length, (uint16_t)station, lent_bytes(&block), f.length,
-                                           lent_bytes(&mem), mem.length, lent_bytes(&out), out.length);
+    log_gate_taken taken = log_gate_modbus((uint16_t)station, lent_bytes(&block), f.length, lent_bytes(&mem), mem.length,
+                                           lent_bytes(&out), out.length);
     count(CALL_modbus, taken.refusal);
     expect(taken.refusal == due, "modbus: another refusal");
-    expect(kept(&state) && kept(&block), "modbus: changes the state or the frame");
-    expect(kept_but(&out, 0, taken.length), "modbus: changes bytes behind the answer");
+    expect(kept(&block) && kept_but(&out, 0, taken.length), "modbus: changes the frame, or bytes behind the answer");
     if (due != LOG_GATE_TAKEN || gets_silence(station, &f)) {
         silences += due == LOG_GATE_TAKEN;
         expect(taken.length == 0 && kept(&mem), "modbus: refused or silent, and not untouched");

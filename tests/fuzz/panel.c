@@ -48,7 +48,7 @@ static struct message random_setup(void)
     return m;
 }
 
-/* The recorder is as the message left it, but not started where it was only prepared. Nothing else of the state changes. */
+/* The recorder is as the message left it, but not started where it was only prepared. Nothing else changes. */
 static void look_at_recorder(int what, uint8_t status)
 {
     if (what == PANEL_prepare && status == LOG_GATE_DONE)
@@ -58,37 +58,26 @@ static void look_at_recorder(int what, uint8_t status)
            "panel: another recorder than a message leaves");
 }
 
-/* The start is lent the memory, preparing is not. */
-static log_gate_said call_panel(int what)
-{
-    if (what == PANEL_prepare)
-        return log_gate_prepare(lent_bytes(&state), state.length, lent_bytes(&block), block.length);
-    return log_gate_start(lent_bytes(&state), state.length, lent_bytes(&mem), mem.length);
-}
-
 void throw_panel(void)
 {
     int what = one_in(4) ? PANEL_start : PANEL_prepare;
     struct message m = what == PANEL_prepare ? random_setup() : (struct message){.command = LOG_GATE_START_RECORDER};
     int is_live = lend_state(&state, live, sizeof live);
-    lend_memory();
     lend(&block, m.data, m.length, m.length);
-    uint8_t due = what == PANEL_prepare ? state_refusal() : tick_refusal();
-    uint8_t status = due == LOG_GATE_TAKEN ? status_as_message(&m) : LOG_GATE_NOT_SERVED;
-    log_gate_said came = call_panel(what);
+    uint8_t due = state_refusal(), status = due == LOG_GATE_TAKEN ? status_as_message(&m) : LOG_GATE_NOT_SERVED;
+    log_gate_said came = what == PANEL_prepare
+                             ? log_gate_prepare(lent_bytes(&state), state.length, lent_bytes(&block), block.length)
+                             : log_gate_start(lent_bytes(&state), state.length);
     count(what == PANEL_prepare ? CALL_prepare : CALL_start, came.refusal);
     expect(came.refusal == due && came.status == status, "panel: another refusal or status");
     expect(kept(&block), "panel: changes the data part");
     if (due != LOG_GATE_TAKEN) {
-        expect(kept(&state) && kept(&mem), "panel: refused and not untouched");
+        expect(kept(&state), "panel: refused and not untouched");
         return;
     }
     said[what][status]++;
     digest_bytes(&status, 1);
     look_at_recorder(what, status);
-    if (what == PANEL_start)
-        look_at_start(status == LOG_GATE_DONE);
-    expect(kept(&mem), "panel: more of the memory than the number of sets");
     keep_live(is_live);
 }
 

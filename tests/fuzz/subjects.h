@@ -1,8 +1,7 @@
 /*
  * What the fuzzing loop consists of; the functions stand in the files of their subjects.
  *
- *     THROWN(weight, name)   throw_NAME: makes a call over random bytes and looks at all that it leaves, or changes what calls find, so
- *                            often among all others
+ *     THROWN(weight, name)   throw_NAME: makes a call over random bytes and looks at all that it leaves, so often among all others
  *     ANSWERED(name)         look_at_NAME: whether the answer to a message is the one due
  *     SWEPT(name)            sweep_NAME: every value of a part of the live state
  *     COUNTED(name)          tell_NAME and require_NAME: what else came beside refusals, and that all came that can
@@ -31,22 +30,15 @@ THROWN(1, report)
 THROWN(1, register)
 THROWN(1, block)
 THROWN(1, panel)
-THROWN(2, modbus)
-THROWN(1, marks)
-THROWN(1, export)
-THROWN(2, import)
-THROWN(1, capture)
+THROWN(1, modbus)
 THROWN(2, beginning)
 
 ANSWERED(application)
 ANSWERED(names)
-ANSWERED(number)
-ANSWERED(marks)
 
 SWEPT(bytes)
 SWEPT(application)
 SWEPT(tables)
-SWEPT(number)
 
 COUNTED(refusals)
 COUNTED(answers)
@@ -54,10 +46,7 @@ COUNTED(application)
 COUNTED(tables)
 COUNTED(names)
 COUNTED(panel)
-COUNTED(number)
 COUNTED(frames)
-COUNTED(marks)
-COUNTED(files)
 COUNTED(blocks)
 
 #undef THROWN

@@ -5,9 +5,6 @@
 
 enum { CALIBRATION = VARIABLES_END, ENTRY = 8, TYPES = VARIABLES_END - 48, THROWN_TABLES = 20 };
 
-/* Most writes go to bytes below this one. */
-enum { MOST_WRITTEN = 64 };
-
 static uint64_t registered;
 
 static const struct {
@@ -23,34 +20,31 @@ static void write_memory(size_t at, const uint8_t *bytes, size_t length)
     memcpy(mem.kept + mem.start + at, bytes, length);
 }
 
-/* A base type with its size, or a string of one byte and no zero behind it with any size, none among them. */
-void write_entry(size_t at)
+/* A good entry: a base type with its size, or a string of one byte and no zero behind it with any. */
+static void write_entry(size_t at)
 {
     uint8_t entry[ENTRY];
     size_t which = below(BASE_TYPES), type = TYPES + 2 * which;
     random_fill(entry, sizeof entry);
     write_memory(type, (const uint8_t[]){base_types[which].code, 0}, 2);
-    put_number(entry + 6, 4u * base_types[which].size + (one_in(2) ? 1 : below(4)));
-    if (one_in(8)) {
+    if (one_in(8))
         type = LOG_GATE_MEMORY - 1;
-        put_number(entry + 6, one_in(2) ? below(16) : random_number());
-    }
+    else
+        put_number(entry + 6, 4u * base_types[which].size + below(4));
     put_number(entry + 2, type);
-    if (one_in(2))
-        put_number(entry + 4, below(MOST_WRITTEN));
     write_memory(at, entry, sizeof entry);
 }
 
 /*
- * Some tables of good entries, one behind the other, from where they may begin or up to where they must end, or a byte or two beside
- * it; how long the list of them is.
+ * Some tables of good entries, one behind the other, from where they may begin or up to where they must end, or a byte beside it;
+ * how long the list of them is.
  */
 static size_t write_tables(uint8_t *list)
 {
     size_t tables = one_in(2) ? below(THROWN_TABLES) : below(4), size = ENTRY * (1 + below(3));
-    size_t at = one_in(2) ? CALIBRATION : SETS - tables * size;
+    size_t at = one_in(2) ? CALIBRATION : BUFFER - tables * size;
     if (one_in(4))
-        at = at + below(4) - 1;
+        at = at + below(3) - 1;
     for (size_t i = 0; i < tables; i++) {
         put_number(list + LOG_GATE_TABLE * i, at);
         put_number(list + LOG_GATE_TABLE * i + 2, size);
@@ -63,7 +57,7 @@ static size_t write_tables(uint8_t *list)
 /* Something of an entry, of its type or of the list changed, which may make the list bad; how long it is then. */
 static size_t change_list(uint8_t *list, size_t length)
 {
-    static const uint16_t edges[] = {0, 7, 9, 8191, 12286, 12288, 16384, 65535};
+    static const uint16_t edges[] = {0, 7, 9, 8191, 12288, 16384, 65535};
     size_t number = edges[below(sizeof edges / sizeof edges[0])], at = below((uint32_t)length / 2) * 2;
     uint8_t bytes[2];
     put_number(bytes, one_in(2) ? number : random_number());
@@ -92,7 +86,7 @@ static int list_good(const uint8_t *list, size_t length)
         return 0;
     for (size_t i = 0; i < length; i += LOG_GATE_TABLE) {
         size_t address = number_at(list + i), size = number_at(list + i + 2);
-        if (address < CALIBRATION || address + size > SETS || size == 0 || size % ENTRY != 0)
+        if (address < CALIBRATION || address + size > BUFFER || size == 0 || size % ENTRY != 0)
             return 0;
         for (size_t at = address; at < address + size; at += ENTRY)
             if (!entry_good(lent_bytes(&mem) + at))

@@ -9,8 +9,8 @@
 extern uint8_t live[LOG_GATE_STATE], live_reader[LOG_GATE_READER];
 extern struct lent state, mem, out, block;
 
-/* Where the memory's parts end and begin; before the buffer stands the number of sets. */
-enum { VARIABLES_END = 8192, SETS = LOG_GATE_SETS, BUFFER = SETS + 2 };
+/* Where the memory's parts end and begin. */
+enum { VARIABLES_END = 8192, BUFFER = 12288 };
 
 /* Mostly the length that is right, sometimes another. */
 size_t some_length(size_t right, size_t more);
@@ -32,17 +32,6 @@ void keep_live(int is_live);
 
 /* What a taken call left from..to in the memory is what the next call finds. */
 void keep_memory(size_t from, size_t to);
-
-/* What a start and a tick made of the number of sets, in the state and in the memory; the two bytes are kept then. */
-void look_at_start(int is_started);
-void look_at_counted(int takes_set);
-void raise_number(void);
-
-/* A good entry in the memory, often one that speaks of bytes that are written. */
-void write_entry(size_t at);
-
-/* Whether a write at the second port whose values fit got the exception that is due, 0 for none. */
-void look_at_registers(uint8_t function, size_t first, size_t quantity, uint8_t exception);
 
 /* The functions that subjects.h describes. */
 #define THROWN(weight, name) void throw_##name(void);

@@ -1,7 +1,7 @@
-/* A tick, which may write one place of the ring and the number of sets. */
+/* A tick, which may write one place of the ring. */
 #include "thrown.h"
 
-/* What a tick may write: the place of the ring that is next, as long as a set, and the number of sets. */
+/* What a tick may write: the place of the ring that is next, as long as a set. */
 static void look_at_place(const uint8_t *recorder)
 {
     size_t set = 0, place = number_at(recorder + 64);
@@ -9,14 +9,12 @@ static void look_at_place(const uint8_t *recorder)
         set += recorder[19 + 5 * i];
     int runs = recorder[0] == 1 && recorder[59] == 1 && number_at(recorder + 62) == 0;
     size_t from = runs ? BUFFER + place * set : 0, to = runs ? from + set : 0;
-    look_at_counted(runs);
     expect(kept_but(&mem, from, to), "a tick writes outside its place");
     keep_memory(from, to);
 }
 
 void throw_tick(void)
 {
-    raise_number();
     int is_live = lend_state(&state, live, sizeof live);
     lend_memory();
     uint8_t due = tick_refusal();

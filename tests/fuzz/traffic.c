@@ -12,9 +12,9 @@ static void add(struct message *m, uint32_t number, unsigned width)
 /* Often in a few bytes that many messages touch, now and then at the edge of an area or anywhere. */
 static uint32_t random_address(void)
 {
-    static const uint32_t edges[] = {8192, LOG_GATE_SETS, 12288, 16384};
+    static const uint32_t edges[] = {8192, 12288, 16384};
     if (one_in(8))
-        return edges[below(4)] - below(9);
+        return edges[below(3)] - below(9);
     return one_in(8) ? random_number() & 0xFFFF : below(48);
 }
 

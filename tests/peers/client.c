@@ -9,9 +9,6 @@
 
 enum { STATION = 1, OTHER_STATION = 2, BAUD = 19200 };
 
-/* The register of a variable that is read only, before one that may be written. */
-enum { COIL = 11 };
-
 /* How long an answer may take on a busy machine, and how long none has to come to be none. */
 enum { ANSWER_S = 3, SILENCE_US = 300000 };
 
@@ -72,9 +69,6 @@ static void be_refused(void)
     tell("write behind the last", modbus_write_register(line, 4096, 1), NULL);
     tell("write across it", modbus_write_registers(line, 4095, 2, registers), NULL);
     tell("mask behind it", modbus_mask_write_register(line, 4096, 0, 1), NULL);
-    tell("write a coil", modbus_write_register(line, COIL, 1), NULL);
-    tell("write a coil and the threshold", modbus_write_registers(line, COIL, 2, registers), NULL);
-    tell("mask no bit of a coil", modbus_mask_write_register(line, COIL, 0xFFFF, 0), NULL);
     modbus_set_slave(line, OTHER_STATION);
     modbus_set_response_timeout(line, 0, SILENCE_US);
     read_some("another station", 100, 1);

@@ -8,8 +8,6 @@ from pymodbus.pdu import ExceptionResponse
 
 STATION = 1
 OTHER_STATION = 2
-# The register of a variable that is read only, before one that may be written.
-COIL = 11
 
 
 def tell(what, answer):
@@ -61,9 +59,6 @@ def be_refused(line):
     tell("write behind the last", line.write_register(4096, 1, slave=STATION))
     tell("write across it", line.write_registers(4095, [0, 0], slave=STATION))
     tell("mask behind it", mask(line, 4096, 0, 1))
-    tell("write a coil", line.write_register(COIL, 1, slave=STATION))
-    tell("write a coil and the threshold", line.write_registers(COIL, [0, 0], slave=STATION))
-    tell("mask no bit of a coil", mask(line, COIL, 0xFFFF, 0))
     tell("another station", line.read_holding_registers(100, 1, slave=OTHER_STATION))
 
 

@@ -13,12 +13,9 @@ LINE("G", register, 1)
 LINE("F", prepare, 1)
 LINE("S", start, 1)
 LINE("U", give_frame, 1)
-LINE("X", export, 1)
-LINE("I", import, 1)
 LINE("W", write_command, 0)
 LINE("V", write_answer, 0)
 LINE("E", begin, 0)
 LINE("R", read, 0)
-LINE("L", list_capture, 0)
 
 #undef LINE

@@ -31,6 +31,16 @@ static int play(char *text)
     return lines[i].concerns_memory;
 }
 
+static unsigned adler32(void)
+{
+    unsigned low = 1, high = 0;
+    for (size_t i = 0; i < sizeof memory; i++) {
+        low = (low + memory[i]) % 65521;
+        high = (high + low) % 65521;
+    }
+    return high << 16 | low;
+}
+
 int main(void)
 {
     static char line[MOST_LINE];
@@ -43,6 +53,6 @@ int main(void)
             memory_concerned |= play(text);
     }
     if (memory_concerned)
-        printf("D adler32 %08X\n", adler32(memory, sizeof memory));
+        printf("D adler32 %08X\n", adler32());
     return 0;
 }

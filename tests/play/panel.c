@@ -22,5 +22,5 @@ void play_start(char *text)
 {
     if (more_follows(text))
         fail("an S line with more");
-    print_said('S', log_gate_start(state, sizeof state, memory, sizeof memory));
+    print_said('S', log_gate_start(state, sizeof state));
 }

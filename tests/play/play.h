@@ -6,7 +6,7 @@
 
 #include <stdio.h>
 
-enum { MOST_LINE = 65536, MOST_ROOM = 600, MOST_UNLIMITED = 65535 };
+enum { MOST_LINE = 16384, MOST_ROOM = 600, MOST_UNLIMITED = 65535 };
 
 extern uint8_t state[LOG_GATE_STATE], memory[LOG_GATE_MEMORY], reader[LOG_GATE_READER];
 
@@ -33,7 +33,6 @@ size_t next_room(char **text, size_t most);
 
 void fill_lent(size_t room);
 void print_bytes(const uint8_t *shown, size_t length);
-unsigned adler32(const uint8_t *summed, size_t length);
 
 /* What a call gave, and the whole lent buffer. */
 void print_taken(const char *word, log_gate_taken taken, size_t room);

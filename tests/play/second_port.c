@@ -10,5 +10,5 @@ void play_give_frame(char *text)
     if (station > UINT16_MAX || count > MOST_FRAME)
         fail("a station or a frame above what a U line may give");
     fill_lent(room);
-    print_taken("U", log_gate_modbus(state, sizeof state, (uint16_t)station, bytes, count, memory, sizeof memory, lent, room), room);
+    print_taken("U", log_gate_modbus((uint16_t)station, bytes, count, memory, sizeof memory, lent, room), room);
 }

@@ -56,16 +56,6 @@ void print_bytes(const uint8_t *shown, size_t length)
     printf("\n");
 }
 
-unsigned adler32(const uint8_t *summed, size_t length)
-{
-    unsigned low = 1, high = 0;
-    for (size_t i = 0; i < length; i++) {
-        low = (low + summed[i]) % 65521;
-        high = (high + low) % 65521;
-    }
-    return high << 16 | low;
-}
-
 void print_taken(const char *word, log_gate_taken taken, size_t room)
 {
     printf("%s %u %zu", word, taken.refusal, taken.length);

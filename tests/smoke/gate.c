@@ -25,21 +25,6 @@ void tick(void)
     EXPECT(log_gate_tick(gate.state, sizeof gate.state, gate.memory, sizeof gate.memory) == LOG_GATE_TAKEN);
 }
 
-uint8_t prepared(const char *data)
-{
-    uint8_t bytes[100];
-    log_gate_said said = log_gate_prepare(gate.state, sizeof gate.state, bytes, bytes_of(data, bytes));
-    EXPECT(said.refusal == LOG_GATE_TAKEN);
-    return said.status;
-}
-
-uint8_t started(void)
-{
-    log_gate_said said = log_gate_start(gate.state, sizeof gate.state, gate.memory, sizeof gate.memory);
-    EXPECT(said.refusal == LOG_GATE_TAKEN);
-    return said.status;
-}
-
 static void append_text(char *text, const uint8_t *bytes, size_t length)
 {
     text += strlen(text);

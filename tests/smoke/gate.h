@@ -23,10 +23,6 @@ void reset(void);
 log_gate_taken give(uint8_t byte);
 void tick(void);
 
-/* What the panel is told. */
-uint8_t prepared(const char *data);
-uint8_t started(void);
-
 /* What the gate answers to these wire bytes; several answers are parted by a semicolon. */
 void expect_answer(const char *wire, const char *answer);
 

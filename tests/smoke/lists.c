@@ -8,10 +8,9 @@ static const struct {
 } lists[] = {
     {"", LOG_GATE_TAKEN},
     {"00 20 08 00", LOG_GATE_TAKEN},
-    {"00 20 F8 0F", LOG_GATE_TAKEN}, /* the longest, and up to where a table ends: 12,286 */
-    {"06 20 F8 0F", LOG_GATE_TAKEN},
-    {"F6 2F 08 00", LOG_GATE_TAKEN},
-    {"F5 2F 08 00 01 20 F0 0F", LOG_GATE_TAKEN},
+    {"00 20 00 10", LOG_GATE_TAKEN}, /* the whole area */
+    {"F8 2F 08 00", LOG_GATE_TAKEN},
+    {"F7 2F 08 00 01 20 F0 0F", LOG_GATE_TAKEN},
     {"00 20 08 00 00 20 08 00", LOG_GATE_TAKEN},
     {"00 20 08", LOG_GATE_LIST_REFUSED}, /* not whole pairs */
     {"00 20", LOG_GATE_LIST_REFUSED},
@@ -24,10 +23,6 @@ static const struct {
     {"00 20 0C 00", LOG_GATE_LIST_REFUSED},
     {"F8 1F 08 00", LOG_GATE_LIST_REFUSED}, /* not inside the area */
     {"FF 1F 08 00", LOG_GATE_LIST_REFUSED},
-    {"F7 2F 08 00", LOG_GATE_LIST_REFUSED}, /* into the number of sets */
-    {"F8 2F 08 00", LOG_GATE_LIST_REFUSED},
-    {"07 20 F8 0F", LOG_GATE_LIST_REFUSED},
-    {"00 20 00 10", LOG_GATE_LIST_REFUSED},
     {"F9 2F 08 00", LOG_GATE_LIST_REFUSED},
     {"00 30 08 00", LOG_GATE_LIST_REFUSED},
     {"00 00 08 00", LOG_GATE_LIST_REFUSED},

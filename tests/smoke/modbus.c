@@ -1,15 +1,14 @@
 /* The second port's call: worked frames, every exception, silence and refusal, and the memory that both ports share. */
 #include "../check_sum.h"
-#include "states.h"
+#include "gate.h"
 
 enum { STATION = 17, MOST_FRAME = 300 };
 
 static uint8_t out[MOST_FRAME];
 
-/* A gate without tables. Every byte of its memory tells where it stands. */
+/* Every byte tells where it stands. */
 static void fill_memory(void)
 {
-    reset();
     for (size_t i = 0; i < sizeof gate.memory; i++)
         gate.memory[i] = (uint8_t)(i % 251);
     before = gate;
@@ -36,17 +35,15 @@ static size_t finished(uint8_t *frame, size_t length)
     return length + 2;
 }
 
-/* What the call writes for a frame: its answer's length, 0 for silence. State, frame and the bytes behind the answer stay. */
+/* What the call writes for a frame: its answer's length, 0 for silence. The frame and the bytes behind the answer stay. */
 static size_t give_frame(const uint8_t *frame, size_t length)
 {
-    uint8_t kept[MOST_FRAME], kept_state[LOG_GATE_STATE];
+    uint8_t kept[MOST_FRAME];
     memcpy(kept, frame, length);
-    memcpy(kept_state, gate.state, sizeof kept_state);
     memset(out, UNWRITTEN, sizeof out);
-    log_gate_taken taken =
-        log_gate_modbus(gate.state, sizeof gate.state, STATION, frame, length, gate.memory, sizeof gate.memory, out, sizeof out);
+    log_gate_taken taken = log_gate_modbus(STATION, frame, length, gate.memory, sizeof gate.memory, out, sizeof out);
     EXPECT(taken.refusal == LOG_GATE_TAKEN && unwritten_from(taken.length));
-    EXPECT(memcmp(kept, frame, length) == 0 && memcmp(kept_state, gate.state, sizeof kept_state) == 0);
+    EXPECT(memcmp(kept, frame, length) == 0);
     return taken.length;
 }
 
@@ -177,25 +174,12 @@ static void test_silences(void)
 
 /* ---- refusals, lowest first; nothing lent is touched */
 
-static log_gate_taken write_frame(size_t state, unsigned station, size_t frame_length, size_t memory_length, size_t room)
-{
-    const uint8_t frame[] = {0x11, 0x06, 0x00, 0x01, 0x00, 0x03, 0x9A, 0x9B};
-    return log_gate_modbus(gate.state, state, (uint16_t)station, frame, frame_length, gate.memory, memory_length, out, room);
-}
-
 static log_gate_result refused(unsigned station, size_t frame_length, size_t memory_length, size_t room)
 {
+    const uint8_t frame[] = {0x11, 0x06, 0x00, 0x01, 0x00, 0x03, 0x9A, 0x9B};
     memset(out, UNWRITTEN, sizeof out);
-    log_gate_taken taken = write_frame(sizeof gate.state, station, frame_length, memory_length, room);
-    EXPECT(taken.length == 0 && unwritten_from(0) && untouched());
-    return taken.refusal;
-}
-
-log_gate_result modbus_over(size_t state, bool right)
-{
-    memset(out, UNWRITTEN, sizeof out);
-    log_gate_taken taken = write_frame(state, right ? STATION : 0, 8, LOG_GATE_MEMORY - !right, LOG_GATE_MODBUS_ROOM - !right);
-    EXPECT(taken.length == 0 && unwritten_from(0));
+    log_gate_taken taken = log_gate_modbus((uint16_t)station, frame, frame_length, gate.memory, memory_length, out, room);
+    EXPECT(taken.length == 0 && unwritten_from(0) && memory_kept());
     return taken.refusal;
 }
 
@@ -222,33 +206,34 @@ static void test_refusals(void)
 /* ---- both ports over one memory */
 
 /* What the service port answers to these bytes. */
-static bool service_answers(const char *wire, const char *answer)
+static bool service_answers(uint8_t *state, const char *wire, const char *answer)
 {
     uint8_t bytes[100], due[100];
     size_t length = bytes_of(wire, bytes), written = bytes_of(answer, due);
     log_gate_block_taken came =
-        log_gate_block(gate.state, sizeof gate.state, bytes, length, gate.memory, sizeof gate.memory, out, sizeof out);
+        log_gate_block(state, LOG_GATE_STATE, bytes, length, gate.memory, sizeof gate.memory, out, sizeof out);
     return came.written == written && memcmp(out, due, written) == 0;
 }
 
 static void test_shared_memory(void)
 {
+    uint8_t state[LOG_GATE_STATE];
     fill_memory();
-    EXPECT(service_answers("2B D1 10", ""));
+    EXPECT(log_gate_reset(state, sizeof state) == LOG_GATE_TAKEN);
+    EXPECT(service_answers(state, "2B D1 10", ""));
     EXPECT(answers("11 06 00 08 12 34", "11 06 00 08 12 34"));
-    EXPECT(service_answers("00 1F", "2B 00 34 12 BA"));
-    EXPECT(service_answers("2B E4 10 00 78 56 3E", "2B 00 00") && answers("11 03 00 08 00 01", "11 03 02 56 78"));
+    EXPECT(service_answers(state, "00 1F", "2B 00 34 12 BA"));
+    EXPECT(service_answers(state, "2B E4 10 00 78 56 3E", "2B 00 00") && answers("11 03 00 08 00 01", "11 03 02 56 78"));
 }
 
 /* Everything lent at odd addresses. */
 static void test_odd_addresses(void)
 {
-    static uint8_t odd_state[8 + LOG_GATE_STATE], odd_memory[8 + LOG_GATE_MEMORY], odd_out[8 + LOG_GATE_MODBUS_ROOM], odd_frame[8 + 8];
+    static uint8_t odd_memory[8 + LOG_GATE_MEMORY], odd_out[8 + LOG_GATE_MODBUS_ROOM], odd_frame[8 + 8];
     for (size_t odd = 1; odd < 8; odd++) {
         bytes_of("11 06 00 01 00 03 9A 9B", odd_frame + odd);
-        EXPECT(log_gate_reset(odd_state + odd, LOG_GATE_STATE) == LOG_GATE_TAKEN);
-        log_gate_taken taken = log_gate_modbus(odd_state + odd, LOG_GATE_STATE, STATION, odd_frame + odd, 8, odd_memory + odd,
-                                               LOG_GATE_MEMORY, odd_out + odd, LOG_GATE_MODBUS_ROOM);
+        log_gate_taken taken = log_gate_modbus(STATION, odd_frame + odd, 8, odd_memory + odd, LOG_GATE_MEMORY, odd_out + odd,
+                                               LOG_GATE_MODBUS_ROOM);
         EXPECT(taken.refusal == LOG_GATE_TAKEN && taken.length == 8);
         EXPECT(memcmp(odd_out + odd, odd_frame + odd, 8) == 0 && odd_memory[odd + 2] == 3);
     }

@@ -4,6 +4,21 @@
 /* Two samples of the byte at 16, without a trigger and without a divider. */
 #define TWO_SAMPLES "00 02 00 00 00 00 00 00 00 00 00 00 00 00 00 01 01 10 00"
 
+static uint8_t prepared(const char *data)
+{
+    uint8_t bytes[100];
+    log_gate_said said = log_gate_prepare(gate.state, sizeof gate.state, bytes, bytes_of(data, bytes));
+    EXPECT(said.refusal == LOG_GATE_TAKEN);
+    return said.status;
+}
+
+static uint8_t started(void)
+{
+    log_gate_said said = log_gate_start(gate.state, sizeof gate.state);
+    EXPECT(said.refusal == LOG_GATE_TAKEN);
+    return said.status;
+}
+
 /* So many ticks, with 1, 2, 3 .. at byte 16. */
 static void tick_values(uint8_t count)
 {
@@ -97,7 +112,8 @@ log_gate_result prepare_over(size_t state, bool right)
 
 log_gate_result start_over(size_t state, bool right)
 {
-    log_gate_said said = log_gate_start(gate.state, state, gate.memory, LOG_GATE_MEMORY - !right);
+    (void)right; /* it is lent nothing else */
+    log_gate_said said = log_gate_start(gate.state, state);
     EXPECT(said.refusal == LOG_GATE_TAKEN || said.status == LOG_GATE_NOT_SERVED);
     return said.refusal;
 }

@@ -21,14 +21,10 @@ SUBJECT(messages)
 SUBJECT(byte_and_tick)
 SUBJECT(block)
 SUBJECT(panel)
-SUBJECT(number)
 SUBJECT(writers)
 SUBJECT(reader)
 SUBJECT(states)
 SUBJECT(modbus)
-SUBJECT(marks)
-SUBJECT(files)
-SUBJECT(captures)
 
 OVER_STATE(reset, false)
 OVER_STATE(register, false)
@@ -41,7 +37,6 @@ OVER_STATE(collect, true)
 OVER_STATE(report, true)
 OVER_STATE(prepare, true)
 OVER_STATE(start, true)
-OVER_STATE(modbus, true)
 
 #undef SUBJECT
 #undef OVER_STATE

@@ -49,9 +49,9 @@ static void test_layout(void)
     EXPECT(status_of(LOG_GATE_SET_UP_RECORDER, "00 01 00 00 00 00 00 00 00 00 00 00 00 00 00 01 01 00 00") == LOG_GATE_DONE);
     EXPECT(status_of(LOG_GATE_SEND_COMMAND, "01") == LOG_GATE_DONE && give(0x2B).length == 0 && give(0xC8).length == 0);
     memset(gate.state + LIST, 0xA5, LOG_GATE_STATE - LIST);
-    EXPECT(register_list("00 20 10 00 F6 2F 08 00") == LOG_GATE_TAKEN);
+    EXPECT(register_list("00 20 10 00 F8 2F 08 00") == LOG_GATE_TAKEN);
     due[TABLES] = 2;
-    bytes_of("00 20 10 00 F6 2F 08 00", due + LIST);
+    bytes_of("00 20 10 00 F8 2F 08 00", due + LIST);
     EXPECT(memcmp(gate.state, due, sizeof due) == 0);
     EXPECT(give(0x38).length == 0 && memcmp(gate.state, due, sizeof due) == 0);
     EXPECT(status_of(LOG_GATE_READ_SCOPE, "") == LOG_GATE_NOT_SET_UP);
@@ -89,7 +89,7 @@ static void test_refusals(void)
     EXPECT(log_gate_check(gate.state, sound) == LOG_GATE_TAKEN);
 }
 
-/* The list may be anything: it is told as it stands, and not checked again. */
+/* The list may be anything: it is told as it stands, and not looked at again. */
 static void test_bounds(void)
 {
     reset();

@@ -6,7 +6,7 @@
 
 void put_number(uint8_t *bytes, unsigned number);
 
-/* An entry; its name and its address are outside the memory, which no registering looks at. */
+/* An entry; its name and its address are outside the memory, which nobody looks at. */
 void put_entry(unsigned at, unsigned type, unsigned info);
 
 /* The list as bytes: "00 20 08 00" is one table of one entry at 8,192. */

@@ -13,7 +13,7 @@ use Rattle.document.proofs.Cases.{split, and_left, and_right}
 use Rattle.state_parts.specs.Bounds.{sound, fresh}
 use Rattle.state_block.specs.Places.{stateLength}
 use Rattle.state_block.specs.Layout.{decoded, encoded}
-use Rattle.call_checks.specs.Promises.{blockSound, prepareNumber, ResetDone, Checked}
+use Rattle.call_checks.specs.Promises.{blockSound, panelNumber, ResetDone, Checked}
 
 module _ (block : List ℕ) where
   pub too_short : length block < stateLength → false ≡ blockSound block
@@ -26,8 +26,8 @@ module _ (block : List ℕ) where
   block-known e =
       (leb-true stateLength (length block) (and_left (leb stateLength (length block)) (sound (decoded block)) e), and_right (leb stateLength (length block)) (sound (decoded block)) e)
 
-  pub prepare-known : prepareNumber block ≡ taken → (stateLength ≤ length block) × (sound (decoded block) ≡ true)
-  prepare-known fine =
+  pub panel-known : panelNumber block ≡ taken → (stateLength ≤ length block) × (sound (decoded block) ≡ true)
+  panel-known fine =
       split (blockSound block)
       (λ ok. block-known ok)
       (λ bad. let e : ◌≡◌ {A = ℕ} stateRefused taken = rw bad at fine in let z : ⊥ = omega arith in absurd z)

@@ -3,8 +3,7 @@ use Rattle.std.specs.Prelude.{◌≡◌, Bool, cond, ◌&&◌, List, ℕ, leb, l
 use Rattle.std.proofs.lemmas.List.Edits.{sets}
 use Rattle.document.specs.Numbers.{taken, stateRefused}
 use Rattle.document.specs.Calls.{byteRefusal, tickRefusal}
-use Rattle.document.specs.Panel.{prepareRefusal}
-use Rattle.document.specs.Modbus.{modbusRefusal}
+use Rattle.document.specs.Panel.{panelRefusal}
 use Rattle.document.specs.Application.{collectRefusal, reportRefusal}
 use Rattle.application_state.specs.State.{applicationOf}
 use Rattle.state_parts.specs.Bounds.{sound, fresh}
@@ -24,17 +23,14 @@ pub record Checked (block : List ℕ) (r : ℕ) : Type 0 where
   pub result : r ≡ cond (blockSound block) taken stateRefused
 
 -- the numbers of the calls
-abbrev pub prepareNumber : List ℕ → ℕ
-prepareNumber block = prepareRefusal (blockSound block)
+abbrev pub panelNumber : List ℕ → ℕ
+panelNumber block = panelRefusal (blockSound block)
 
 abbrev pub byteNumber : List ℕ → List ℕ → List ℕ → ℕ
 byteNumber block memory buffer = byteRefusal (blockSound block) memory buffer
 
 abbrev pub tickNumber : List ℕ → List ℕ → ℕ
 tickNumber block memory = tickRefusal (blockSound block) memory
-
-abbrev pub modbusNumber : List ℕ → ℕ → List ℕ → List ℕ → ℕ
-modbusNumber block station memory buffer = modbusRefusal (blockSound block) station memory buffer
 
 abbrev pub collectNumber : List ℕ → List ℕ → ℕ
 collectNumber block buffer = collectRefusal (blockSound block) buffer

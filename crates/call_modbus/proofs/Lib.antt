@@ -1,5 +1,4 @@
 -- What follows from the definitions, for the proofs of this crate and of those above it.
-pub mod Refusals
 pub mod Sealed
 pub mod Responses
 pub mod Answers

@@ -1,18 +1,16 @@
-// The second port: a whole frame, and the answer to it. The state is looked at for its tables, and stays.
+// The second port: a whole frame, and the answer to it.
 mod sealing;
 
 ghost use Rattle.std.specs.Prelude.{◌≡◌, ◌<◌, ◌≤◌, length};
 ghost use Rattle.document.specs.Areas.{memoryEnd};
 ghost use Rattle.document.specs.Frames.{functionByte};
-ghost use Rattle.document.specs.Modbus.{modbusRoom};
-ghost use Rattle.state_block.specs.Places.{stateLength};
-ghost use Rattle.call_checks.specs.Promises.{modbusNumber};
+ghost use Rattle.document.specs.Modbus.{modbusRoom, modbusRefusal};
 ghost use Rattle.call_modbus.specs.Responded.{Responded};
-ghost use Rattle.call_modbus.specs.Promises.{tablesIn, ModbusDone};
+ghost use Rattle.call_modbus.specs.Promises.{ModbusDone};
 
-use call_checks::tick_refusal;
-use codes_table::{DONE, ROOM_REFUSED, STATION_REFUSED, TAKEN};
+use codes_table::{DONE, MEMORY_REFUSED, ROOM_REFUSED, STATION_REFUSED, TAKEN};
 use line_wire::Written;
+use memory_ranges::MEMORY_END;
 use modbus_frames::{exception_to, function_of, is_silenced};
 use modbus_functions::{carry_out, tell, tell_exception};
 use sealing::seal;
@@ -21,12 +19,11 @@ pub const ROOM: usize = 256;
 
 const LAST_STATION: u16 = 247;
 
-fn refusal_of(state: &[u8], station: u16, memory: &[u8], out: &[u8]) -> u8
-    ensures { result ≡ modbusNumber state.now station memory.now out.now }
+fn refusal_of(station: u16, memory: &[u8], out: &[u8]) -> u8
+    ensures { result ≡ modbusRefusal station memory.now out.now }
 {
-    let refusal = tick_refusal(state, memory);
-    if refusal != TAKEN {
-        return refusal;
+    if memory.len() != MEMORY_END {
+        return MEMORY_REFUSED;
     }
     if out.len() < ROOM {
         return ROOM_REFUSED;
@@ -41,12 +38,12 @@ fn refusal_of(state: &[u8], station: u16, memory: &[u8], out: &[u8]) -> u8
 }
 
 // The answer but for its check sum. It is told before the memory changes, as the memory was looked at.
-fn respond(frame: &[u8], state: &[u8], memory: &mut [u8], out: &mut [u8]) -> usize
-    requires { (4 ≤ length frame.now) × (functionByte frame.now < 128) × (stateLength ≤ length state.now) × (length memory.old ≡ memoryEnd) × (modbusRoom ≤ length out.old) }
-    ensures { Responded frame.now (tablesIn state.now) memory.old out.old result memory.new out.new }
+fn respond(frame: &[u8], memory: &mut [u8], out: &mut [u8]) -> usize
+    requires { (4 ≤ length frame.now) × (functionByte frame.now < 128) × (length memory.old ≡ memoryEnd) × (modbusRoom ≤ length out.old) }
+    ensures { Responded frame.now memory.old out.old result memory.new out.new }
 {
     let function = function_of(frame[1]);
-    let exception = exception_to(function, frame, state, memory);
+    let exception = exception_to(function, frame);
     if exception != DONE {
         return tell_exception(exception, frame, out);
     }
@@ -55,16 +52,10 @@ fn respond(frame: &[u8], state: &[u8], memory: &mut [u8], out: &mut [u8]) -> usi
     length
 }
 
-pub fn answer(
-    state: &[u8],
-    station: u16,
-    frame: &[u8],
-    memory: &mut [u8],
-    out: &mut [u8],
-) -> Written
-    ensures { ModbusDone state.now station frame.now memory.old out.old result memory.new out.new }
+pub fn answer(station: u16, frame: &[u8], memory: &mut [u8], out: &mut [u8]) -> Written
+    ensures { ModbusDone station frame.now memory.old out.old result memory.new out.new }
 {
-    let refusal = refusal_of(state, station, memory, out);
+    let refusal = refusal_of(station, memory, out);
     if refusal != TAKEN {
         return Written { refusal, length: 0 };
     }
@@ -75,7 +66,7 @@ pub fn answer(
             length: 0,
         };
     }
-    let told = respond(frame, state, memory, out);
+    let told = respond(frame, memory, out);
     let length = seal(told, out);
     Written {
         refusal: TAKEN,

@@ -8,9 +8,8 @@ use lib.Dec.{ltb}
 use lib.ListN.{length}
 use Rattle.document.specs.Numbers.{mostData, done, messageTooLong}
 use Rattle.document.specs.Answer.{Answer}
-use Rattle.document.specs.Recorder.{Recorder, isRunning, recorderStarted, startedMemory}
-use Rattle.document.specs.Recorder.Recorder.{absent, planned}
-use Rattle.document.specs.Gate.{Gate, withMemory, withRecorder}
+use Rattle.document.specs.Recorder.{isRunning}
+use Rattle.document.specs.Gate.{Gate}
 use Rattle.document.specs.Commands.{served, prepare}
 use Rattle.document.specs.Panel.{prepareLines, panelPrepares, panelStarts}
 use Rattle.document.specs.declared.Operation.TheVariants.{Start}
@@ -31,13 +30,6 @@ given-said g setup = ap (λ (a : Answer). a.status) (sym (unless-alone g (prepar
 pub start-said : (g : Gate) (s : Service) (body : List ℕ) → served g (knownAs Start s) body ≡ panelStarts g
 unfolding served panelStarts
 start-said g s body = refl
-
--- refused or not: where nothing is set up, nothing starts
-pub started-gate : (g : Gate) (r : Recorder) → g.recorder ≡ r
-    → (panelStarts g).gate ≡ withMemory (withRecorder g (recorderStarted r)) (startedMemory r g.memory)
-unfolding panelStarts
-started-gate g absent has = rw has refl
-started-gate g (planned p run) has = rw has refl
 
 -- accepted, the data part is
 pub given-taken : (r : RecorderState) (setup : List ℕ) → givenStatus (recorderOf r) setup ≡ done

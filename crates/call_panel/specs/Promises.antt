@@ -3,7 +3,7 @@
 use Rattle.std.specs.Prelude.{◌≡◌, false, cond, List, ℕ, eqb, ltb, length}
 use Rattle.std.proofs.lemmas.List.Edits.{sets}
 use Rattle.document.specs.Numbers.{mostData, done, notServed, messageTooLong, taken}
-use Rattle.document.specs.Recorder.{Recorder, isRunning, startedMemory}
+use Rattle.document.specs.Recorder.{Recorder, isRunning}
 use Rattle.document.specs.Panel.{panelPrepares, panelStarts}
 use Rattle.recorder_state.specs.declared.state.Recorder.{Recorder as RecorderState}
 use Rattle.recorder_state.specs.State.{recorderOf}
@@ -12,7 +12,7 @@ use Rattle.recorder_state.specs.Preparing.{prepareStatus, preparedState}
 use Rattle.state_parts.specs.State.{withInstruments, Target, gateOf, withRecorder}
 use Rattle.state_block.specs.Layout.{decodedRecorder, decoded, encoded}
 use Rattle.state_block.specs.Changes.{blockWithRecorder}
-use Rattle.call_checks.specs.Promises.{prepareNumber, tickNumber}
+use Rattle.call_checks.specs.Promises.{panelNumber}
 use Rattle.call_panel.specs.declared.Said.{Said}
 
 -- ---- what is left of the recorder
@@ -39,26 +39,24 @@ preparedTarget setup t = recorderChanged t (givenNext t.instruments.recorder set
 abbrev pub startedTarget : Target → Target
 startedTarget t = recorderChanged t (startedState t.instruments.recorder)
 
--- ---- the calls. Where one is refused nothing was prepared or started, and so that the status alone does not read as success it is 0x81,
--- which neither call says when it is taken. A preparing is not lent the memory, and says the same whatever it is
+-- ---- the calls; whatever the memory is, which neither is lent. Where one is refused nothing was prepared or started, and so that the status
+-- alone does not read as success it is 0x81, which neither call says when it is taken
 
 pub record PrepareDone (block setup : List ℕ) (r : Said) (after : List ℕ) : Type 0 where
   pub result :
       (memory : List ℕ)
       → r
-      ≡ cond (eqb (prepareNumber block) taken)
+      ≡ cond (eqb (panelNumber block) taken)
       (record { refusal = taken; status = (panelPrepares (gateOf (decoded block).instruments memory) setup).answer.status })
-      (record { refusal = prepareNumber block; status = notServed })
+      (record { refusal = panelNumber block; status = notServed })
   pub state :
-      after ≡ cond (eqb (prepareNumber block) taken) (sets block 0 (encoded (preparedTarget setup (decoded block)))) block
+      after ≡ cond (eqb (panelNumber block) taken) (sets block 0 (encoded (preparedTarget setup (decoded block)))) block
 
-pub record StartDone (block memory : List ℕ) (r : Said) (after left : List ℕ) : Type 0 where
+pub record StartDone (block : List ℕ) (r : Said) (after : List ℕ) : Type 0 where
   pub result :
-      r
-      ≡ cond (eqb (tickNumber block memory) taken)
+      (memory : List ℕ)
+      → r
+      ≡ cond (eqb (panelNumber block) taken)
       (record { refusal = taken; status = (panelStarts (gateOf (decoded block).instruments memory)).answer.status })
-      (record { refusal = tickNumber block memory; status = notServed })
-  pub state : after ≡ cond (eqb (tickNumber block memory) taken) (sets block 0 (encoded (startedTarget (decoded block)))) block
-  pub memory-left :
-      left
-      ≡ cond (eqb (tickNumber block memory) taken) (startedMemory (recorderOf (decoded block).instruments.recorder) memory) memory
+      (record { refusal = panelNumber block; status = notServed })
+  pub state : after ≡ cond (eqb (panelNumber block) taken) (sets block 0 (encoded (startedTarget (decoded block)))) block

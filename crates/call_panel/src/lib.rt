@@ -5,7 +5,7 @@ ghost use Rattle.state_block.specs.Places.{stateLength};
 ghost use Rattle.state_block.specs.Layout.{decodedRecorder};
 ghost use Rattle.call_panel.specs.Promises.{givenStatus, Prepared, PrepareDone, StartDone};
 
-use call_checks::{check, tick_refusal};
+use call_checks::check;
 use codes_table::{DONE, MESSAGE_TOO_LONG, MOST_DATA, NOT_SERVED, TAKEN};
 use recorder_state::prepare_status;
 use state_block::recorder_runs;
@@ -58,11 +58,10 @@ pub fn prepare(state: &mut [u8], setup: &[u8]) -> Said
     }
 }
 
-// It writes the memory where something starts, and refuses as a tick does.
-pub fn start(state: &mut [u8], memory: &mut [u8]) -> Said
-    ensures { StartDone state.old memory.old result state.new memory.new }
+pub fn start(state: &mut [u8]) -> Said
+    ensures { StartDone state.old result state.new }
 {
-    let refusal = tick_refusal(state, memory);
+    let refusal = check(state);
     if refusal != TAKEN {
         return Said {
             refusal,
@@ -71,6 +70,6 @@ pub fn start(state: &mut [u8], memory: &mut [u8]) -> Said
     }
     Said {
         refusal: TAKEN,
-        status: serve_recorder::start(state, memory),
+        status: serve_recorder::start(state),
     }
 }

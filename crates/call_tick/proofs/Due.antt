@@ -4,18 +4,11 @@ use mathlib.Core.Bool.{true}
 use mathlib.Core.List.{List}
 use Prim.Native.Nat.{ℕ, ◌+◌, ◌*◌, ◌≤◌}
 use native.Mathlib.Omega.{arith}
-use borrow.Author.Tests.{leb-true}
 use lib.ListN.{get_or, take, drop}
-use Rattle.document.specs.Areas.{bufferBegin, memoryEnd, recordedEnd, mayBeRecorded}
-use Rattle.document.specs.Values.{number}
-use Rattle.document.specs.Stores.{stored}
-use Rattle.document.specs.declared.Variable.{Variable}
-use Rattle.document.specs.Variables.{definitionsIn, allMay, setSize, values_of}
-use Rattle.document.specs.Trigger.{triggerValue}
-use Rattle.memory_ranges.proofs.Stored.{bytes-before}
+use Rattle.document.specs.Areas.{bufferBegin, memoryEnd, mayBeRecorded}
+use Rattle.document.specs.Variables.{definitionsIn, allMay, setSize}
 use Rattle.recorder_history.proofs.Places.{place-room}
-use Rattle.recorder_plans.specs.declared.plan.Plan.{Plan}
-use Rattle.recorder_plans.specs.State.{triggerOf, plan_of}
+use Rattle.recorder_plans.specs.State.{plan_of}
 use Rattle.recorder_plans.specs.Bounds.{planSound}
 use Rattle.recorder_plans.proofs.Granted.{PlanBounds, plan-bounds}
 use Rattle.recorder_runs.specs.declared.run.Run.{Run}
@@ -44,10 +37,3 @@ module _ (block : List ℕ) (count : ℕ) (e : count ≡ get_or block recordedPl
   room run r =
       rw recorded
       (omega (arith, place-room run.place (decodedPlan block).samples (setSize (plan_of (decodedPlan block)).variables) (run-bounds (decodedPlan block) run r).place, bounds.room))
-
--- the trigger variable lies before the buffer, so a set leaves what it holds
-pub value-left : (p : Plan) → planSound p ≡ true → (m : List ℕ) (place : ℕ) (vs : List Variable)
-    → triggerValue (triggerOf p) (stored m (bufferBegin + place * setSize vs) (values_of m vs)) ≡ triggerValue (triggerOf p) m
-value-left p s m place vs =
-    let below : p.address + p.size ≤ recordedEnd = leb-true (p.address + p.size) recordedEnd (plan-bounds p s).trigger.below in
-    ap number (bytes-before (values_of m vs) m (bufferBegin + place * setSize vs) p.address p.size (omega (arith, below)))

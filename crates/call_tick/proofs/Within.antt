@@ -8,22 +8,26 @@ use lib.ListN.{length, get_or, set}
 use lib.Seq.{sets, length-sets, set-get_or}
 use Rattle.document.specs.Areas.{memoryEnd, bytes_at}
 use Rattle.document.specs.Values.{number, littleEndian}
-use Rattle.document.specs.Run.{setTaken, setCopied}
+use Rattle.document.specs.Stores.{stored}
+use Rattle.document.specs.Run.{placeBegins, setOf, setTaken}
+use Rattle.document.specs.Recorder.{tickedMemory}
 use Rattle.memory_ranges.proofs.Stored.{bytes-behind}
 use Rattle.bytes_fields.proofs.Ranges.{bytes-append, sets_same}
 use Rattle.bytes_fields.proofs.Numbers.{number-kept}
 use Rattle.recorder_plans.specs.State.{plan_of}
+use Rattle.recorder_plans.specs.Bounds.{planSound}
 use Rattle.recorder_runs.specs.declared.run.Run.{Run}
 use Rattle.recorder_runs.specs.State.{run_of, runKept, withWait}
 use Rattle.recorder_runs.specs.Bounds.{runSound}
 use Rattle.recorder_state.specs.declared.state.Recorder.{Recorder}
+use Rattle.recorder_state.specs.State.{recorderOf}
 use Rattle.recorder_state.specs.Bounds as recorder
 use Rattle.recorder_taking.specs.Tick.{tickedState}
 use Rattle.recorder_taking.proofs.Taken.{Leaves, parts, runs, absent-leaves, stopped-leaves, waiting-leaves, due-leaves}
 use Rattle.state_parts.specs.State.{withRecorder}
 use Rattle.state_parts.specs.Bounds.{sound}
 use Rattle.state_parts.proofs.Parts.{parts-of}
-use Rattle.state_block.specs.Places.{scopePlace, recorderPlace, runPlace, fullPlace, watchPlace, waitPlace, placePlace, valuePlace, setsPlace, stateLength}
+use Rattle.state_block.specs.Places.{scopePlace, recorderPlace, runPlace, fullPlace, watchPlace, waitPlace, placePlace, valuePlace, stateLength}
 use Rattle.state_block.specs.Layout.{decodedPlan, decodedRun, decodedRecorder, decodedInstruments, decoded, encodedRun, encodedInstruments, encoded}
 use Rattle.state_block.proofs.Parts.{sets-two}
 use Rattle.state_block.proofs.Stored.{same-instruments, run-stored, instruments-stored}
@@ -61,21 +65,11 @@ module _ (block memory : List ℕ) where
         ∙ ap (λ (l : List ℕ). set l watchPlace (get_or block watchPlace 0)) (set-get_or block fullPlace 0)
         ∙ set-get_or block watchPlace 0
 
-    -- place, value and number, behind it
-    abbrev behind : List ℕ
-    behind =
-        littleEndian 2 (number (bytes_at block placePlace 2))
-        ++ littleEndian 4 (number (bytes_at block valuePlace 4))
-        ++ littleEndian 2 (number (bytes_at block setsPlace 2))
-
-    behind-kept : behind ≡ bytes_at block placePlace 8
+    -- place and value, behind it
+    behind-kept : littleEndian 2 (number (bytes_at block placePlace 2)) ++ littleEndian 4 (number (bytes_at block valuePlace 4)) ≡ bytes_at block placePlace 6
     behind-kept =
-        (λ i.
-        number-kept block small placePlace 2 (omega arith) i
-        ++ number-kept block small valuePlace 4 (omega arith) i
-        ++ number-kept block small setsPlace 2 (omega arith) i)
-        ∙ (λ i. bytes-append block placePlace 2 4 i ++ bytes_at block setsPlace 2)
-        ∙ bytes-append block placePlace 6 2
+        (λ i. number-kept block small placePlace 2 (omega arith) i ++ number-kept block small valuePlace 4 (omega arith) i)
+        ∙ bytes-append block placePlace 2 4
 
     wait-stored : (wait : ℕ)
         → sets block waitPlace (littleEndian 2 wait)
@@ -83,12 +77,13 @@ module _ (block memory : List ℕ) where
         (encodedRun (withWait (decodedRun block) wait))
     unfolding encodedRun
     wait-stored wait =
+        let behind = littleEndian 2 (number (bytes_at block placePlace 2)) ++ littleEndian 4 (number (bytes_at block valuePlace 4)) in
         let waits = sets block waitPlace (littleEndian 2 wait) in
         sym
         (ap (λ (l : List ℕ). sets l waitPlace (littleEndian 2 wait ++ behind)) front_same
         ∙ sets-two block (littleEndian 2 wait) behind waitPlace 2 placePlace refl refl
-        ∙ ap (sets waits placePlace) (behind-kept ∙ sym (bytes-behind (littleEndian 2 wait) block waitPlace placePlace 8 (omega arith)))
-        ∙ sets_same 8 waits placePlace (omega (arith, length-sets block waitPlace (littleEndian 2 wait))))
+        ∙ ap (sets waits placePlace) (behind-kept ∙ sym (bytes-behind (littleEndian 2 wait) block waitPlace placePlace 6 (omega arith)))
+        ∙ sets_same 6 waits placePlace (omega (arith, length-sets block waitPlace (littleEndian 2 wait))))
 
     -- ---- the cases, by what is read
 
@@ -124,7 +119,6 @@ module _ (block memory : List ℕ) where
             let p = parts (decodedRecorder block) memory recorder-sound n in
             record {
               long = long;
-              there = e;
               plan-sound = p.plan;
               run_sound = ap (runSound (decodedPlan block)) e ∙ p.run;
               runs = ap (λ (r : Run). r.running) e ∙ runs (decodedRecorder block) memory recorder-sound n goes;
@@ -138,6 +132,6 @@ module _ (block memory : List ℕ) where
             let d = due-leaves (decodedRecorder block) memory recorder-sound n goes (sym (ap (λ (r : Run). r.wait) e) ∙ omega arith) in
             let same : next ≡ runKept (setTaken (plan_of (decodedPlan block)) (run_of (decodedRun block)) memory) =
             took.run-after ∙ ap (λ (r : Run). runKept (setTaken (plan_of (decodedPlan block)) (run_of r) memory)) e in
-            let there = took.memory-left ∙ ap (λ (r : Run). setCopied (plan_of (decodedPlan block)) (run_of r) memory) e in
+            let there = took.memory-left ∙ ap (λ (r : Run). stored memory (placeBegins (plan_of (decodedPlan block)) r.place) (setOf (plan_of (decodedPlan block)) memory)) e in
             let t = run-left (runKept (setTaken (plan_of (decodedPlan block)) (run_of (decodedRun block)) memory)) after _ (a ∙ ap (λ (r : Run). sets block runPlace (encodedRun r)) same) d in
             record { state = t.state; memory-left = there ∙ t.memory-left }

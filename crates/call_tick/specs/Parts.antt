@@ -2,7 +2,8 @@
 use Rattle.std.specs.Prelude.{◌≡◌, true, List, ℕ, ◌≤◌, length}
 use Rattle.std.proofs.lemmas.List.Edits.{sets}
 use Rattle.document.specs.Areas.{memoryEnd}
-use Rattle.document.specs.Run.{setTaken, setCopied}
+use Rattle.document.specs.Stores.{stored}
+use Rattle.document.specs.Run.{placeBegins, setOf, setTaken}
 use Rattle.document.specs.Recorder.{tickedMemory}
 use Rattle.recorder_plans.specs.State.{plan_of}
 use Rattle.recorder_plans.specs.Bounds.{planSound}
@@ -11,14 +12,13 @@ use Rattle.recorder_runs.specs.State.{run_of, runKept}
 use Rattle.recorder_runs.specs.Bounds.{runSound}
 use Rattle.recorder_state.specs.State.{recorderOf}
 use Rattle.state_block.specs.Places.{stateLength}
-use Rattle.state_block.specs.Layout.{decoded, encoded, decodedPlan, decodedRun, decodedRecorder}
+use Rattle.state_block.specs.Layout.{decoded, encoded, decodedPlan, decodedRecorder}
 use Rattle.call_tick.specs.Promises.{tickedTarget}
 
 -- ---- a set that is due
 
 pub record Due (block : List ℕ) (run : Run) (memory : List ℕ) : Type 0 where
   pub long : stateLength ≤ length block
-  pub there : run ≡ decodedRun block
   pub plan-sound : planSound (decodedPlan block) ≡ true
   pub run_sound : runSound (decodedPlan block) run ≡ true
   pub runs : run.running ≡ 1
@@ -26,7 +26,7 @@ pub record Due (block : List ℕ) (run : Run) (memory : List ℕ) : Type 0 where
 
 pub record Took (block : List ℕ) (run : Run) (memory : List ℕ) (next : Run) (left : List ℕ) : Type 0 where
   pub run-after : next ≡ runKept (setTaken (plan_of (decodedPlan block)) (run_of run) memory)
-  pub memory-left : left ≡ setCopied (plan_of (decodedPlan block)) (run_of run) memory
+  pub memory-left : left ≡ stored memory (placeBegins (plan_of (decodedPlan block)) run.place) (setOf (plan_of (decodedPlan block)) memory)
 
 -- ---- a tick
 

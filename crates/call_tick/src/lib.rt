@@ -11,23 +11,20 @@ use bytes_fields::put_word;
 use bytes_widths::usize_of_u8;
 use call_checks::tick_refusal;
 use codes_table::TAKEN;
-use memory_ranges::NUMBER;
 use recorder_runs::Run;
 use recorder_taking::{take_set, trigger_value};
 use state_block::{READY, RECORDED, RECORDED_DEFINITIONS, WAIT, plan_in, put_run, run_in};
 
-// A set that is due goes to its place of the ring, by the definitions in the block. Behind the copying, which leaves the trigger variable, plan
-// and run are read, and the set is counted in the memory. The result is the run after it.
+// A set that is due goes to its place of the ring, by the plan and the definitions in the block. The result is the run after it.
 fn take(state: &[u8], memory: &mut [u8], run: Run) -> Run
     requires { Due state.now run memory.old }
     ensures { Took state.now run memory.old result memory.new }
 {
+    let plan = plan_in(state);
+    let value = trigger_value(plan, memory);
     let count = usize_of_u8(state[RECORDED]);
     take_set(memory, run.place, state, RECORDED_DEFINITIONS, count);
-    let plan = plan_in(state);
-    let next = run_in(state).after_set(plan, trigger_value(plan, memory));
-    put_word(memory, NUMBER, next.number);
-    next
+    run.after_set(plan, value)
 }
 
 // A tick that nothing refuses: only the recorder's run changes, and while it waits only the wait.

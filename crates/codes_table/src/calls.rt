@@ -19,5 +19,3 @@ pub const RESULT_REFUSED: u8 = 7;
 pub const LIST_REFUSED: u8 = 8;
 
 pub const STATION_REFUSED: u8 = 9;
-
-pub const FILE_REFUSED: u8 = 10;

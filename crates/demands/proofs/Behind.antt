@@ -15,8 +15,7 @@ use Rattle.application_state.proofs.Means.{new-few}
 use Rattle.state_block.specs.Layout.{decodedApplication, decoded}
 use Rattle.call_checks.specs.Promises.{blockSound}
 use Rattle.call_checks.proofs.ApplicationNumbers.{collect-known}
-use Rattle.call_modbus.specs.Promises.{tablesIn}
-use Rattle.call_modbus.proofs.Refusals.{lent-right}
+use Rattle.call_modbus.proofs.Answers.{lent-right}
 use Rattle.laws_calls.specs.Calls.{Call, Lent, Left, length_of, commandIn, Outcome, number_of, leaves, kept}
 use Rattle.laws_calls.specs.Promised.{Promised}
 use Rattle.laws_calls.proofs.Settled.{taken-leaves, call-refused}
@@ -44,11 +43,11 @@ module _ (l : Lent) (o : Outcome) where
   pub modbus-behind : (station : ℕ) (bytes : List ℕ) → Promised l (Call.frame station bytes) o
       → BehindKept modbusRoom l.buffer (length_of o.left) o.left.buffer
   modbus-behind station bytes p =
-      let answer : List ℕ = modbusAnswer station bytes (tablesIn l.block) l.memory in
-      let short : length answer ≤ modbusRoom = modbus-fits station bytes (tablesIn l.block) l.memory in
+      let answer : List ℕ = modbusAnswer station bytes l.memory in
+      let short : length answer ≤ modbusRoom = modbus-fits station bytes l.memory in
       either modbusRoom (Call.frame station bytes) l o p
       (λ fine.
-      let room = (lent-right l.block station l.memory l.buffer fine).room in
+      let room = (lent-right station l.memory l.buffer fine).room in
       record { behind = sets_behind answer l.buffer (omega (arith, short, room)); fits = short })
       refl
 

@@ -10,16 +10,15 @@ use lib.Seq.{sets}
 use Rattle.document.specs.Bytes.{AllBytes}
 use Rattle.document.specs.Stores.{stored}
 use Rattle.document.specs.Areas.{variablesEnd}
-use Rattle.document.specs.Recorder.{startedMemory, ticked as ticks, tickedMemory}
+use Rattle.document.specs.Recorder.{ticked as ticks, tickedMemory}
 use Rattle.document.specs.Application.{newCommand, isCollected, afterCollect, afterReport}
 use Rattle.document.specs.Gate.{Gate}
-use Rattle.document.specs.Files.{importedMemory}
 use Rattle.document.specs.Modbus.{modbusMemory}
 use Rattle.document.specs.Asides.{Aside, beside}
-use Rattle.document.specs.Asides.Aside.{tick, writes, collects, reports, prepares, starts, frames, imports}
+use Rattle.document.specs.Asides.Aside.{tick, writes, collects, reports, prepares, starts, frames}
 use Rattle.document.specs.Happenings.{Since, after}
 use Rattle.document.specs.Happenings.Happening.{aside}
-use Rattle.document.proofs.Cases.{split, neither}
+use Rattle.document.proofs.Cases.{neither}
 use Rattle.scope_state.specs.State.{scope_of}
 use Rattle.recorder_state.specs.declared.state.Recorder.{Recorder as RecorderState}
 use Rattle.recorder_state.specs.State.{recorderOf}
@@ -31,19 +30,17 @@ use Rattle.recorder_taking.proofs.Ticked.{ticked-means}
 use Rattle.tables_state.specs.State.{tables_of}
 use Rattle.state_parts.specs.State.{Target, gateOf}
 use Rattle.state_parts.specs.Within.{RecorderWithin, CommandWithin, MemoryWithin, Within}
-use Rattle.state_parts.proofs.Keeps.{recorder-started, recorder-ticked, command-collected, command-ended, memory-stored, memory-ticked, memory-started}
+use Rattle.state_parts.proofs.Keeps.{recorder-started, recorder-ticked, command-collected, command-ended, memory-stored, memory-ticked}
 use Rattle.state_block.specs.Layout.{decoded, encoded}
 use Rattle.call_checks.specs.Promises.{blockSound}
 use Rattle.call_checks.proofs.ApplicationNumbers.{collect-known, report-known}
-use Rattle.call_modbus.proofs.Refusals.{lent-right}
+use Rattle.call_modbus.proofs.Answers.{lent-right}
 use Rattle.laws_modbus.proofs.Kept.{frame-keeps-length, frame-keeps-bytes}
-use Rattle.laws_files.proofs.Records.{import-length, import-bytes}
 use Rattle.call_panel.specs.Promises.{givenNext}
 use Rattle.call_panel.proofs.Kept.{prepare-means, start-means, given-within}
-use Rattle.laws_happenings.specs.Asides.{CommandStep, commandAfter, ifAny, handedBy, RecorderStep, recorderAfter, isAnew, row, isFrame}
+use Rattle.laws_happenings.specs.Asides.{CommandStep, commandAfter, ifAny, handedBy, RecorderStep, recorderAfter, row, isFrame}
 use Rattle.laws_happenings.specs.Asides.CommandStep.{kept, collected, reported}
 use Rattle.laws_happenings.specs.Asides.RecorderStep.{stays, ticked, prepared, started}
-use Rattle.laws_happenings.proofs.Panel.{start-stored}
 use Rattle.laws_happenings.proofs.Asides.{leaves}
 use Rattle.laws_calls.specs.Calls.{Call, commandIn}
 use Rattle.laws_calls.specs.Calls as call
@@ -87,7 +84,7 @@ pub record Becomes (h : Board) (s : Since) (a : Aside) (next : Board) : Type 0 w
   -- what goes out
   pub answers : next.answers ≡ h.answers
   pub commands : next.commands ≡ h.commands ++ handedBy (row a).command (gateIn h).application
-  pub modbus-answers : next.modbus-answers ≡ h.modbus-answers ++ ifAny ((row a).answer (gateIn h).tables h.memory)
+  pub modbus-answers : next.modbus-answers ≡ h.modbus-answers ++ ifAny ((row a).answer h.memory)
 
 module _ (h : Board) (s : Since) (r : Reached h s) where
   abbrev now : Target
@@ -114,13 +111,10 @@ module _ (h : Board) (s : Since) (r : Reached h s) where
   memory-is : h.memory ≡ s.gate.memory
   memory-is = ap (λ (g : Gate). g.memory) r.stands.gate
 
-  tables-is : (gateIn h).tables ≡ s.gate.tables
-  tables-is = ap (λ (g : Gate). g.tables) r.stands.gate
-
   -- another memory, and an answer of the second port or none
   becomes-memory : (a : Aside) (next : Board) → (row a).recorder ≡ stays → (row a).command ≡ kept → next.block ≡ h.block → MemoryWithin next.memory
       → next.memory ≡ (beside s.gate a).memory → next.answers ≡ h.answers → next.commands ≡ h.commands
-      → next.modbus-answers ≡ h.modbus-answers ++ ifAny ((row a).answer (gateIn h).tables h.memory) → Becomes h s a next
+      → next.modbus-answers ≡ h.modbus-answers ++ ifAny ((row a).answer h.memory) → Becomes h s a next
   becomes-memory a next still free block within means answers commands modbus =
       record {
         recorder = now.instruments.recorder;
@@ -163,7 +157,7 @@ module _ (h : Board) (s : Since) (r : Reached h s) where
         commands = ap (λ (q : Board). q.commands) is;
         modbus-answers =
             ap (λ (q : Board). q.modbus-answers) is
-            ∙ ap (λ (l : List ℕ). h.modbus-answers ++ ifAny l) (sym ((leaves s.gate a).silent quiet (gateIn h).tables h.memory));
+            ∙ ap (λ (l : List ℕ). h.modbus-answers ++ ifAny l) (sym ((leaves s.gate a).silent quiet h.memory));
       }
 
   pub becomes : (a : Aside) (next : Board) → AllBytes (row a).brings → Step h (aside a) next → Becomes h s a next
@@ -217,45 +211,19 @@ module _ (h : Board) (s : Since) (r : Reached h s) where
       (sym (ap (λ (g : Gate). g.recorder) (prepare-means s.gate k (sym recorder-is) setup))) command-is (λ never. neither (ap isStays never)) (λ same. refl)
   becomes starts next are step =
       let k : RecorderState = now.instruments.recorder in
-      let is = next_of Call.start next step tt in
-      record {
-        recorder = startedState k;
-        command = now.instruments.application;
-        block = ap (λ (q : Board). q.block) is;
-        recorder-within = recorder-started k r.within.recorder-part;
-        command-within = r.within.application-part;
-        memory-within = subst MemoryWithin (sym (ap (λ (q : Board). q.memory) is)) (memory-started (recorderOf k) h.memory r.within.memory-part);
-        recorder-means = sym (ap (λ (g : Gate). g.recorder) (start-means s.gate k (sym recorder-is)));
-        command-means = command-is;
-        memory-means =
-            ap (λ (q : Board). q.memory) is
-            ∙ ap (λ (g : Gate). startedMemory g.recorder g.memory) r.stands.gate
-            ∙ sym (start-stored s.gate);
-        recorder-stays = λ never. neither (ap isStays never);
-        command-kept = λ same. refl;
-        answers = ap (λ (q : Board). q.answers) is ∙ append-nil h.answers;
-        commands = ap (λ (q : Board). q.commands) is;
-        modbus-answers = ap (λ (q : Board). q.modbus-answers) is;
-      }
+      becomes-state starts next (startedState k) now.instruments.application refl refl (next_of Call.start next step tt)
+      (recorder-started k r.within.recorder-part) r.within.application-part
+      (sym (ap (λ (g : Gate). g.recorder) (start-means s.gate k (sym recorder-is)))) command-is (λ never. neither (ap isStays never)) (λ same. refl)
   becomes (frames station bytes) next are step =
-      let room = (lent-right (lends h.block step.made.block) station (lends h.memory step.made.memory) step.made.buffer (taken-number (Call.frame station bytes) h next step (kept_of h s r))).room in
+      let room = (lent-right station (lends h.memory step.made.memory) step.made.buffer (taken-number (Call.frame station bytes) h next step (kept_of h s r))).room in
       let m = r.within.memory-part in
       let is =
       next_of (Call.frame station bytes) next step are
-      ∙ ap (behind h h.block (modbusMemory station bytes (gateIn h).tables h.memory)) (frame-sends (wholly h step.made.buffer) station bytes room) in
+      ∙ ap (behind h h.block (modbusMemory station bytes h.memory)) (frame-sends (wholly h step.made.buffer) station bytes room) in
       becomes-memory (frames station bytes) next refl refl (ap (λ (q : Board). q.block) is)
       (subst MemoryWithin (sym (ap (λ (q : Board). q.memory) is))
-      (record { size = frame-keeps-length station bytes (gateIn h).tables h.memory ∙ m.size; bytes = frame-keeps-bytes station bytes (gateIn h).tables h.memory are m.bytes }))
-      (ap (λ (q : Board). q.memory) is ∙ (λ j. modbusMemory station bytes (tables-is j) (memory-is j)))
-      (ap (λ (q : Board). q.answers) is ∙ append-nil h.answers) (ap (λ (q : Board). q.commands) is ∙ append-nil h.commands)
-      (ap (λ (q : Board). q.modbus-answers) is)
-  becomes (imports text) next are step =
-      let m = r.within.memory-part in
-      let is = next_of (Call.import text) next step are in
-      becomes-memory (imports text) next refl refl (ap (λ (q : Board). q.block) is)
-      (subst MemoryWithin (sym (ap (λ (q : Board). q.memory) is))
-      (record { size = import-length text h.memory ∙ m.size; bytes = import-bytes text h.memory m.bytes }))
-      (ap (λ (q : Board). q.memory) is ∙ ap (importedMemory text) memory-is)
+      (record { size = frame-keeps-length station bytes h.memory ∙ m.size; bytes = frame-keeps-bytes station bytes h.memory are m.bytes }))
+      (ap (λ (q : Board). q.memory) is ∙ ap (modbusMemory station bytes) memory-is)
       (ap (λ (q : Board). q.answers) is ∙ append-nil h.answers) (ap (λ (q : Board). q.commands) is ∙ append-nil h.commands)
       (ap (λ (q : Board). q.modbus-answers) is)
 
@@ -294,10 +262,7 @@ module _ (h : Board) (s : Since) (r : Reached h s) where
           recorder = λ still. ap (λ (q : Target). q.instruments.recorder) here ∙ b.recorder-stays still;
           application = λ free. ap (λ (q : Target). q.instruments.application) here ∙ b.command-kept free;
           memory = λ none. b.memory-means ∙ left.memory none ∙ sym memory-is;
-          rest = λ other quiet old.
-              ap (drop variablesEnd) b.memory-means
-              ∙ left.rest other quiet (ap (λ (g : Gate). isAnew (row a).recorder g) (sym r.stands.gate) ∙ old)
-              ∙ ap (drop variablesEnd) (sym memory-is);
+          rest = λ other quiet. ap (drop variablesEnd) b.memory-means ∙ left.rest other quiet ∙ ap (drop variablesEnd) (sym memory-is);
           commands = b.commands;
           modbus-answers = b.modbus-answers;
         }

@@ -23,7 +23,7 @@ use Rattle.call_checks.proofs.Settled.{long-decides}
 use Rattle.laws_calls.specs.Calls.{Call, Lent, Left, Sent, Found, Done, foundBy, doneBy, row, number_of, leaves, sends, kept}
 use Rattle.laws_calls.proofs.Settled.{taken-leaves, call-refused}
 use Rattle.laws_calls.proofs.Known.{known}
-use Rattle.laws_calls.proofs.Bounds.{stores-lent, lengths, does-within}
+use Rattle.laws_calls.proofs.Bounds.{lengths, does-within}
 use Rattle.demands.specs.Board.{Board, behind}
 use Rattle.demands.specs.Pieces.{Piece, lends, handedBack}
 use Rattle.demands.specs.Run.{wholly, Makes, Takes, partly, Refuses, Ready}
@@ -117,27 +117,27 @@ module _ (c : Call) (h next : Board) (t : Takes c h next) (k : Kept h) where
   buffer-is = ap (λ (x : Left). x.buffer) left_here ∙ ap (λ (d : Done). d.buffer) done-same
 
   -- and so is the board
-  module _ (brings : (row c).stores ≡ true → AllBytes (row c).brings) where
-    within-next : (row c).stores ≡ true → Within (doneBy c (lent c h next t.made)).state (cond (row c).on-memory (doneBy c (lent c h next t.made)).memory h.memory)
+  module _ (brings : (row c).on-block ≡ true → AllBytes (row c).brings) where
+    within-next : (row c).on-block ≡ true → Within (doneBy c (lent c h next t.made)).state (cond (row c).on-memory (doneBy c (lent c h next t.made)).memory h.memory)
     within-next on =
         does-within l h.memory k.within.memory-part
-        (λ ok. subst (λ (s : Target). Within s h.memory) (sym (state-same (stores-lent c on))) k.within)
+        (λ ok. subst (λ (s : Target). Within s h.memory) (sym (state-same on)) k.within)
         c on (split (row c).on-memory (λ lent. rw lent (memory-same lent)) (λ none. rw none refl)) (brings on) taken-number
 
     block_back : handedBack h.block t.made.block (leaves c (lent c h next t.made)).block ≡ (leaves c (wholly h t.made.buffer)).block
     block_back =
-        split (row c).stores
+        split (row c).on-block
         (λ on.
         let next : Target = (doneBy c l).state in
         let size = encoded-length next (within-fits next _ (within-next on)) in
         rw on
-        (stored_back h.block t.made.block (encoded next) (omega (arith, size, k.long)) (omega (arith, size, (lengths l c taken-number).block (stores-lent c on)))
+        (stored_back h.block t.made.block (encoded next) (omega (arith, size, k.long)) (omega (arith, size, (lengths l c taken-number).block on))
         ∙ ap (λ (d : Done). sets h.block 0 (encoded d.state)) done-same))
         (λ off. rw off (lent_back h.block t.made.block))
 
     memory-size : (row c).on-memory ≡ true → length (doneBy c (lent c h next t.made)).memory ≡ length h.memory
     memory-size on =
-        split (row c).stores
+        split (row c).on-block
         (λ lent. (rw on at (within-next lent).memory-part.size) ∙ sym k.within.memory-part.size)
         (λ none. (lengths l c taken-number).kept none ∙ ap length (memory-same on))
 

@@ -1,10 +1,10 @@
 -- The three demands and the recorder's history, proved of the calls that are linked into the gate.
 --
 -- A run is any list of things that happen since reset, each by its call: a byte comes over the port, or a block of them, the gate ticks,
--- its own program collects a command, reports a result or imports a calibration file, the front panel prepares or starts the recorder, a
--- frame comes over the second port; or the gate's own program writes its memory; and refused calls stand anywhere among them. Of a call
--- only its promise is known (`laws_calls.Promised.Promised` names it), and that promise is the contract that the prover holds the compiled
--- function to. What the calls are compared with is document 01 and the requests as definitions (`document`), never a program.
+-- its own program collects a command or reports a result, the front panel prepares or starts the recorder, a frame comes over the
+-- second port; or the gate's own program writes its memory; and refused calls stand anywhere among them. Of a call only its promise is
+-- known (`laws_calls.Promised.Promised` names it), and that promise is the contract that the prover holds the compiled function to. What
+-- the calls are compared with is document 01 and the requests as definitions (`document`), never a program.
 use mathlib.Core.Path.{◌≡◌, refl, sym, ap, subst, ◌∙◌}
 use mathlib.Core.Bool.{Bool, true, false, cond}
 use mathlib.Core.List.{List, [], ◌∷◌, ◌++◌}
@@ -13,7 +13,7 @@ use lib.Dec.{ltb}
 use lib.ListN.{length, drop}
 use Rattle.document.specs.Numbers.{mostData, answerRoom, taken, done, busy, sumWrong}
 use Rattle.document.specs.Bytes.{AllBytes}
-use Rattle.document.specs.Areas.{variablesEnd, numberPlace, bytes_at}
+use Rattle.document.specs.Areas.{variablesEnd}
 use Rattle.document.specs.Message.{Message, sumRight, summed, wellFormed, onWire, finishedBy}
 use Rattle.document.specs.Answer.{Answer}
 use Rattle.document.specs.AnswerWriter.{answerRefusal}
@@ -29,24 +29,17 @@ use Rattle.document.specs.Sets.{setsTaken}
 use Rattle.document.specs.Application.{isPending}
 use Rattle.document.specs.Application.Application.{waiting}
 use Rattle.document.specs.Tables.{Table}
-use Rattle.document.specs.Marks.{isMarked}
-use Rattle.document.specs.Services.{serviceOf}
-use Rattle.document.specs.Fields.{sizeField, addressField}
 use Rattle.document.specs.Gate.{Gate, says, registered as gate}
 use Rattle.document.specs.Refusals.{refusal}
 use Rattle.document.specs.Commands.{answered}
 use Rattle.document.specs.Panel.{panelPrepares, panelStarts}
-use Rattle.document.specs.Frames.{firstIn}
-use Rattle.document.specs.Modbus.{exceptionTo, modbusRoom}
-use Rattle.document.specs.declared.Function.{Function}
+use Rattle.document.specs.Modbus.{modbusRoom}
 use Rattle.document.specs.Asides.{Aside}
-use Rattle.document.specs.Files.{calibrationOf, exportText}
-use Rattle.document.specs.Asides.Aside.{tick, reports, prepares, starts, frames, imports}
+use Rattle.document.specs.Asides.Aside.{tick, reports, prepares, starts, frames}
 use Rattle.document.specs.Happenings.{Happening, Since, after as happened, afterAll, fromReset as since}
 use Rattle.document.specs.Happenings.Happening.{byte, aside}
 use Rattle.recorder_history.specs.History.{memoriesLeft, TriggersNext, Unstopped}
 use Rattle.recorder_history.specs.Trace.{index_after, RisingWord}
-use Rattle.recorder_history.specs.Number.{shownIn}
 use Rattle.line_wire.specs.declared.Written.{Written}
 use Rattle.line_wire.specs.AnswerWritten.{AnswerWritten}
 use Rattle.line_receiver.specs.Report.{Beside, sinceReset}
@@ -56,13 +49,9 @@ use Rattle.line_commands.specs.CommandWritten.{CommandWritten}
 use Rattle.document_outcomes.specs.Starts.{isStart, Begins}
 use Rattle.document_outcomes.proofs.Recording.{start-begins}
 use Rattle.laws_happenings.specs.Asides.{waitingIn, preparesAnew, startsAnew, row}
-use Rattle.laws_marks.specs.Tables.{untabled}
-use Rattle.laws_marks.specs.Ranges.{writtenBytes}
-use Rattle.laws_marks.proofs.Unmarked.{unmarked-refusal as free-refusal, unmarked-exception as free-exception}
-use Rattle.laws_happenings.specs.Bytes.{bytes_of, besideBytes, IsBytes, AreBytes}
-use Rattle.laws_happenings.specs.Marks.{AllTablesLeft, isTraffic, ownMemory}
+use Rattle.laws_happenings.specs.Bytes.{bytes_of, besideBytes, AreBytes}
 use Rattle.laws_happenings.specs.Due.{AllDue}
-use Rattle.laws_happenings.specs.Recording.{events, ticksOf, AllUnstarted, AllUndisturbed, AllUnwritten}
+use Rattle.laws_happenings.specs.Recording.{events, ticksOf, AllUnstarted, AllUndisturbed}
 use Rattle.document_outcomes.specs.Sending.{sends, unrefusedSoFar}
 use Rattle.document_outcomes.proofs.Sending.{while-pending}
 use Rattle.laws_happenings.specs.Applying.{sentOf, AllUnreported}
@@ -77,8 +66,6 @@ use Rattle.state_block.specs.Layout.{decoded}
 use Rattle.call_checks.specs.Promises.{Checked}
 use Rattle.call_reader.specs.declared.calls.ReadByte.{ReadByte}
 use Rattle.call_reader.specs.Promises.{BeginDone, ReadDone}
-use Rattle.call_capture.specs.declared.Listed.{Listed}
-use Rattle.call_capture.specs.Promises.{CaptureDone}
 use Rattle.laws_calls.specs.Calls as call
 use Rattle.laws_calls.specs.Calls.{Call, Lent, length_of, tookOf, wroteOf, Outcome, CallRefused}
 use Rattle.laws_calls.specs.Promised.{Promised}
@@ -86,9 +73,7 @@ use Rattle.laws_calls.specs.Bounds.{BytesLent, HandedOut}
 use Rattle.laws_calls.proofs.Settled as settled
 use Rattle.laws_calls.proofs.Settled.{call-refused}
 use Rattle.laws_calls.proofs.Bounds.{handed-out-bounded}
-use Rattle.laws_calls.proofs.Allowed.{prepare-alike}
-use Rattle.laws_captures.specs.Answered.{CaptureRefused}
-use Rattle.laws_captures.proofs.Outcomes.{capture-refused}
+use Rattle.laws_calls.proofs.Allowed.{prepare-alike, start-alike}
 use Rattle.laws_ends.specs.Refused.{WriteRefused, BeginRefused, ReadRefused}
 use Rattle.laws_ends.specs.Readings.{ByRead, Readings, Reads, SixExactly}
 use Rattle.laws_ends.specs.Exchange.{Wrote, ReadSince, Expects}
@@ -107,19 +92,17 @@ use Rattle.demands.specs.AsDefined.{blank, AsDefined}
 use Rattle.demands.specs.Touches.{Touches}
 use Rattle.demands.specs.Buffers.{BehindKept, BlockAsDefined}
 use Rattle.demands.specs.Fresh.{AnsweredFresh, NothingByHalf}
-use Rattle.demands.specs.Recorded.{Recorded, Numbered, RealSets}
+use Rattle.demands.specs.Recorded.{Recorded}
 use Rattle.demands.specs.Recorder.{Begun, RunsOn, FiresAtFirst, OnlyItsPlace}
-use Rattle.demands.specs.Trace.{TraceKept, TraceStays, takesSet, Watches, Indexed, statusAnswer, queryAnswer, numberAnswer}
+use Rattle.demands.specs.Trace.{TraceKept, TraceStays, takesSet, Watches, Indexed, statusAnswer, queryAnswer}
 use Rattle.demands.specs.Applying.{OnlySaid, TellsResult}
 use Rattle.demands.specs.Ports.{OnlyVariables, SinceReset, SameService}
-use Rattle.demands.specs.Files.{OnlyCalibration}
 use Rattle.demands.specs.Sums.{SumExactly}
 use Rattle.demands.specs.EndToEnd.{EndToEnd}
-use Rattle.demands.specs.Captures.{CaptureAnswered, CaptureGrows}
 use Rattle.demands.proofs.Wire as wire
 use Rattle.demands.proofs.Calls.{refused-kept, said-is, ready}
 use Rattle.demands.proofs.Exists.{takes_all}
-use Rattle.demands.proofs.Reached.{Reached, kept, reached-begun, bytes_on, plan-fits, plan-samples}
+use Rattle.demands.proofs.Reached.{Reached, kept, reached-begun, bytes_on, plan-fits}
 use Rattle.demands.proofs.Besides.{becomes, touches}
 use Rattle.demands.proofs.Runs.{byte-behind, reached-step, run-hands, run-answers}
 use Rattle.demands.proofs.RunsExist.{run-there}
@@ -128,22 +111,17 @@ use Rattle.demands.proofs.Blocks.{singly, reached-run}
 use Rattle.demands.proofs.Cuts.{cut}
 use Rattle.demands.proofs.Fresh.{answered-fresh, by-half}
 use Rattle.demands.proofs.Recorded.{recorded}
-use Rattle.demands.proofs.Number.{numbered, real}
 use Rattle.demands.proofs.Recorder.{start-begun, panel-begun, panel-prepared, tick-touches, run-fires, run-stops}
 use Rattle.demands.proofs.Applying.{only-said, sent-waits}
 use Rattle.demands.proofs.Trace as trace
 use Rattle.demands.proofs.Behind.{modbus-behind, collect-kept}
 use Rattle.demands.proofs.Ports.{frame-only}
-use Rattle.demands.proofs.Marks.{step-leaves, marked-stays}
 use Rattle.demands.proofs.Independent.{service-runs, modbus-runs}
 use Rattle.demands.proofs.Noise.{noise-unheard}
-use Rattle.demands.proofs.Files as files
-use Rattle.demands.proofs.Files.{import-only}
 use Rattle.demands.proofs.EndToEnd.{answer-comes-back}
 use Rattle.demands.proofs.Results.{told-result}
 use Rattle.demands.proofs.Sums.{finished-exactly}
 use Rattle.demands.proofs.Names.{names-come}
-use Rattle.demands.proofs.Captures.{all-answered, grows}
 
 -- ---- Demand 1: "The line may bring anything at any moment without a fault. No entry relies on its caller. Each refusal has one
 -- number from the document, given exactly when the document says, and changes no byte lent to the call (a refusal sent on the
@@ -187,10 +165,6 @@ demand-1-begin = both_ends.begin-refused
 pub demand-1-read : (block : List ℕ) (b : ℕ) (buffer : List ℕ) (r : ReadByte) (after told : List ℕ) → ReadDone block b buffer r after told
     → ReadRefused block b buffer r after told
 demand-1-read = both_ends.read-refused
-
--- a capture's list (2026-11)
-pub demand-1-capture : (bytes before : List ℕ) (r : Listed) (after : List ℕ) → CaptureDone bytes before r after → CaptureRefused bytes before r after
-demand-1-capture = capture-refused
 
 -- on the wire
 pub demand-1-wire : (g : Gate) (m : Message) → WireRefused g m
@@ -244,7 +218,7 @@ module _ (block memory : List ℕ) (tables : List Table) (after : List ℕ) (lon
   demand-1-behind b next call = byte-behind h reached there b next call
 
   -- ---- Demand 2: "Messages, commands and recorder do exactly what AN2471/D and the MCBCOM manual define, as document 01
-  -- sets them out.": after any run the answers, the memory, the scope, the recorder, the application and the tables are the definition's
+  -- sets them out.": after any run the answers, the memory, the scope, the recorder and the application are the definition's
 
   pub demand-2 : AsDefined h (afterAll (since (gate tables memory)) first)
   demand-2 = there.stands
@@ -274,11 +248,11 @@ module _ (block memory : List ℕ) (tables : List Table) (after : List ℕ) (lon
     pub demand-2-start : step.made.outcome.left.said ≡ (panelStarts (gateIn h)).answer.status ∷ []
     demand-2-start =
         said-is Call.start h next step (kept h reached there)
+        ∙ ap (λ (n : ℕ). n ∷ []) (start-alike (decoded h.block).instruments [] h.memory)
 
     -- "01's sentence on reading round the buffer speaks again from the next start": the premise of the history below
-    pub recorder-begun-by-panel : startsAnew (gateIn h) ≡ true → Begun h next
-    recorder-begun-by-panel =
-        panel-begun h next reached there.stands there.within.memory-part.size (reached-step h reached there (aside starts) next tt step).stands
+    pub recorder-begun-by-panel : startsAnew (gateIn h) ≡ true → Begun next
+    recorder-begun-by-panel = panel-begun h next reached there.stands (reached-step h reached there (aside starts) next tt step).stands
 
   -- ---- a block at once (2026-05)
 
@@ -316,20 +290,6 @@ module _ (block memory : List ℕ) (tables : List Table) (after : List ℕ) (lon
   -- stays as it was, whatever its station and however long it is
   pub modbus-noise : (station : ℕ) (sent got : List ℕ) → Sent sent got → Damaged sent got → (next : Board) → Step h (aside (frames station got)) next → next ≡ h
   modbus-noise station sent got was damaged next step = noise-unheard station got h next (kept h reached there) step sent was damaged
-
-  -- ---- Calibration files (2026-10)
-
-  -- an import changes bytes 8,192 to 12,285 at most: not the link, in the midst of a message or not, and nothing that is set up
-  pub import-touches : (text : List ℕ) (next : Board) → Step h (aside (imports text)) next → OnlyCalibration text h next
-  import-touches text next step = import-only text h next (kept h reached there) step
-
-  -- "Importing an export .. gives the same bytes": an export of any gate's memory
-  pub export-carried : (other : List ℕ) → MemoryWithin other → (next : Board) → Step h (aside (imports (exportText other))) next → calibrationOf next.memory ≡ calibrationOf other
-  export-carried other good next step = files.export-carried other good h next (kept h reached there) step there.within.memory-part
-
-  -- and the gate's own export leaves its memory as it was
-  pub own-export-kept : (next : Board) → Step h (aside (imports (exportText h.memory))) next → next.memory ≡ h.memory
-  own-export-kept next step = files.own-export h next (kept h reached there) there.within.memory-part step
 
   -- ---- Demand 3: "After any bytes since reset, with an even (or no) run of 0x2B just before, a start byte and a well-formed
   -- stuffed message get exactly the answer, and leave the memory, scope and recorder, that a freshly reset link would give over
@@ -385,25 +345,7 @@ module _ (block memory : List ℕ) (tables : List Table) (after : List ℕ) (lon
         run-fires h last reached there.stands p started just there.within.memory-part.size hs quiet
         (reached-run h last hs on reached more there).stands refl
 
-  -- ---- "How many sets are real?" (2026-08): since an accepted start, which leaves 0 there, and as long as the gate's own program leaves bytes
-  -- 12,286 and 12,287 alone, they hold the number of sets taken, at most 65,535, whatever either port brings. So what is read over the port,
-  -- these two bytes and the start index (0xC4), tells the sets of a trace stopped early from old ones
-  module _ (p : Plan) (just : (gateIn h).recorder ≡ planned p started) (none : shownIn h.memory ≡ 0 ∷ 0 ∷ []) (hs : List Happening) (last : Board)
-      (more : AreBytes hs) (on : Run h hs last) (unwritten : AllUnwritten (afterAll (since (gate tables memory)) first) hs) where
-    pub recorder-number : AllUnstarted (afterAll (since (gate tables memory)) first) hs
-        → Numbered p last (setsTaken p (memoriesLeft h.memory (events (afterAll (since (gate tables memory)) first) hs)))
-    recorder-number quiet =
-        numbered h last reached hs there.stands (reached-run h last hs on reached more there).stands there.within.memory-part.size p
-        (plan-fits h reached there p started just) just none unwritten quiet
-
-    -- so long as nobody else writes the buffer
-    pub recorder-real-sets : AllUndisturbed (afterAll (since (gate tables memory)) first) hs
-        → RealSets p last (setsTaken p (memoriesLeft h.memory (events (afterAll (since (gate tables memory)) first) hs)))
-    recorder-real-sets quiet =
-        real h last reached hs there.stands (reached-run h last hs on reached more there).stands there.within.memory-part.size p
-        (plan-fits h reached there p started just) just none unwritten (plan-samples h reached there p started just) quiet
-
-  -- "A tick changes only that place", and the two bytes of the number "as well" (2026-08)
+  -- "A tick changes only that place."
   module _ (p : Plan) (run-now : DocumentRun) (has : (gateIn h).recorder ≡ planned p run-now) where
     pub recorder-ticks : (last : Board) → Step h (aside tick) last → OnlyItsPlace p run-now h last
     recorder-ticks last step =
@@ -422,9 +364,9 @@ module _ (block memory : List ℕ) (tables : List Table) (after : List ℕ) (lon
 
   -- the byte that finishes an accepted start leaves the premise of the history
   pub recorder-begun : (b : ℕ) (last : Board) → b < 256 → Step h (byte b) last → (m : Message) (more : List Message) → finishedBy (bytes_of first) b ≡ m ∷ more
-      → isStart (gateIn h) m ≡ true → Begun h last
+      → isStart (gateIn h) m ≡ true → Begun last
   recorder-begun b last small step m more finished start =
-      start-begun h last reached there.stands there.within.memory-part.size b (reached-step h reached there (byte b) last small step).stands m more
+      start-begun h last reached there.stands b (reached-step h reached there (byte b) last small step).stands m more
       (ap (λ (l : List ℕ). finishedBy l b) reached-bytes ∙ finished) start
 
   -- ---- the link behind an answer, whatever it says: outside a message, and no 0x2B waits
@@ -479,7 +421,7 @@ module _ (block memory : List ℕ) (tables : List Table) (after : List ℕ) (lon
   -- an accepted start; then `hs` happens, and `mid` is the board behind it
   module _ (p : Plan) (just : (gateIn h).recorder ≡ planned p started) (hs : List Happening) (mid : Board) (more : AreBytes hs) (on : Run h hs mid) where
     -- when a trace is gone: where the trigger comes at the next tick, and post-trigger is below 'samples', its own set is read among the
-    -- last ones after whatever happens, until the recorder is set up, prepared or started anew, or the gate's own program writes the buffer
+    -- last ones after whatever happens, until the recorder is set up or started anew, or the gate's own program writes the buffer
     pub trace-kept : (run-now : DocumentRun) → (gateIn mid).recorder ≡ planned p run-now → TriggersNext p (record { run = run-now; memory = mid.memory })
         → p.postTrigger < p.samples → (fs : List Happening) (last : Board) → AreBytes fs → Run mid (aside tick ∷ fs) last
         → AllUndisturbed reached (hs ++ aside tick ∷ fs)
@@ -498,14 +440,6 @@ module _ (block memory : List ℕ) (tables : List Table) (after : List ℕ) (lon
           → OnlySaid (queryAnswer (addressWidth ex) (index_after p.samples (length (setsTaken p (memoriesLeft h.memory (events reached hs)))))) mid last
       start-index-told ex b last small step m rest finished =
           trace.index-told h reached there p just hs mid more on quiet ex b last small step m rest (ap (λ (l : List ℕ). finishedBy (l ++ bytes_of hs) b) reached-bytes ∙ finished)
-
-      -- and how many sets are real: 0x01 for bytes 12,286 and 12,287 gets the number (2026-08)
-      pub number-told : shownIn h.memory ≡ 0 ∷ 0 ∷ [] → AllUnwritten reached hs → (b : ℕ) (last : Board) → b < 256 → Step mid (byte b) last
-          → (m : Message) (rest : List Message) → finishedBy (bytes_of first ++ bytes_of hs) b ≡ m ∷ rest → unrefusedSoFar m ≡ true
-          → m.command ≡ 0x01 → m.body ≡ 0x02 ∷ 0xFE ∷ 0x2F ∷ [] → OnlySaid (numberAnswer (setsTaken p (memoriesLeft h.memory (events reached hs)))) mid last
-      number-told none unwritten b last small step m rest finished =
-          trace.number-told h reached there p just hs mid more on quiet none unwritten b last small step m rest
-          (ap (λ (l : List ℕ). finishedBy (l ++ bytes_of hs) b) reached-bytes ∙ finished)
 
       -- with mode 0 it runs until a stop
       pub recorder-mode-0 : p.trigger.mode ≡ 0 → Unstopped (events reached hs) → RunsOn p mid true
@@ -573,49 +507,10 @@ module _ (block memory : List ℕ) (tables : List Table) (after : List ℕ) (lon
   sum-exactly b last small step m more finished =
       finished-exactly h last reached there.stands b (end-stands b last small step m more finished) m more (finished-there b last small step m more finished)
 
-  -- ---- "Reading a captured line" (2026-11): "its messages are the ones the receiver answers on the same bytes, in order"
-
-  -- the bytes that came, listed by the call, are what was answered, with whatever happened beside them
-  pub capture-lists : (list : List ℕ) (r : Listed) (filled : List ℕ) → CaptureDone (bytes_of first) list r filled → r.refusal ≡ taken → CaptureAnswered h list r filled
-  capture-lists list r filled done =
-      all-answered h (gate tables memory) first there.stands list r filled
-      (subst (λ (l : List ℕ). CaptureDone l list r filled) (sym reached-bytes) done)
-
-  -- and each is answered at the byte where it ends
-  pub capture-grows : (b : ℕ) (last : Board) → b < 256 → Step h (byte b) last → CaptureGrows h last (bytes_of first) b
-  capture-grows b last small step =
-      subst (λ (l : List ℕ). CaptureGrows h last l b) reached-bytes
-      (grows h last reached b there.stands (reached-step h reached there (byte b) last small step).stands (bytes_on h reached there (byte b ∷ []) (small, tt)))
-
   -- "Names instead of addresses" (2026-03): after any run the steps of source document 000, over the port, find each entry of each table
   -- that was registered, with its name, its type, its address and its info, as the memory then holds them
   pub names-over-port : namesRead (gateIn h) ≡ namesIn h.memory tables
   names-over-port = names-come block memory tables after reset h reached there tables-stay
-
-  -- "A write from either port that touches a byte of a variable which a registered table marks read-only is refused whole" (2026-09): neither
-  -- a byte of the line nor a frame, a tick or the panel changes a byte, before those of the recorder, that a table marks as the memory
-  -- holds it at that moment
-  pub marked-left : (e : Happening) (last : Board) → IsBytes e → Step h e last → isTraffic e ≡ true → (i : ℕ) → i < numberPlace
-      → isMarked (gateIn h).tables h.memory i 1 ≡ true → bytes_at last.memory i 1 ≡ bytes_at h.memory i 1
-  marked-left e last small step traffic i low mark =
-      step-leaves reached e h last there.stands (reached-step h reached there e last small step).stands traffic i low mark
-
-  -- so long as the gate's own program leaves the tables' bytes alone, a byte that they mark holds what that program wrote or imported there
-  -- since reset, as if nothing else had happened
-  pub read-only-kept : AllTablesLeft (since (gate tables memory)) first → (i : ℕ) → i < numberPlace → isMarked tables memory i 1 ≡ true
-      → bytes_at h.memory i 1 ≡ bytes_at (ownMemory memory first) i 1
-  read-only-kept =
-      marked-stays tables memory first h (record { block = block; after = after; long = long; lent = lent; reset = reset; are = are; run = run })
-
--- and a write to a range that no entry marks is refused by nothing new, on neither port: as if no table were registered
-pub unmarked-refusal : (h : Board) (m : Message)
-    → isMarked (gateIn h).tables h.memory (addressField (serviceOf m.command) m.body) (sizeField (serviceOf m.command) m.body) ≡ false
-    → refusal (gateIn h) m ≡ refusal (untabled (gateIn h)) m
-unmarked-refusal h m free = free-refusal (gateIn h) m free
-
-pub unmarked-exception : (h : Board) (f : Function) (bytes : List ℕ) → isMarked (gateIn h).tables h.memory (2 * firstIn bytes) (writtenBytes f bytes) ≡ false
-    → exceptionTo f bytes (gateIn h).tables h.memory ≡ exceptionTo f bytes [] h.memory
-unmarked-exception h f bytes free = free-exception bytes (gateIn h).tables h.memory f free
 
 -- ---- Two ports, one memory (2026-07): two runs since reset, with the same tables, of which one or both may have traffic on the other port
 
@@ -629,9 +524,8 @@ module _ (tables : List Table) (memory memory' : List ℕ) (hs ks : List Happeni
       → found (since (gate tables memory)) hs ≡ found (since (gate tables memory')) ks → SameService h k
   service-independent = service-runs tables memory memory' hs ks h k one other
 
-  -- "a Modbus answer depends on service traffic only through those bytes and the recorder buffer", and the two bytes of the number (2026-08):
-  -- leave out of both all but the frames and what the gate's own program writes and imports; if the frames find the same variables, the
-  -- same number and the same buffer, they get the same answers
+  -- "a Modbus answer depends on service traffic only through those bytes and the recorder buffer": leave out of both all but the frames
+  -- and what the gate's own program writes; if the frames find the same variables and the same buffer, they get the same answers
   pub modbus-independent : calibrationIn memory ≡ calibrationIn memory' → withoutService hs ≡ withoutService ks
       → shared (since (gate tables memory)) hs ≡ shared (since (gate tables memory')) ks → h.modbus-answers ≡ k.modbus-answers
   modbus-independent = modbus-runs tables memory memory' hs ks h k one other

@@ -1,38 +1,35 @@
--- The premises of what is said of messages, of application commands, of the two ports and of captures are met too, by the example's run.
+-- The premises of what is said of messages, of application commands and of the two ports are met too, by the example's run.
 use mathlib.Core.Path.{◌≡◌, refl, ap, ◌∙◌}
 use mathlib.Core.Bool.{true}
 use mathlib.Core.List.{List, [], ◌∷◌, ◌++◌}
 use Prim.Native.Nat.{ℕ}
 use native.Mathlib.Omega.{arith}
-use lib.ListN.{replicate, set, length-set}
+use lib.ListN.{set, length-set}
 use Rattle.document.specs.Numbers.{done, busy, taken}
-use Rattle.document.specs.Message.{wellFormed, onWire, heardAt}
-use Rattle.document.specs.Gate.{Gate, fresh}
+use Rattle.document.specs.Message.{wellFormed, onWire}
+use Rattle.document.specs.Gate.{Gate}
 use Rattle.document.specs.Application.{isPending, isCollected}
 use Rattle.document.specs.Asides.Aside.{tick, reports}
-use Rattle.document.specs.Happenings.{Happening, afterAll, fromReset}
+use Rattle.document.specs.Happenings.{Happening, afterAll}
 use Rattle.document.specs.Happenings.Happening.{byte, aside}
 use Rattle.state_parts.specs.Within.{MemoryWithin}
 use Rattle.document.proofs.Bytes.{all_set}
 use Rattle.state_block.specs.Layout.{decoded}
-use Rattle.document_captures.specs.Captures.{captured, captureRefusal, captureCount, captureList}
 use Rattle.call_checks.proofs.Settled.{reset-done}
-use Rattle.call_capture.specs.Promises.{CaptureDone}
 use Rattle.laws_calls.specs.Calls.{Call}
 use Rattle.laws_calls.specs.Calls as call
 use Rattle.laws_happenings.specs.Bytes.{bytes_of, AreBytes, besideBytes}
 use Rattle.laws_happenings.specs.Due.{AllDue}
-use Rattle.laws_happenings.specs.Example.{zeros, reset, before, meanwhile, firstSet, command, sending, earlier, question, untilReport, asking, later, stopping, starting, happened, disturbed, unattended, awaiting, repeating, lastSet, pending}
-use Rattle.laws_happenings.proofs.Example.{command-even, command-formed, command-wire, command-pending as pending-then, command-unreported, awaiting-finished, awaiting-pending, repeating-finished, repeating-pending, command-unrefused, command-collected, result-unsent, question-finished, question-unrefused, disturbed-bytes, disturbed-due, unattended-bytes, unattended-due, stale-same, disturbed-happened, disturbed-found, shown-calibration, unattended-happened, unattended-shared}
+use Rattle.laws_happenings.specs.Example.{zeros, reset, before, meanwhile, firstSet, command, sending, earlier, question, untilReport, asking, later, stopping, starting, happened, stale, disturbed, unattended, awaiting, repeating, lastSet, pending}
+use Rattle.laws_happenings.proofs.Example.{command-even, command-formed, command-wire, command-pending as pending-then, command-unreported, awaiting-finished, awaiting-pending, repeating-finished, repeating-pending, command-unrefused, command-collected, result-unsent, question-finished, question-unrefused, disturbed-bytes, disturbed-due, unattended-bytes, unattended-due, stale-same, disturbed-happened, disturbed-found, stale-calibration, unattended-happened, unattended-shared}
 use Rattle.demands.specs.Board.{Board, gateIn, begun}
 use Rattle.demands.specs.Run.{Step, Reset, Run}
 use Rattle.demands.specs.Run.Reset.{by-reset}
 use Rattle.demands.specs.Ports.{SinceReset, SameService}
 use Rattle.demands.specs.Fresh.{AnsweredFresh}
 use Rattle.demands.specs.Applying.{OnlySaid, TellsResult}
-use Rattle.demands.specs.Captures.{CaptureAnswered}
 use Rattle.demands.proofs.Joined.{run-behind}
-use Rattle.demands.proofs.Demands.{service-independent, modbus-independent, run-calls, runs-exist, demand-3-even, demand-3-next, command-pending, command-busy, result-awaited, result-told, capture-lists}
+use Rattle.demands.proofs.Demands.{service-independent, modbus-independent, run-calls, runs-exist, demand-3-even, demand-3-next, command-pending, command-busy, result-awaited, result-told}
 use Rattle.demands.proofs.Example.{whole, block, begins, long, lent, reset-there, At, to, goes, further, are-next, at-gate, given}
 
 -- what is left behind the first bytes of the command
@@ -165,58 +162,34 @@ result-there =
 pub result-said : OnlySaid (record { status = done; body = 0xFD ∷ [] }) asks.there (given (untilReported ++ asking) asks 0x3A).0
 result-said = result-there refl question-unrefused
 
--- ---- two ports: the same with further frames, and without service traffic, over memories with other bytes
+-- ---- two ports: the same with further frames, and without service traffic, over a memory with another byte
 
 abbrev other : List ℕ
 other = set zeros 8 1
 
--- and one that shows a set
-abbrev showing : List ℕ
-showing = set (set zeros 8 1) 12286 1
-
-one_set : (m : List ℕ) (i : ℕ) → MemoryWithin m → MemoryWithin (set m i 1)
-one_set m i within = record { size = length-set m i 1 ∙ within.size; bytes = all_set m i 1 within.bytes (omega arith) }
-
 pub other-lent : MemoryWithin other
-other-lent = one_set zeros 8 lent
+other-lent = record { size = length-set zeros 8 1 ∙ lent.size; bytes = all_set zeros 8 1 lent.bytes (omega arith) }
 
-pub showing-lent : MemoryWithin showing
-showing-lent = one_set other 12286 other-lent
+pub reset-other : Reset block other [] begins
+reset-other = by-reset taken begins (reset-done block long begins refl)
 
-pub reset-over : (memory : List ℕ) → Reset block memory [] begins
-reset-over memory = by-reset taken begins (reset-done block long begins refl)
+-- a list of things that are due, since a reset over that memory
+module _ (hs : List Happening) (are : AreBytes hs) (due : AllDue stale hs) where
+  pub goes_other : (last : Board) × Run (begun begins other) hs last
+  goes_other = runs-exist block other [] begins long other-lent reset-other [] (begun begins other) tt (Run.ends (begun begins other)) hs are due
 
--- a list of things that are due, since a reset over such a memory
-module _ (memory : List ℕ) (within : MemoryWithin memory) (hs : List Happening) (are : AreBytes hs) (due : AllDue (fromReset (fresh memory)) hs) where
-  pub goes_over : (last : Board) × Run (begun begins memory) hs last
-  goes_over = runs-exist block memory [] begins long within (reset-over memory) [] (begun begins memory) tt (Run.ends (begun begins memory)) hs are due
-
-  since-over : SinceReset [] memory hs goes_over.0
-  since-over = record { block = block; after = begins; long = long; lent = within; reset = reset-over memory; are = are; run = goes_over.1 }
+  since-other : SinceReset [] other hs goes_other.0
+  since-other = record { block = block; after = begins; long = long; lent = other-lent; reset = reset-other; are = are; run = goes_other.1 }
 
 here : SinceReset [] zeros happened whole.there
 here = record { block = block; after = begins; long = long; lent = lent; reset = reset-there; are = whole.are; run = whole.run }
 
-pub service-there : SameService (goes_over other other-lent disturbed disturbed-bytes disturbed-due).0 whole.there
+pub service-there : SameService (goes_other disturbed disturbed-bytes disturbed-due).0 whole.there
 service-there =
-    service-independent [] other zeros disturbed happened (goes_over other other-lent disturbed disturbed-bytes disturbed-due).0 whole.there
-    (since-over other other-lent disturbed disturbed-bytes disturbed-due) here stale-same.gate.memory disturbed-happened disturbed-found
+    service-independent [] other zeros disturbed happened (goes_other disturbed disturbed-bytes disturbed-due).0 whole.there (since-other disturbed disturbed-bytes disturbed-due) here
+    stale-same.gate.memory disturbed-happened disturbed-found
 
-pub modbus-there : (goes_over showing showing-lent unattended unattended-bytes unattended-due).0.modbus-answers ≡ whole.there.modbus-answers
+pub modbus-there : (goes_other unattended unattended-bytes unattended-due).0.modbus-answers ≡ whole.there.modbus-answers
 modbus-there =
-    modbus-independent [] showing zeros unattended happened (goes_over showing showing-lent unattended unattended-bytes unattended-due).0 whole.there
-    (since-over showing showing-lent unattended unattended-bytes unattended-due) here shown-calibration unattended-happened unattended-shared
-
--- ---- a capture of the bytes that came, into a list that its eight messages fill
-
-abbrev lines : List ℕ
-lines = replicate 24 0
-
-eight : CaptureDone (bytes_of happened) lines (record { refusal = taken; count = 8 }) (captureList (bytes_of happened) lines)
-unfolding captureRefusal captureCount captured heardAt
-eight = record { result = refl; list = refl }
-
-pub capture-there : CaptureAnswered whole.there lines (record { refusal = taken; count = 8 }) (captureList (bytes_of happened) lines)
-capture-there =
-    capture-lists block zeros [] begins long lent reset-there happened whole.there whole.are whole.run lines (record { refusal = taken; count = 8 })
-    (captureList (bytes_of happened) lines) eight refl
+    modbus-independent [] other zeros unattended happened (goes_other unattended unattended-bytes unattended-due).0 whole.there (since-other unattended unattended-bytes unattended-due) here
+    stale-calibration unattended-happened unattended-shared

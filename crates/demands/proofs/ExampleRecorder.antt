@@ -15,16 +15,15 @@ use Rattle.document.specs.Happenings.Happening.{byte, aside}
 use Rattle.document.proofs.Cases.{neither}
 use Rattle.document_outcomes.specs.Starts.{isStart}
 use Rattle.recorder_history.specs.History.{memoriesLeft, TriggersNext}
-use Rattle.recorder_history.specs.Number.{shownIn}
 use Rattle.laws_happenings.specs.Recording.{events, AllUndisturbed}
 use Rattle.laws_happenings.specs.Example.{zeros, reset, plan, before, begun, earlier, risen, oneTaken, later, stopping, since, start as starts, starting}
-use Rattle.laws_happenings.proofs.Example.{begun-recorder, begun-number, since-undisturbed, since-unstarted, since-unwritten, since-sets, earlier-unstarted, risen-recorder, risen-triggers, later-unstarted, later-unstopped, later-recorder, start-finished, start-starts, computed}
+use Rattle.laws_happenings.proofs.Example.{begun-recorder, since-undisturbed, since-sets, earlier-unstarted, risen-recorder, risen-triggers, later-unstarted, later-unstopped, later-recorder, start-finished, start-starts, computed}
 use Rattle.demands.specs.Board.{Board, gateIn}
 use Rattle.demands.specs.Run.{Run}
-use Rattle.demands.specs.Recorded.{Recorded, Numbered, RealSets}
+use Rattle.demands.specs.Recorded.{Recorded}
 use Rattle.demands.specs.Recorder.{Begun, RunsOn, FiresAtFirst}
 use Rattle.demands.specs.Trace.{TraceKept, TraceStays}
-use Rattle.demands.proofs.Demands.{recorder-history, recorder-number, recorder-real-sets, recorder-fires, recorder-stops, recorder-begun, trace-kept, stopped-stays}
+use Rattle.demands.proofs.Demands.{recorder-history, recorder-fires, recorder-stops, recorder-begun, trace-kept, stopped-stays}
 use Rattle.demands.proofs.Example.{block, begins, long, lent, reset-there, At, to, goes, further, are-next, at-gate, given}
 
 -- ---- the recorder, since the panel's start
@@ -38,31 +37,13 @@ just = ap (λ (g : Gate). g.recorder) (at-gate before start) ∙ begun-recorder
 pub ended : (last : Board) × Run start.there since last
 ended = goes before since (starting ++ (byte 0x3F ∷ [])) refl start
 
-sets-there : setsTaken plan (memoriesLeft start.there.memory (events begun since)) ≡ (0 ∷ []) ∷ (7 ∷ []) ∷ (9 ∷ []) ∷ []
-sets-there = ap (λ (g : Gate). setsTaken plan (memoriesLeft g.memory (events begun since))) (at-gate before start) ∙ since-sets
-
 -- three sets were taken, of which the ring holds the last two
 pub history-there : Recorded plan ended.0 ((0 ∷ []) ∷ (7 ∷ []) ∷ (9 ∷ []) ∷ [])
 history-there =
-    subst (Recorded plan ended.0) sets-there
+    subst (Recorded plan ended.0)
+    (ap (λ (g : Gate). setsTaken plan (memoriesLeft g.memory (events begun since))) (at-gate before start) ∙ since-sets)
     (recorder-history block zeros [] begins long lent reset-there before start.there start.are start.run plan just since ended.0
     (are-next before since (starting ++ (byte 0x3F ∷ [])) refl) since-undisturbed ended.1)
-
--- the panel's start showed 0, and now the two bytes show 3 (2026-08)
-none-there : shownIn start.there.memory ≡ 0 ∷ 0 ∷ []
-none-there = ap (λ (g : Gate). shownIn g.memory) (at-gate before start) ∙ begun-number
-
-pub number-there : Numbered plan ended.0 ((0 ∷ []) ∷ (7 ∷ []) ∷ (9 ∷ []) ∷ [])
-number-there =
-    subst (Numbered plan ended.0) sets-there
-    (recorder-number block zeros [] begins long lent reset-there before start.there start.are start.run plan just none-there since ended.0
-    (are-next before since (starting ++ (byte 0x3F ∷ [])) refl) ended.1 since-unwritten since-unstarted)
-
-pub real-there : RealSets plan ended.0 ((0 ∷ []) ∷ (7 ∷ []) ∷ (9 ∷ []) ∷ [])
-real-there =
-    subst (RealSets plan ended.0) sets-there
-    (recorder-real-sets block zeros [] begins long lent reset-there before start.there start.are start.run plan just none-there since ended.0
-    (are-next before since (starting ++ (byte 0x3F ∷ [])) refl) ended.1 since-unwritten since-undisturbed)
 
 -- the trigger comes at the first set at or beyond the threshold
 abbrev pub until-risen : (last : Board) × Run start.there earlier last
@@ -133,7 +114,7 @@ stopped-there =
 abbrev before-start : At (before ++ since ++ starting)
 before-start = to (before ++ since ++ starting) (byte 0x3F ∷ []) [] refl
 
-pub begun-there : Begun before-start.there (given (before ++ since ++ starting) before-start 0x3F).0
+pub begun-there : Begun (given (before ++ since ++ starting) before-start 0x3F).0
 begun-there =
     let next = given (before ++ since ++ starting) before-start 0x3F in
     recorder-begun block zeros [] begins long lent reset-there (before ++ since ++ starting) before-start.there before-start.are before-start.run

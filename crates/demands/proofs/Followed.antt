@@ -9,14 +9,14 @@ use Rattle.document.specs.Recorder.Recorder.{planned}
 use Rattle.document.specs.Gate.{Gate}
 use Rattle.document.specs.Happenings.{Happening, Since, afterAll}
 use Rattle.recorder_history.specs.History as history
-use Rattle.laws_happenings.specs.Recording.{events, AllUnstarted, AllUndisturbed, AllUnwritten}
+use Rattle.laws_happenings.specs.Recording.{events, AllUnstarted, AllUndisturbed}
 use Rattle.laws_happenings.proofs.Follows.{Followed, followed-all}
 use Rattle.demands.specs.Board.{Board, gateIn}
 use Rattle.demands.specs.AsDefined.{AsDefined}
 
 module _ (h : Board) (s : Since) (now : AsDefined h s) (size : length h.memory ≡ memoryEnd) (p : Plan) (r : DocumentRun) (has : (gateIn h).recorder ≡ planned p r)
     (hs : List Happening) (last : Board) (end : AsDefined last (afterAll s hs)) (quiet : AllUnstarted s hs) where
-  pub followed : Followed p (AllUndisturbed s hs) (AllUnwritten s hs) (afterAll s hs).gate (record { run = r; memory = h.memory }) (events s hs)
+  pub followed : Followed p (AllUndisturbed s hs) (afterAll s hs).gate (record { run = r; memory = h.memory }) (events s hs)
   followed =
       let same_memory : s.gate.memory ≡ h.memory = ap (λ (g : Gate). g.memory) (sym now.gate) in
       followed-all p hs s (record { run = r; memory = h.memory })

@@ -25,7 +25,7 @@ module _ (tables : List Table) (memory : List ℕ) (hs : List Happening) (h : Bo
   start : Reached (begun r.after memory) (since (gate tables memory))
   start = reached-begun r.block memory r.long r.lent tables r.after r.reset
 
-  pub run-stands : AsDefined h (afterAll (since (gate tables memory)) hs)
+  run-stands : AsDefined h (afterAll (since (gate tables memory)) hs)
   run-stands = (reached-run _ h hs r.run (since (gate tables memory)) r.are start).stands
 
   run-commands : h.commands ≡ handedOut (since (gate tables memory)) hs
@@ -62,5 +62,5 @@ module _ (tables : List Table) (memory memory' : List ℕ) (hs ks : List Happeni
       → shared (since (gate tables memory)) hs ≡ shared (since (gate tables memory')) ks → h.modbus-answers ≡ k.modbus-answers
   modbus-runs calibration happened seen =
       run-modbus tables memory hs h one
-      ∙ modbus-same hs ks (since (gate tables memory)) (since (gate tables memory')) calibration refl happened seen
+      ∙ modbus-same hs ks (since (gate tables memory)) (since (gate tables memory')) calibration happened seen
       ∙ sym (run-modbus tables memory' ks k other)

@@ -12,14 +12,14 @@ use Rattle.modbus_check_sums.specs.Flips.{Sent}
 use Rattle.laws_modbus.specs.Damage.{Damaged}
 use Rattle.laws_modbus.proofs.Noise.{noise-silenced}
 use Rattle.laws_calls.specs.Calls.{Call, handedOut}
-use Rattle.demands.specs.Board.{Board, gateIn}
+use Rattle.demands.specs.Board.{Board}
 use Rattle.demands.specs.Run.{Step}
 use Rattle.demands.proofs.Calls.{Kept, next-is}
 
 module _ (station : ℕ) (got : List ℕ) (h next : Board) (k : Kept h) (step : Step h (aside (frames station got)) next) where
-  unheard : modbusAnswer station got (gateIn h).tables h.memory ≡ [] → modbusMemory station got (gateIn h).tables h.memory ≡ h.memory → next ≡ h
+  unheard : modbusAnswer station got h.memory ≡ [] → modbusMemory station got h.memory ≡ h.memory → next ≡ h
   unheard silence same =
-      let none : h.modbus-answers ++ handedOut (length (modbusAnswer station got (gateIn h).tables h.memory)) (sets step.made.buffer 0 (modbusAnswer station got (gateIn h).tables h.memory)) ≡ h.modbus-answers =
+      let none : h.modbus-answers ++ handedOut (length (modbusAnswer station got h.memory)) (sets step.made.buffer 0 (modbusAnswer station got h.memory)) ≡ h.modbus-answers =
       ap (λ (l : List ℕ). h.modbus-answers ++ handedOut (length l) (sets step.made.buffer 0 l)) silence ∙ append-nil h.modbus-answers in
       next-is (Call.frame station got) h next step k (λ on. neither on)
       ∙ (λ j.
@@ -32,4 +32,4 @@ module _ (station : ℕ) (got : List ℕ) (h next : Board) (k : Kept h) (step : 
       })
 
   pub noise-unheard : (sent : List ℕ) → Sent sent got → Damaged sent got → next ≡ h
-  noise-unheard sent was damaged = let silent = noise-silenced station sent got was damaged (gateIn h).tables h.memory in unheard silent.0 silent.1
+  noise-unheard sent was damaged = let silent = noise-silenced station sent got was damaged h.memory in unheard silent.0 silent.1

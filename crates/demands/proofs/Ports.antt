@@ -9,7 +9,7 @@ use Rattle.document.specs.Happenings.Happening.{aside}
 use Rattle.document.proofs.Cases.{neither}
 use Rattle.laws_modbus.proofs.Kept.{frame-keeps-rest}
 use Rattle.laws_calls.specs.Calls.{Call}
-use Rattle.demands.specs.Board.{Board, gateIn}
+use Rattle.demands.specs.Board.{Board}
 use Rattle.demands.specs.Run.{Step}
 use Rattle.demands.specs.Ports.{OnlyVariables}
 use Rattle.demands.proofs.Calls.{Kept, next-is}
@@ -21,5 +21,5 @@ frame-only station bytes h next k step =
     record {
       block = ap (λ (q : Board). q.block) is;
       memory = ap (λ (q : Board). q.memory) is;
-      beyond = ap (λ (q : Board). drop variablesEnd q.memory) is ∙ frame-keeps-rest station bytes (gateIn h).tables h.memory;
+      beyond = ap (λ (q : Board). drop variablesEnd q.memory) is ∙ frame-keeps-rest station bytes h.memory;
     }

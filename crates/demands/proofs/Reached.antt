@@ -1,6 +1,5 @@
 -- A board within its bounds that is as the definition has it: where a run begins, and behind a byte.
 use mathlib.Core.Path.{◌≡◌, refl, sym, ap, subst, ◌∙◌}
-use mathlib.Core.Bool.{false}
 use mathlib.Core.List.{List, [], ◌∷◌, ◌++◌}
 use Prim.Native.Nat.{ℕ, ◌<◌, ◌≤◌}
 use native.Mathlib.Omega.{arith}
@@ -24,7 +23,6 @@ use Rattle.document.proofs.Cases.{split, neither}
 use Rattle.recorder_history.specs.History.{PlanFits}
 use Rattle.line_receiver.specs.Report.{sinceReset}
 use Rattle.recorder_plans.proofs.Granted.{sound-fits}
-use Rattle.recorder_plans.specs.State.{plan_of}
 use Rattle.recorder_state.specs.declared.state.Recorder.{Recorder as RecorderState}
 use Rattle.recorder_state.proofs.Keeps.{sound-parts}
 use Rattle.tables_state.specs.State.{Registered, noTables, tables_of, registeredList}
@@ -154,27 +152,17 @@ module _ (block memory : List ℕ) (long : stateLength ≤ length block) (good :
       (reached-fresh (registeredList list) next (registered-within memory list known.good all) (done.state ∙ rw fine refl))
 
 -- ---- a plan within bounds is one that a setup grants
-abbrev planOr : Plan → Recorder → Plan
-planOr other absent = other
-planOr other (planned q run) = q
+pub plan-fits : (h : Board) (s : Since) → Reached h s → (p : Plan) (r : DocumentRun) → (gateIn h).recorder ≡ planned p r → PlanFits p
+plan-fits h s reached p r has =
+    split (eqb state.ready 0)
+    (λ none. neither (ap recorderAbsent (sym (rw none at has))))
+    (λ ready.
+    let parts = sound-parts state reached.within.recorder-part.sound ready in
+    subst (λ (q : Plan). PlanFits q) (ap (planOr p) (rw ready at has)) (sound-fits state.plan parts.plan))
+  where
+    state : RecorderState
+    state = (decoded h.block).instruments.recorder
 
-module _ (h : Board) (s : Since) (reached : Reached h s) (p : Plan) (r : DocumentRun) (has : (gateIn h).recorder ≡ planned p r) where
-  abbrev state : RecorderState
-  state = (decoded h.block).instruments.recorder
-
-  set-up : eqb (decoded h.block).instruments.recorder.ready 0 ≡ false
-  set-up = split (eqb state.ready 0) (λ none. neither (ap recorderAbsent (sym (rw none at has)))) (λ ready. ready)
-
-  plan-is : plan_of (decoded h.block).instruments.recorder.plan ≡ p
-  plan-is = ap (planOr p) (rw set-up at has)
-
-  pub plan-fits : PlanFits p
-  plan-fits =
-      let parts = sound-parts state reached.within.recorder-part.sound set-up in
-      subst (λ (q : Plan). PlanFits q) plan-is (sound-fits state.plan parts.plan)
-
-  -- 'samples' is a number of 2 bytes
-  pub plan-samples : p.samples ≤ 65535
-  plan-samples =
-      let fits : state.plan.samples ≤ 65535 = omega (arith, reached.within.recorder-part.fits.plan.samples) in
-      subst (λ (q : Plan). q.samples ≤ 65535) plan-is fits
+    planOr : Plan → Recorder → Plan
+    planOr other absent = other
+    planOr other (planned q run) = q

@@ -5,7 +5,7 @@ use mathlib.Core.List.{List, ◌∷◌}
 use Prim.Native.Nat.{ℕ, suc, ◌+◌, ◌*◌}
 use lib.Dec.{ltb}
 use lib.ListN.{length, take, drop}
-use Rattle.document.specs.Areas.{numberPlace, bufferBegin, memoryEnd, bytes_at}
+use Rattle.document.specs.Areas.{memoryEnd}
 use Rattle.document.specs.Message.{Message, finishedBy}
 use Rattle.document.specs.Variables.{setSize}
 use Rattle.document.specs.Plan.{Plan}
@@ -21,16 +21,15 @@ use Rattle.document.specs.Happenings.{Happening, Since, afterMessages, after, af
 use Rattle.document.specs.Happenings.Happening.{byte, aside}
 use Rattle.recorder_history.specs.History as history
 use Rattle.recorder_history.specs.History.{PlanFits, Recording, begun, takesNext, beyondIn, NoneBeyond, TriggersNext, Unstopped}
-use Rattle.recorder_history.proofs.Ticks.{tick-before, tick-between, tick-behind}
+use Rattle.recorder_history.proofs.Ticks.{tick-before, tick-behind}
 use Rattle.recorder_history.proofs.Stop.{stops}
 use Rattle.recorder_history.proofs.Beyond.{trigger-at-first, first-triggers}
 use Rattle.document_outcomes.specs.Starts.{isStart}
 use Rattle.document_outcomes.proofs.Recording.{start-begins}
 use Rattle.laws_happenings.specs.Bytes.{withByte}
 use Rattle.laws_happenings.specs.Asides.{preparesAnew, startsAnew}
-use Rattle.laws_happenings.specs.Recording.{events, ticksOf, AllUnstarted, OnlyNumber}
+use Rattle.laws_happenings.specs.Recording.{events, ticksOf, AllUnstarted}
 use Rattle.laws_happenings.proofs.Panel.{prepare-anew, start-anew}
-use Rattle.laws_happenings.proofs.Number.{message-writes, panel-writes}
 use Rattle.laws_happenings.proofs.Ticks.{ticks-counted}
 use Rattle.demands.specs.Board.{Board, gateIn}
 use Rattle.demands.specs.AsDefined.{AsDefined}
@@ -39,31 +38,23 @@ use Rattle.demands.proofs.Followed.{recorder-then, memory-then}
 
 module _ (h last : Board) (s : Since) (now : AsDefined h s) where
   -- the byte that finishes an accepted start
-  pub start-begun : length h.memory ≡ memoryEnd → (b : ℕ) → AsDefined last (after s (byte b)) → (m : Message) (more : List Message) → finishedBy s.bytes b ≡ m ∷ more
-      → isStart (gateIn h) m ≡ true → Begun h last
-  start-begun size b end m more finished start =
+  pub start-begun : (b : ℕ) → AsDefined last (after s (byte b)) → (m : Message) (more : List Message) → finishedBy s.bytes b ≡ m ∷ more
+      → isStart (gateIn h) m ≡ true → Begun last
+  start-begun b end m more finished start =
       let begins = start-begins (gateIn h) m start in
       let gate : gateIn last ≡ (answered (gateIn h) m).gate =
       end.gate
       ∙ ap (λ (ms : List Message). (afterMessages (withByte s b) ms).gate) finished
       ∙ ap (λ (g : Gate). (answered g m).gate) (sym now.gate) in
-      record {
-        plan = begins.plan;
-        recorder = ap (λ (g : Gate). g.recorder) gate ∙ begins.recorder;
-        memory = subst (λ (g : Gate). OnlyNumber h.memory g.memory) (sym gate) (message-writes (gateIn h) m size start);
-      }
+      record { plan = begins.plan; recorder = ap (λ (g : Gate). g.recorder) gate ∙ begins.recorder }
 
   -- the panel's start, where it starts the recorder anew (2026-06)
-  pub panel-begun : length h.memory ≡ memoryEnd → AsDefined last (after s (aside starts)) → startsAnew (gateIn h) ≡ true → Begun h last
+  pub panel-begun : AsDefined last (after s (aside starts)) → startsAnew (gateIn h) ≡ true → Begun last
   unfolding beside
-  panel-begun size end start =
+  panel-begun end start =
       let begins = start-anew (gateIn h) start in
       let gate : gateIn last ≡ (panelStarts (gateIn h)).gate = end.gate ∙ ap (λ (g : Gate). (panelStarts g).gate) (sym now.gate) in
-      record {
-        plan = begins.0;
-        recorder = ap (λ (g : Gate). g.recorder) gate ∙ begins.1;
-        memory = subst (λ (g : Gate). OnlyNumber h.memory g.memory) (sym gate) (panel-writes (gateIn h) size start);
-      }
+      record { plan = begins.0; recorder = ap (λ (g : Gate). g.recorder) gate ∙ begins.1 }
 
   -- and its preparing, where it is accepted
   pub panel-prepared : (setup : List ℕ) → AsDefined last (after s (aside (prepares setup))) → preparesAnew (gateIn h) setup ≡ true
@@ -81,8 +72,7 @@ module _ (h last : Board) (s : Since) (now : AsDefined h s) where
         ap (λ (g : Gate). g.memory) same ∙ ap (λ (q : Recorder). tickedMemory q h.memory) has in
         let place = placeBegins p r.place in
         record {
-          before = ap (take numberPlace) memory ∙ tick-before p r h.memory;
-          between = ap (λ (m : List ℕ). bytes_at m bufferBegin (r.place * setSize p.variables)) memory ∙ tick-between p r h.memory;
+          before = ap (take place) memory ∙ tick-before p r h.memory;
           behind = ap (drop (place + setSize p.variables)) memory ∙ tick-behind p r h.memory fits size;
           scope = ap (λ (g : Gate). g.scope) same;
           application = ap (λ (g : Gate). g.application) same;

@@ -66,7 +66,7 @@ module _ (h : Board) (s : Since) (r : Reached h s) where
   answers-step (byte b) next small step = ap (λ (q : Board). q.modbus-answers) (byte_next b next small step)
   answers-step (aside a) next are step =
       (touches h s r a next (becomes h s r a next are step)).modbus-answers
-      ∙ ap (λ (q : Gate). h.modbus-answers ++ ifAny ((row a).answer q.tables q.memory)) r.stands.gate
+      ∙ ap (λ (q : Gate). h.modbus-answers ++ ifAny ((row a).answer q.memory)) r.stands.gate
 
 pub reached-singly : (h last : Board) (hs : List Happening) → Singly h hs last → (s : Since) → AreBytes hs → Reached h s → Reached last (afterAll s hs)
 reached-singly h last hs (ends _) s are r = r

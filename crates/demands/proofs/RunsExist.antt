@@ -7,7 +7,7 @@ use lib.Dec.{leb}
 use Rattle.document.specs.Bytes.{AllBytes}
 use Rattle.document.specs.Application.{isCollected}
 use Rattle.document.specs.Gate.{Gate}
-use Rattle.document.specs.Asides.Aside.{tick, writes, collects, reports, prepares, starts, frames, imports}
+use Rattle.document.specs.Asides.Aside.{tick, writes, collects, reports, prepares, starts, frames}
 use Rattle.document.specs.Happenings.{Happening, Since, after}
 use Rattle.document.specs.Happenings.Happening.{byte, aside}
 use Rattle.laws_happenings.specs.Bytes.{IsBytes, AreBytes}
@@ -29,7 +29,6 @@ asked h s r (aside (reports result)) are due = (are, ap (λ (g : Gate). leb resu
 asked h s r (aside (prepares setup)) are due = (are, refl)
 asked h s r (aside starts) are due = (are, refl)
 asked h s r (aside (frames station bytes)) are due = (are, due)
-asked h s r (aside (imports text)) are due = (are, due)
 
 pub run-there : (hs : List Happening) (h : Board) (s : Since) → Reached h s → AreBytes hs → AllDue s hs → (last : Board) × Run h hs last
 run-there [] h s r are due = (h, ends h)

@@ -1,40 +1,62 @@
--- Only a wrong sum gets 0x82, and every wrong sum does.
-use mathlib.Core.Path.{◌≡◌, sym, ap, ◌∙◌}
-use mathlib.Core.Bool.{Bool, true, false, cond}
+-- 0x82 is the first line of the document's table, and no other says it.
+use mathlib.Core.Path.{◌≡◌, refl, sym, ap, ◌∙◌}
+use mathlib.Core.Bool.{true, false}
 use mathlib.Core.List.{List, [], ◌∷◌, append_cancel_left}
 use Prim.Native.Nat.{ℕ}
 use native.Mathlib.Omega.{arith}
-use lib.Dec.{ltb}
-use lib.ListN.{length, get_or}
-use Rattle.document.specs.Numbers.{mostData, sumWrong}
+use borrow.Author.Tests.{eqb-true, eqb-false, eq-eqb}
+use lib.Dec.{eqb}
+use lib.ListN.{drop, get_or}
+use Rattle.document.specs.Numbers.{isIn, done, sumWrong, isError}
 use Rattle.document.specs.Message.{Message, sumRight, finishedBy}
 use Rattle.document.specs.Answer.{Answer, answerOnWire}
-use Rattle.document.specs.Gate.{Gate}
+use Rattle.document.specs.Gate.{Gate, Outcome}
+use Rattle.document.specs.Refusals.{Refusal, order, table, first_of, refusal}
 use Rattle.document.specs.Commands.{answered}
 use Rattle.document.specs.Happenings.{Since, after}
 use Rattle.document.specs.Happenings.Happening.{byte}
-use Rattle.document.proofs.Cases.{split}
-use Rattle.document_captures.specs.Captures.{wholeAndRight, wholeWithWrongSum, tooLongWithRightSum, class_of}
-use Rattle.laws_captures.proofs.Statuses.{status-shows}
-use Rattle.laws_captures.proofs.Answered.{class-exactly}
+use Rattle.document.proofs.Cases.{split, neither, none_of}
+use Rattle.document.proofs.Order.{inOrder, table-in-order}
+use Rattle.document_outcomes.proofs.Answered.{accepted-right}
 use Rattle.demands.specs.Board.{Board, gateIn}
 use Rattle.demands.specs.AsDefined.{AsDefined}
 use Rattle.demands.specs.Sums.{sumAnswer, SumExactly}
-use Rattle.demands.proofs.Wire.{sum-refused}
+use Rattle.demands.proofs.Wire.{wire-refused, sum-refused}
 use Rattle.demands.proofs.Applying.{answers-then, only-said}
 
--- only a wrong sum gets 0x82
-sum-only : (g : Gate) (m : Message) → (answered g m).answer.status ≡ sumWrong → sumRight m ≡ false
-sum-only g m is =
-    split (sumRight m)
-    (λ right.
-    let class : class_of m ≡ wholeWithWrongSum = (class-exactly (class_of m) (answered g m).answer (sym (status-shows g m))).wrong-sum-only is in
-    absurd (wrong-other (ltb mostData (length m.body)) (rw right at class)))
-    (λ wrong. wrong)
-  where
-    wrong-other : (long : Bool) → cond long tooLongWithRightSum wholeAndRight ≡ wholeWithWrongSum → ⊥
-    wrong-other true e = omega (arith, e)
-    wrong-other false e = omega (arith, e)
+-- lines in an order that does not name a status never say it
+never_first : (x : ℕ) → (done ≡ x → ⊥) → (ss : List ℕ) (rs : List Refusal) → inOrder ss rs ≡ true → isIn x ss ≡ false → first_of rs ≡ x → ⊥
+never_first x some [] [] ordered other is = some is
+never_first x some [] (r ∷ rs) ordered other is = neither ordered
+never_first x some (s ∷ ss) [] ordered other is = some is
+never_first x some (s ∷ ss) (r ∷ rs) ordered other is =
+    let rest = none_of (eqb x s) (isIn x ss) other in
+    split (eqb s r.status)
+    (λ here.
+    split r.applies
+    (λ applies.
+    let same : s ≡ x = eqb-true s r.status here ∙ rw applies at is in
+    neither (sym rest.0 ∙ eq-eqb x s (sym same)))
+    (λ no. never_first x some ss rs (rw here at ordered) rest.1 (rw no at is)))
+    (λ later. never_first x some ss (r ∷ rs) (rw later at ordered) rest.1 is)
+
+module _ (g : Gate) (m : Message) where
+  right-refusal : sumRight m ≡ true → refusal g m ≡ sumWrong → ⊥
+  unfolding refusal
+  right-refusal right is =
+      never_first sumWrong (λ z. omega arith) (drop 1 order) (drop 1 (table g m)) (table-in-order g m) refl (rw right at is)
+
+  -- only a wrong sum gets 0x82
+  sum-only : (answered g m).answer.status ≡ sumWrong → sumRight m ≡ false
+  sum-only is =
+      split (sumRight m)
+      (λ right.
+      split (eqb (refusal g m) done)
+      (λ none. neither (sym (accepted-right g m (eqb-true (refusal g m) done none)) ∙ ap isError is))
+      (λ some.
+      let refused = (wire-refused g m).refused (eqb-false (refusal g m) done some) in
+      absurd (right-refusal right (sym (ap (λ (o : Outcome). o.answer.status) refused) ∙ is))))
+      (λ wrong. wrong)
 
 -- the status stands behind the start byte
 status-on-wire : (a b : Answer) → answerOnWire a ≡ answerOnWire b → a.status ≡ b.status

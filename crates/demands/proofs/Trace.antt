@@ -29,7 +29,6 @@ use Rattle.recorder_history.specs.History as history
 use Rattle.recorder_history.specs.History.{PlanFits, Event, Recording, begun, AllLeaveBuffer, memoriesLeft, TriggersNext, Unstopped}
 use Rattle.recorder_history.specs.History.Event.{tick as ticks}
 use Rattle.recorder_history.specs.Trace.{index_after, RisingWord}
-use Rattle.recorder_history.specs.Number.{shownIn}
 use Rattle.recorder_history.proofs.Ticks.{takes_run, nothing-taken}
 use Rattle.recorder_history.proofs.Untriggered.{mode-0-runs}
 use Rattle.recorder_history.proofs.Index.{start-index}
@@ -39,21 +38,19 @@ use Rattle.recorder_history.proofs.Saturated.{saturated-beyond, saturated-short}
 use Rattle.document_outcomes.specs.Sending.{unrefusedSoFar}
 use Rattle.document_outcomes.proofs.Sending.{as-served}
 use Rattle.laws_happenings.specs.Bytes.{bytes_of, AreBytes}
-use Rattle.laws_happenings.specs.Recording.{eventsAt, events, AllUnstarted, AllUndisturbed, AllUnwritten}
+use Rattle.laws_happenings.specs.Recording.{eventsAt, events, AllUnstarted, AllUndisturbed}
 use Rattle.laws_happenings.proofs.Resync.{bytes_after}
 use Rattle.laws_happenings.proofs.Follows.{unstarted}
-use Rattle.laws_happenings.proofs.Number.{number-asked}
 use Rattle.demands.specs.Board.{Board, gateIn}
 use Rattle.demands.specs.Run.{Step, Run}
 use Rattle.demands.specs.AsDefined.{AsDefined}
 use Rattle.demands.specs.Recorder.{RunsOn}
 use Rattle.demands.specs.Applying.{OnlySaid}
-use Rattle.demands.specs.Trace.{TraceKept, TraceStays, takesSet, Watches, Indexed, queryAnswer, numberAnswer, statusAnswer}
+use Rattle.demands.specs.Trace.{TraceKept, TraceStays, takesSet, Watches, Indexed, queryAnswer, statusAnswer}
 use Rattle.demands.proofs.Reached.{Reached, plan-fits}
 use Rattle.demands.proofs.Runs.{reached-step}
 use Rattle.demands.proofs.Blocks.{reached-run}
 use Rattle.demands.proofs.Followed.{followed, recorder-then, memory-then}
-use Rattle.demands.proofs.Number.{numbered}
 use Rattle.demands.proofs.Applying.{only-said}
 
 -- ---- one list of what happens behind another
@@ -223,16 +220,6 @@ module _ (h : Board) (s : Since) (reached : Reached h s) where
             said hs mid are on b last small step m more finished (queryAnswer (addressWidth ex) index)
             (query-answered (gateIn mid) m p indexed.run indexed.recorder ex is accepted
             ∙ ap (λ (n : ℕ). says (gateIn mid) done (queryAnswer (addressWidth ex) n).body) indexed.index)
-
-        -- 0x01 for the two bytes of the number, so long as the gate's own program leaves them alone (2026-08)
-        pub number-told : shownIn h.memory ≡ 0 ∷ 0 ∷ [] → AllUnwritten s hs → (b : ℕ) (last : Board) → b < 256 → Step mid (byte b) last → (m : Message) (more : List Message)
-            → finishedBy (s.bytes ++ bytes_of hs) b ≡ m ∷ more → unrefusedSoFar m ≡ true → m.command ≡ 0x01 → m.body ≡ 0x02 ∷ 0xFE ∷ 0x2F ∷ []
-            → OnlySaid (numberAnswer (setsTaken p (memoriesLeft h.memory (events s hs)))) mid last
-        number-told none unwritten b last small step m more finished so_far is body =
-            let sets : List (List ℕ) = setsTaken p (memoriesLeft h.memory (events s hs)) in
-            let counted = numbered h mid s hs reached.stands at_mid size p fits just none unwritten quiet in
-            said hs mid are on b last small step m more finished (numberAnswer sets)
-            (number-asked (gateIn mid) m so_far is body ∙ ap (says (gateIn mid) done) counted.shown)
 
         pub mode-0-on : p.trigger.mode ≡ 0 → Unstopped (events s hs) → RunsOn p mid true
         mode-0-on none unstopped =

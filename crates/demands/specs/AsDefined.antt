@@ -16,7 +16,7 @@ abbrev pub link_in : Target → Beside
 link_in t = record { receiver = t.receiver; body = t.body }
 
 pub record AsDefined (h : Board) (s : Since) : Type 0 where
-  -- memory, scope, recorder, application and tables
+  -- memory, scope, recorder and application
   pub gate : gateIn h ≡ s.gate
   -- the answers, as they go over the wire
   pub answers : h.answers ≡ answersOnWire s.answers

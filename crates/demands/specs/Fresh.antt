@@ -20,7 +20,7 @@ pub record AnsweredFresh (start before last : Board) (beside : Gate) (m : Messag
 -- "A command is never carried out unless its whole message, with a right sum, stands in the bytes since one start byte.":
 -- `bytes` are all the bytes since reset
 pub data NothingByHalf (before last : Board) (bytes : List ℕ) : Type 0 where
-  -- nothing is answered, and memory, scope, recorder, application and tables stay
+  -- nothing is answered, and memory, scope and recorder stay
   nothing : last.answers ≡ before.answers → gateIn last ≡ gateIn before → NothingByHalf before last bytes
   -- or the bytes end in a start and exactly one stuffed message, and answer and change are the definition's for it
   whole :

@@ -13,7 +13,5 @@ pub mod Recorder
 pub mod Trace
 pub mod Applying
 pub mod Ports
-pub mod Files
 pub mod Sums
 pub mod EndToEnd
-pub mod Captures

@@ -17,7 +17,7 @@ use Rattle.demands.specs.AsDefined.{link_in}
 -- 0 to 8,191 at most; `Touches` says what else stays
 pub record OnlyVariables (station : ℕ) (frame : List ℕ) (h next : Board) : Type 0 where
   pub block : next.block ≡ h.block
-  pub memory : next.memory ≡ modbusMemory station frame (gateIn h).tables h.memory
+  pub memory : next.memory ≡ modbusMemory station frame h.memory
   pub beyond : drop variablesEnd next.memory ≡ drop variablesEnd h.memory
 
 -- a run since a reset or a registering with these tables, over this memory: what happened, and the board then

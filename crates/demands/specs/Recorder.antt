@@ -1,19 +1,16 @@
 -- What a run says of the recorder beside its history: where it begins, what a tick touches, and when it stops.
-use Rattle.std.specs.Prelude.{◌≡◌, Bool, true, List, ℕ, ◌+◌, ◌*◌, take, drop}
-use Rattle.document.specs.Areas.{numberPlace, bufferBegin, bytes_at}
+use Rattle.std.specs.Prelude.{◌≡◌, Bool, true, List, ℕ, ◌+◌, take, drop}
 use Rattle.document.specs.Variables.{setSize}
 use Rattle.document.specs.Plan.{Plan}
 use Rattle.document.specs.Run.{Run, started, placeBegins}
 use Rattle.document.specs.Recorder.Recorder.{planned}
 use Rattle.recorder_history.specs.History.{Event, begun, takesNext, beyondIn, NoneBeyond, TriggersNext}
-use Rattle.laws_happenings.specs.Recording.{OnlyNumber}
 use Rattle.demands.specs.Board.{Board, gateIn}
 
--- an accepted start leaves a recorder with its plan, at its start, and of the memory it writes the number, which is 0, alone (2026-08)
-pub record Begun (h next : Board) : Type 0 where
+-- an accepted start leaves a recorder with its plan, at its start
+pub record Begun (h : Board) : Type 0 where
   pub plan : Plan
-  pub recorder : (gateIn next).recorder ≡ planned plan started
-  pub memory : OnlyNumber h.memory next.memory
+  pub recorder : (gateIn h).recorder ≡ planned plan started
 
 -- a recorder with this plan, which goes on or not
 pub record RunsOn (p : Plan) (h : Board) (on : Bool) : Type 0 where
@@ -35,13 +32,9 @@ pub record FiresAtFirst (p : Plan) (memory : List ℕ) (es : List Event) (h : Bo
       → NoneBeyond p (begun memory) es
       → TriggersNext p (record { run = run; memory = h.memory })
 
--- "A tick changes only that place", and the two bytes of the number "as well" (2026-08): the memory before these, between them and that place
--- and behind it stays, and so do scope, application, tables and answers
+-- "A tick changes only that place.": the memory before and behind it stays, and so do scope, application, tables and answers
 pub record OnlyItsPlace (p : Plan) (r : Run) (h next : Board) : Type 0 where
-  pub before : take numberPlace next.memory ≡ take numberPlace h.memory
-  pub between :
-      bytes_at next.memory bufferBegin (r.place * setSize p.variables)
-      ≡ bytes_at h.memory bufferBegin (r.place * setSize p.variables)
+  pub before : take (placeBegins p r.place) next.memory ≡ take (placeBegins p r.place) h.memory
   pub behind :
       drop (placeBegins p r.place + setSize p.variables) next.memory
       ≡ drop (placeBegins p r.place + setSize p.variables) h.memory

@@ -6,7 +6,7 @@ use Rattle.document.specs.Numbers.{taken}
 use Rattle.document.specs.Stores.{stored}
 use Rattle.document.specs.Bytes.{AllBytes}
 use Rattle.document.specs.Tables.{Table, tablesIn}
-use Rattle.document.specs.Asides.Aside.{tick, writes, collects, reports, prepares, starts, frames, imports}
+use Rattle.document.specs.Asides.Aside.{tick, writes, collects, reports, prepares, starts, frames}
 use Rattle.document.specs.Happenings.{Happening}
 use Rattle.document.specs.Happenings.Happening.{byte, aside}
 use Rattle.state_block.specs.Layout.{decoded}
@@ -62,7 +62,6 @@ doing (aside (reports result)) = calls (Call.report result)
 doing (aside (prepares setup)) = calls (Call.prepare setup)
 doing (aside starts) = calls Call.start
 doing (aside (frames station bytes)) = calls (Call.frame station bytes)
-doing (aside (imports text)) = calls (Call.import text)
 
 abbrev pub broughtBy : Doing → List ℕ
 broughtBy (calls c) = (row c).brings
@@ -111,8 +110,7 @@ wholly h buffer = record { block = h.block; memory = h.memory; buffer = buffer }
 abbrev pub Ready : Board → Type 0
 Ready h = (c : Call) (buffer : List ℕ) → (row c).room ≤ length buffer → (row c).due (decoded h.block) h.memory ≡ true → number_of c (wholly h buffer) ≡ taken
 
--- what something that happens asks for, beside bytes and room: a report waits for its command, a frame for its station, and an
--- import for a good text
+-- what something that happens asks for, beside bytes and room: a report waits for its command, and a frame for its station
 abbrev pub DueTo : Board → Doing → Type 0
 DueTo h (calls c) = (row c).due (decoded h.block) h.memory ≡ true
 DueTo h (stores address bytes) = Unit {0}

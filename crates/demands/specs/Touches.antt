@@ -2,7 +2,7 @@
 use Rattle.std.specs.Prelude.{◌≡◌, false, ◌++◌, drop}
 use Rattle.document.specs.Areas.{variablesEnd}
 use Rattle.document.specs.Asides.{Aside}
-use Rattle.laws_happenings.specs.Asides.{ifAny, handedBy, isAnew, row, isTick, isOwn}
+use Rattle.laws_happenings.specs.Asides.{ifAny, handedBy, row, isTick, isOwn}
 use Rattle.laws_happenings.specs.Asides.CommandStep.{kept}
 use Rattle.laws_happenings.specs.Asides.RecorderStep.{stays}
 use Rattle.state_block.specs.Layout.{decoded}
@@ -19,8 +19,8 @@ pub record Touches (a : Aside) (h next : Board) : Type 0 where
   pub recorder : (row a).recorder ≡ stays → (decoded next.block).instruments.recorder ≡ (decoded h.block).instruments.recorder
   pub application : (row a).command ≡ kept → (decoded next.block).instruments.application ≡ (decoded h.block).instruments.application
   pub memory : (row a).stores ≡ false → next.memory ≡ h.memory
-  -- behind the variables only a tick, an accepted start (2026-08) and the gate's own program write
-  pub rest : isOwn a ≡ false → isTick a ≡ false → isAnew (row a).recorder (gateIn h) ≡ false → drop variablesEnd next.memory ≡ drop variablesEnd h.memory
+  -- behind the variables only a tick and the gate's own program write
+  pub rest : isOwn a ≡ false → isTick a ≡ false → drop variablesEnd next.memory ≡ drop variablesEnd h.memory
   -- what is handed out, and answered at the second port
   pub commands : next.commands ≡ h.commands ++ handedBy (row a).command (gateIn h).application
-  pub modbus-answers : next.modbus-answers ≡ h.modbus-answers ++ ifAny ((row a).answer (gateIn h).tables h.memory)
+  pub modbus-answers : next.modbus-answers ≡ h.modbus-answers ++ ifAny ((row a).answer h.memory)

@@ -10,7 +10,6 @@ use Rattle.document.specs.Recorder.{Recorder}
 use Rattle.document.specs.Recorder.Recorder.{absent, planned}
 use Rattle.document.specs.Sets.{readRound}
 use Rattle.recorder_history.specs.Trace.{Among, index_after}
-use Rattle.recorder_history.specs.Number.{number_of}
 use Rattle.demands.specs.Board.{Board, gateIn}
 
 -- ---- what is kept
@@ -55,7 +54,3 @@ statusAnswer running = record { status = cond running recorderRuns recorderStopp
 -- "0xC4 (0xC9): buffer address 12,288 and start index (2 bytes)", the address of n bytes
 abbrev pub queryAnswer : ℕ → ℕ → Answer
 queryAnswer n index = record { status = done; body = littleEndian n bufferBegin ++ littleEndian 2 index }
-
--- 0x01 for bytes 12,286 and 12,287: the number of these sets, at most 65,535 (2026-08)
-abbrev pub numberAnswer : List (List ℕ) → Answer
-numberAnswer sets = record { status = done; body = littleEndian 2 (number_of sets) }

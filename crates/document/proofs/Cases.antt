@@ -24,15 +24,3 @@ and_right s t e = (both s t e).1
 pub none_of : (s t : Bool) → s || t ≡ false → (s ≡ false) × (t ≡ false)
 none_of true t e = neither (sym e)
 none_of false t e = (refl, e)
-
--- what holds of one of two
-pub either : {P : Type 0} (s t : Bool) → s || t ≡ true → (s ≡ true → P) → (t ≡ true → P) → P
-either true t e first second = first refl
-either false t e first second = second e
-
-pub or_left : (s t : Bool) → s ≡ true → s || t ≡ true
-or_left s t e = rw e refl
-
-pub or_right : (s t : Bool) → t ≡ true → s || t ≡ true
-or_right true t e = refl
-or_right false t e = e

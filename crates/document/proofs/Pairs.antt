@@ -1,6 +1,7 @@
 -- The order of the refusals, by every pair of them that can apply together.
 use mathlib.Core.Path.{◌≡◌, refl}
-use mathlib.Core.List.{map}
+use mathlib.Core.List.{List, map}
+use Prim.Native.Nat.{ℕ}
 use Rattle.document.specs.Hex.{hex}
 use Rattle.document.specs.Services.{serviceOf}
 use Rattle.document.specs.Kinds.{kind_of}
@@ -12,8 +13,7 @@ use Rattle.document.specs.Refusals.{order, refusal}
 use Rattle.document.specs.Commands.{answered}
 use Rattle.document.specs.Rows.{saidBy, stepByStep}
 use Rattle.document.specs.CallRows.{Line}
-use Rattle.document.specs.Strings.{hasZero}
-use Rattle.document.specs.RefusalPairs.{Faulty, faultyMessages, pairRows, faultsOf, farRows}
+use Rattle.document.specs.RefusalPairs.{Faulty, faultyMessages, pairRows, faultsOf}
 use Rattle.document.specs.KindRows.{kindRows, kindsIn, kindsFrom, serviceRows}
 use Rattle.document.proofs.Rows.{holds-eq, lists-eq}
 
@@ -24,10 +24,6 @@ pairs-hold = holds-eq (map stepByStep (pairRows faultyMessages)) (map saidBy (pa
 pub faults-apply : map faultsOf faultyMessages ≡ map (λ (f : Faulty). f.faults) faultyMessages
 unfolding faultyMessages heard answerOnWire serviceOf planIn mayBeWritten refusal answered
 faults-apply = lists-eq (map faultsOf faultyMessages) (map (λ (f : Faulty). f.faults) faultyMessages) refl
-
-pub far-holds : map (λ (l : Line). l.gives) farRows ≡ map (λ (l : Line). l.says) farRows
-unfolding farRows heard serviceOf hasZero
-far-holds = lists-eq (map (λ (l : Line). l.gives) farRows) (map (λ (l : Line). l.says) farRows) refl
 
 pub order-written : order ≡ hex "82 83 81 88 87 85 86 84 89"
 order-written = refl

@@ -8,10 +8,10 @@ use lib.Dec.{eqb}
 use lib.ListN.{length}
 use Rattle.document.specs.Numbers.{mostData, done, recorderStopped}
 use Rattle.document.specs.Plan.{planIn}
-use Rattle.document.specs.Run.{started, numberShown, ranTick, memoryAfterTick}
+use Rattle.document.specs.Run.{started, ranTick, memoryAfterTick}
 use Rattle.document.specs.Recorder.{recorderPrepared, recorderStarted, recorderHalted, bufferAnswer, ticked, tickedMemory}
 use Rattle.document.specs.Recorder.Recorder.{planned}
-use Rattle.document.specs.Gate.{Gate, Outcome, says, withMemory, withRecorder}
+use Rattle.document.specs.Gate.{Gate, Outcome, says, withRecorder}
 use Rattle.document.specs.Services.{serviceOf}
 use Rattle.document.specs.Refusals.{order, first_of, recorderSetUpLines}
 use Rattle.document.specs.Commands.{served, prepareAndStart, status}
@@ -27,7 +27,7 @@ module _ (ex : Bool) (body : List ℕ) where
   two-in-a-row = refl
 
   -- answer and gate
-  pub as-today : (g : Gate) → prepareAndStart g ex body ≡ says (withMemory (withRecorder g (planned (planIn ex body) started)) (numberShown 0 g.memory)) done []
+  pub as-today : (g : Gate) → prepareAndStart g ex body ≡ says (withRecorder g (planned (planIn ex body) started)) done []
   as-today g = refl
 
   -- ---- "A recorder prepared and not started since"

@@ -11,7 +11,7 @@ module _ {A : Type 0} (whole : List ℕ → List A) where
   things-placed place [] = refl
   things-placed place (x ∷ xs) = ap (λ (l : List A). x ∷ l) (things-placed place xs)
 
-  pub opened-at : (place : ℕ) (ts : List Token) → map (λ (p : Placed A). p.thing) (openedAt whole place ts) ≡ opened whole ts
+  opened-at : (place : ℕ) (ts : List Token) → map (λ (p : Placed A). p.thing) (openedAt whole place ts) ≡ opened whole ts
   opened-at place [] = refl
   opened-at place (start ∷ ts) =
       map-append (λ (p : Placed A). p.thing) (map (λ (a : A). record { place = place; thing = a }) (whole (untilStart ts))) (openedAt whole (place + width start) ts)

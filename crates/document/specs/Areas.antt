@@ -5,14 +5,9 @@ use Rattle.std.specs.Prelude.{Bool, List, ℕ, ◌+◌, take, drop, leb}
 abbrev pub variablesEnd : ℕ
 variablesEnd = 8192
 
--- "8,192 to 12,287 calibration", of which two bytes show a number (2026-08): the first byte behind what is kept there. "registered
--- tables must end at or below 12,286"
+-- "8,192 to 12,287 calibration": the first byte behind it, below which all that is kept there ends, registered tables too
 abbrev pub calibrationEnd : ℕ
-calibrationEnd = 12286
-
--- "at bytes 12,286 and 12,287" (2026-08): where the number of sets since the start is shown
-abbrev pub numberPlace : ℕ
-numberPlace = 12286
+calibrationEnd = 12288
 
 -- "12,288 to 16,383 recorder buffer": where it begins
 abbrev pub bufferBegin : ℕ
@@ -22,9 +17,9 @@ bufferBegin = 12288
 abbrev pub memoryEnd : ℕ
 memoryEnd = 16384
 
--- "Recorded variables, the trigger variable .. must end at or below 12,286." (2026-08)
+-- "Recorded variables and trigger must end at or below 12,288."
 abbrev pub recordedEnd : ℕ
-recordedEnd = 12286
+recordedEnd = 12288
 
 -- "Read over the port": all three areas
 abbrev pub mayBeRead : ℕ → ℕ → Bool

@@ -6,7 +6,6 @@ use Rattle.document.specs.Application.{afterCollect, afterReport}
 use Rattle.document.specs.Gate.{Gate, withMemory, withRecorder, withApplication}
 use Rattle.document.specs.Panel.{panelPrepares, panelStarts}
 use Rattle.document.specs.Modbus.{modbusMemory}
-use Rattle.document.specs.Files.{importedMemory}
 
 pub data Aside : Type 0 where
   -- "The gate calls a tick."
@@ -23,8 +22,6 @@ pub data Aside : Type 0 where
   starts : Aside
   -- "whole frames marked off by the gate", on the second port, of which this is the own station (2026-07)
   frames : ℕ → List ℕ → Aside
-  -- the gate's own program imports a calibration file (2026-10)
-  imports : List ℕ → Aside
 
 abbrev pub tickedGate : Gate → Gate
 tickedGate g = withMemory (withRecorder g (ticked g.recorder g.memory)) (tickedMemory g.recorder g.memory)
@@ -36,5 +33,4 @@ beside g collects = withApplication g (afterCollect g.application)
 beside g (reports result) = withApplication g (afterReport result g.application)
 beside g (prepares body) = (panelPrepares g body).gate
 beside g starts = (panelStarts g).gate
-beside g (frames station frame) = withMemory g (modbusMemory station frame g.tables g.memory)
-beside g (imports text) = withMemory g (importedMemory text g.memory)
+beside g (frames station frame) = withMemory g (modbusMemory station frame g.memory)

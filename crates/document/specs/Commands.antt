@@ -6,7 +6,7 @@ use Rattle.document.specs.Areas.{bytes_at}
 use Rattle.document.specs.Stores.{stored, maskStored}
 use Rattle.document.specs.Variables.{addressWidth}
 use Rattle.document.specs.Scope.{scopeSetUp, scopeRead}
-use Rattle.document.specs.Recorder.{isRunning, recorderPrepared, recorderStarted, startedMemory, recorderHalted, bufferAnswer}
+use Rattle.document.specs.Recorder.{isRunning, recorderPrepared, recorderStarted, recorderHalted, bufferAnswer}
 use Rattle.document.specs.Services.{serviceOf}
 use Rattle.document.specs.Fields.{sizeField, addressField, dataField, maskField}
 use Rattle.document.specs.Values.{number, littleEndian}
@@ -38,16 +38,13 @@ abbrev pub writtenMasked : Gate → Service → List ℕ → Outcome
 writtenMasked g s body =
     says (withMemory g (maskStored g.memory (addressField s body) (dataField s body) (maskField s body))) done []
 
--- "preparing" (2026-06); it "leaves the two bytes" (2026-08)
+-- "preparing" (2026-06)
 abbrev pub prepare : Gate → Bool → List ℕ → Outcome
 prepare g ex body = says (withRecorder g (recorderPrepared ex body)) done []
 
 -- "and starting"; "0xC1: running answers 0x01, else starts, 0x00."
-abbrev pub startedGate : Gate → Gate
-startedGate g = withMemory (withRecorder g (recorderStarted g.recorder)) (startedMemory g.recorder g.memory)
-
 abbrev pub start : Gate → Outcome
-start g = says (startedGate g) (cond (isRunning g.recorder) recorderRuns done) []
+start g = says (withRecorder g (recorderStarted g.recorder)) (cond (isRunning g.recorder) recorderRuns done) []
 
 -- "Commands 0x09 and 0x0B become the two in a row"
 abbrev pub prepareAndStart : Gate → Bool → List ℕ → Outcome

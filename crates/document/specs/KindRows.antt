@@ -4,7 +4,7 @@ use mathlib.Core.List.List.{[] as none, ◌∷◌ as ◌then◌}
 use Prim.Native.Char.{code}
 use Prim.Native.String.{String, [], ◌∷◌, ◌++◌}
 use Rattle.document.specs.Hex.{hex}
-use Rattle.document.specs.Services.{Listed, commands, serviceOf}
+use Rattle.document.specs.Services.{serviceOf}
 use Rattle.document.specs.Kinds.{Kind, kind_of}
 use Rattle.document.specs.Kinds.Kind.{fast, standard, unserved}
 use Rattle.document.specs.CallRows.{Line, line, below}
@@ -50,13 +50,7 @@ abbrev sizesIn : List ℕ → List ℕ
 sizesIn none = none
 sizesIn (c then cs) = cond (eqb (serviceOf c).size 0) (sizesIn cs) (c then ((serviceOf c).size then sizesIn cs))
 
--- and the list as it is written, "in the document's order"
-abbrev listed : List Listed → List ℕ
-listed none = none
-listed (l then ls) = l.command then listed ls
-
 unfoldable pub serviceRows : List Line
 serviceRows =
     line (exIn (below 256)) (hex "04 05 06 0A 0B C9 E0 E1 E2 E6")
-    then (line (sizesIn (below 256)) (hex "D001 D102 D204 E001 E102 E204 E301 E402 E501 F004 F102")
-    then (line (listed commands) (hex "C0C8 D0D1D2 E0E1E2 E3E4F0 E5F1 0104 0205 0306 080AC5 090B C1C2C3 C4C9 10C6 11D4E6") then none))
+    then (line (sizesIn (below 256)) (hex "D001 D102 D204 E001 E102 E204 E301 E402 E501 F004 F102") then none)

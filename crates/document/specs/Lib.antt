@@ -29,7 +29,6 @@ pub mod BaseTypes
 pub mod Strings
 pub mod Tables
 pub mod Gate
-pub mod Marks
 pub mod Permission
 pub mod Commands
 -- "The recorder"
@@ -43,8 +42,6 @@ pub mod CheckSum
 pub mod Frames
 pub mod Registers
 pub mod Modbus
--- "Calibration files" (2026-10)
-pub mod Files
 -- since reset
 pub mod Panel
 pub mod Asides
@@ -72,8 +69,5 @@ pub mod TableRows
 pub mod BlockRows
 pub mod PanelRows
 pub mod ModbusRows
-pub mod MarkRows
 pub mod SetRows
-pub mod NumberRows
-pub mod FileRows
 pub mod StayRows

@@ -27,8 +27,6 @@ lineRows =
     -- a fast command that is not served has its data too, as "bits 5 and 4" say: 0, 2, 4 and 6 bytes
     ∷ (hears (hex "2B CF 31") (hex "2B 81 7F" ∷ []) ∷ hears (hex "2B DF 01 02 1E") (hex "2B 81 7F" ∷ []) ∷ [])
     ∷ (hears (hex "2B EF 01 02 03 04 07") (hex "2B 81 7F" ∷ []) ∷ hears (hex "2B FF 01 02 03 04 05 06 EC") (hex "2B 81 7F" ∷ []) ∷ [])
-    -- the last command below them has a length byte
-    ∷ (hears (hex "2B BF 00 41") (hex "2B 81 7F" ∷ []) ∷ [])
     -- the sum over command, length and data: each of them counts
     ∷ (hears (hex "2B D0 10 00 A0") (hex "2B 82 7E" ∷ []) ∷ hears (hex "2B D1 10 00 20") (hex "2B 82 7E" ∷ []) ∷ hears (hex "2B 01 03 01 10 00 EC") (hex "2B 82 7E" ∷ []) ∷ hears (hex "2B 01 03 01 10 00 EB") (hex "2B 00 00 00" ∷ []) ∷ [])
     ∷ []

@@ -1,9 +1,8 @@
 -- Modbus on the second port (2026-07): "Serve functions 3, 6, 16 and 22 on whole frames marked off by the gate."
 use Rattle.std.specs.Prelude.{Bool, true, false, cond, not, ◌||◌, List, [], ◌∷◌, ℕ, ◌+◌, ◌*◌, eqb, ltb, length}
 use Rattle.std.proofs.lemmas.List.Edits.{sets}
-use Rattle.document.specs.Numbers.{done, taken, stateRefused, memoryRefused, roomRefused, stationRefused}
+use Rattle.document.specs.Numbers.{done, taken, memoryRefused, roomRefused, stationRefused}
 use Rattle.document.specs.Areas.{memoryEnd, bytes_at}
-use Rattle.document.specs.Tables.{Table}
 use Rattle.document.specs.Refusals.{when, first_of}
 use Rattle.document.specs.CheckSum.{withCheckSum}
 use Rattle.document.specs.Frames.{functionByte, word_in, firstIn, quantityIn, byteCountIn, isStation, isSilenced}
@@ -47,21 +46,21 @@ isValueWrong WriteRegisters frame =
 isValueWrong MaskRegister frame = isLengthWrong 10 frame
 isValueWrong Other frame = false
 
--- "then 2 for an address"; "exception 2 for Modbus", where a table marks it read-only (2026-09)
-abbrev pub isAddressWrong : Function → List ℕ → List Table → List ℕ → Bool
-isAddressWrong ReadRegisters frame tables memory = not (mayReadRegisters (firstIn frame) (quantityIn frame))
-isAddressWrong WriteRegister frame tables memory = not (mayWriteRegisters tables memory (firstIn frame) 1)
-isAddressWrong WriteRegisters frame tables memory = not (mayWriteRegisters tables memory (firstIn frame) (quantityIn frame))
-isAddressWrong MaskRegister frame tables memory = not (mayWriteRegisters tables memory (firstIn frame) 1)
-isAddressWrong Other frame tables memory = false
+-- "then 2 for an address"
+abbrev pub isAddressWrong : Function → List ℕ → List ℕ → Bool
+isAddressWrong ReadRegisters frame memory = not (mayReadRegisters (firstIn frame) (quantityIn frame))
+isAddressWrong WriteRegister frame memory = not (mayWriteRegisters memory (firstIn frame) 1)
+isAddressWrong WriteRegisters frame memory = not (mayWriteRegisters memory (firstIn frame) (quantityIn frame))
+isAddressWrong MaskRegister frame memory = not (mayWriteRegisters memory (firstIn frame) 1)
+isAddressWrong Other frame memory = false
 
 -- the first that applies; `done` where none does
-unfoldable pub exceptionTo : Function → List ℕ → List Table → List ℕ → ℕ
-exceptionTo function frame tables memory =
+unfoldable pub exceptionTo : Function → List ℕ → List ℕ → ℕ
+exceptionTo function frame memory =
     first_of
     (when 1 (isOther function)
     ∷ when 3 (isValueWrong function frame)
-    ∷ when 2 (isAddressWrong function frame tables memory)
+    ∷ when 2 (isAddressWrong function frame memory)
     ∷ [])
 
 -- ---- what a function does, and what it answers behind station and function byte
@@ -90,30 +89,28 @@ answerTo exception frame memory =
     ((128 + functionByte frame) ∷ exception ∷ [])
 
 -- no bytes are silence
-unfoldable pub modbusAnswer : ℕ → List ℕ → List Table → List ℕ → List ℕ
-modbusAnswer station frame tables memory =
+unfoldable pub modbusAnswer : ℕ → List ℕ → List ℕ → List ℕ
+modbusAnswer station frame memory =
     cond (isSilenced station frame) []
-    (withCheckSum (station ∷ answerTo (exceptionTo (functionIn frame) frame tables memory) frame memory))
+    (withCheckSum (station ∷ answerTo (exceptionTo (functionIn frame) frame memory) frame memory))
 
 -- "silence and no change", and none with an exception
-unfoldable pub modbusMemory : ℕ → List ℕ → List Table → List ℕ → List ℕ
-modbusMemory station frame tables memory =
+unfoldable pub modbusMemory : ℕ → List ℕ → List ℕ → List ℕ
+modbusMemory station frame memory =
     cond (isSilenced station frame) memory
-    (cond (eqb (exceptionTo (functionIn frame) frame tables memory) done) (carriedOut (functionIn frame) frame memory) memory)
+    (cond (eqb (exceptionTo (functionIn frame) frame memory) done) (carriedOut (functionIn frame) frame memory) memory)
 
 -- ---- the call
 
 abbrev pub modbusRoom : ℕ
 modbusRoom = 256
 
--- "call number 3 for an output below 256 bytes, 9 for an own station outside 1 to 247", 2 as ever, and 1, since it asks for the tables
--- (2026-09); "Lowest number first"
-abbrev pub modbusRefusal : Bool → ℕ → List ℕ → List ℕ → ℕ
-modbusRefusal sound station memory out =
-    cond (not sound) stateRefused
-    (cond (not (eqb (length memory) memoryEnd)) memoryRefused
-    (cond (ltb (length out) modbusRoom) roomRefused (cond (not (isStation station)) stationRefused taken)))
+-- "call number 3 for an output below 256 bytes, 9 for an own station outside 1 to 247", and 2 as ever; "Lowest number first"
+abbrev pub modbusRefusal : ℕ → List ℕ → List ℕ → ℕ
+modbusRefusal station memory out =
+    cond (not (eqb (length memory) memoryEnd)) memoryRefused
+    (cond (ltb (length out) modbusRoom) roomRefused (cond (not (isStation station)) stationRefused taken))
 
 -- "Bytes of it behind the answer keep their values; without an answer, all do."
-abbrev pub modbusBuffer : ℕ → List ℕ → List Table → List ℕ → List ℕ → List ℕ
-modbusBuffer station frame tables memory out = sets out 0 (modbusAnswer station frame tables memory)
+abbrev pub modbusBuffer : ℕ → List ℕ → List ℕ → List ℕ → List ℕ
+modbusBuffer station frame memory out = sets out 0 (modbusAnswer station frame memory)

@@ -1,6 +1,6 @@
 -- Rows for the second port (2026-07): frames with their answers and what they leave, all bytes written out, check sums too. A check
 -- sum is slow to compute, so these are few: the others stand in crates/document_worked.
-use Rattle.std.specs.Prelude.{true, false, cond, List, [], ◌∷◌, ◌++◌, map, ℕ, replicate}
+use Rattle.std.specs.Prelude.{cond, List, [], ◌∷◌, ◌++◌, map, ℕ, replicate}
 use Prim.Native.String.{String}
 use Rattle.document.specs.Hex.{hex}
 use Rattle.document.specs.CheckSum.{withCheckSum, isCheckSumRight}
@@ -50,18 +50,18 @@ abbrev pub four : List ℕ
 four = hex "0102 0304 1200 FEFF"
 
 abbrev pub answers : String → String → Line
-answers frame answer = line (modbusAnswer 0x11 (hex frame) [] four) (hex answer)
+answers frame answer = line (modbusAnswer 0x11 (hex frame) four) (hex answer)
 
 abbrev pub leaves : String → String → Line
-leaves frame memory = line (modbusMemory 0x11 (hex frame) [] four) (hex memory)
+leaves frame memory = line (modbusMemory 0x11 (hex frame) four) (hex memory)
 
 -- neither an answer nor a change
 abbrev pub silent : List ℕ → Line
-silent frame = line (modbusAnswer 0x11 frame [] four ++ modbusMemory 0x11 frame [] four) four
+silent frame = line (modbusAnswer 0x11 frame four ++ modbusMemory 0x11 frame four) four
 
 -- an exception, and no change
 abbrev pub excepts : List ℕ → String → Line
-excepts frame answer = line (modbusAnswer 0x11 frame [] four ++ modbusMemory 0x11 frame [] four) (hex answer ++ four)
+excepts frame answer = line (modbusAnswer 0x11 frame four ++ modbusMemory 0x11 frame four) (hex answer ++ four)
 
 -- "A frame below 4 or above 256 bytes, a wrong check sum, another station, a broadcast or a function byte above 127"
 unfoldable pub silenceRows : List Line
@@ -79,20 +79,20 @@ silenceRows =
     ∷ silent (hex "10 06 0001 0003 9B4A")
     ∷ silent (hex "00 06 0001 0003 99DA")
     -- a broadcast is nobody's own
-    ∷ line (modbusAnswer 0 (hex "00 03 0000 0001 85DB") [] four) []
+    ∷ line (modbusAnswer 0 (hex "00 03 0000 0001 85DB") four) []
     -- a function byte of 127, and of 128
     ∷ excepts (hex "11 7F 0000 0001 D750") "11 FF 01 A1F5"
     ∷ silent (hex "11 80 0000 0001 C344")
     -- the first and the last station; nobody's are 248 to 255
-    ∷ line (modbusAnswer 1 (hex "01 03 0000 0001 840A") [] four) (hex "01 03 02 0201 78E4")
-    ∷ line (modbusAnswer 247 (hex "F7 03 0000 0001 909C") [] four) (hex "F7 03 02 0201 B0F1")
+    ∷ line (modbusAnswer 1 (hex "01 03 0000 0001 840A") four) (hex "01 03 02 0201 78E4")
+    ∷ line (modbusAnswer 247 (hex "F7 03 0000 0001 909C") four) (hex "F7 03 02 0201 B0F1")
     ∷ line (heardBy 247 ("F8 06 0001 0003 8C62" ∷ "F9 06 0001 0003 8DB3" ∷ "FA 06 0001 0003 8D80" ∷ "FB 06 0001 0003 8C51" ∷ [])) []
     ∷ line (heardBy 247 ("FC 06 0001 0003 8DE6" ∷ "FD 06 0001 0003 8C37" ∷ "FE 06 0001 0003 8C04" ∷ "FF 06 0001 0003 8DD5" ∷ [])) []
     ∷ []
   where
     heardBy : ℕ → List String → List ℕ
     heardBy station [] = []
-    heardBy station (f ∷ fs) = modbusAnswer station (hex f) [] four ++ heardBy station fs
+    heardBy station (f ∷ fs) = modbusAnswer station (hex f) four ++ heardBy station fs
 
 -- ---- "Serve functions 3, 6, 16 and 22"
 
@@ -108,8 +108,6 @@ functionRows =
     ∷ leaves "11 10 0001 0002 04 ABCD 5678 E8FA" "0102 CDAB 7856 FEFF"
     -- 22 masks one: the old 0x12 with the masks 0xF2 and 0x25 gives 0x17
     ∷ leaves "11 16 0002 00F2 0025 EEE2" "0102 0304 1700 FEFF"
-    -- both bytes of it: the old 0xFFFE with 0xF0F2 and 0x0A25 gives 0xFAF7
-    ∷ line (carriedOut MaskRegister (hex "11 16 0003 F0F2 0A25 E682") four) (hex "0102 0304 1200 F7FA")
     -- a read changes nothing, nor does another function; what 16 and 22 are told by
     ∷ line (carriedOut ReadRegisters (hex "11 03 0001 0003 569B") four ++ carriedOut Other (hex "11 04 0C23") four) (four ++ four)
     ∷ line (functionData WriteRegisters (hex "11 10 0001 0002 04 ABCD 5678 E8FA") four) (hex "0001 0002")
@@ -128,8 +126,8 @@ manyRows =
     line (functionData ReadRegisters (hex "11 03 0000 007D 877B") (replicate 252 0x55)) (hex "FA" ++ replicate 250 0x55)
     ∷ line (carriedOut WriteRegisters (hex "11 10 0000 007B F6" ++ replicate 246 0x55 ++ hex "D431") (replicate 248 0)) (replicate 246 0x55 ++ hex "0000")
     -- 125 and 126; 123 and 124, which would make a frame of 257 bytes
-    ∷ line (exceptionTo ReadRegisters (hex "11 03 0000 007D 877B") [] [] ∷ exceptionTo ReadRegisters (hex "11 03 0000 007E C77A") [] [] ∷ []) (hex "00 03")
-    ∷ line (exceptionTo WriteRegisters (hex "11 10 0000 007B F6" ++ replicate 248 0) [] [] ∷ exceptionTo WriteRegisters (hex "11 10 0000 007C F8" ++ replicate 250 0) [] [] ∷ []) (hex "00 03")
+    ∷ line (exceptionTo ReadRegisters (hex "11 03 0000 007D 877B") [] ∷ exceptionTo ReadRegisters (hex "11 03 0000 007E C77A") [] ∷ []) (hex "00 03")
+    ∷ line (exceptionTo WriteRegisters (hex "11 10 0000 007B F6" ++ replicate 248 0) [] ∷ exceptionTo WriteRegisters (hex "11 10 0000 007C F8" ++ replicate 250 0) [] ∷ []) (hex "00 03")
     ∷ []
 
 -- ---- "exception 1 for another function, then 3 .., then 2 for an address"
@@ -137,18 +135,17 @@ manyRows =
 -- 2: reads up to byte 16,383, writes up to 8,191, and no address comes round
 unfoldable pub addressRows : List Line
 addressRows =
-    line (exceptionTo ReadRegisters (hex "11 03 1FFF 0001 B17E") [] [] ∷ exceptionTo ReadRegisters (hex "11 03 1FFF 0002 F17F") [] [] ∷ exceptionTo ReadRegisters (hex "11 03 FFFF 0002 C6BF") [] [] ∷ []) (hex "00 02 02")
-    ∷ line (exceptionTo ReadRegisters (hex "11 03 0FFF 0002 F5BF") [] [] ∷ exceptionTo WriteRegister (hex "11 06 0FFF 0102 382F") [] [] ∷ exceptionTo WriteRegister (hex "11 06 1000 0102 0FCB") [] [] ∷ []) (hex "00 00 02")
-    ∷ line (exceptionTo WriteRegisters (hex "11 10 0FFE 0002 04 0102 0304 C958") [] [] ∷ exceptionTo WriteRegisters (hex "11 10 0FFF 0002 04 0102 0304 0894") [] [] ∷ []) (hex "00 02")
-    ∷ line (exceptionTo MaskRegister (hex "11 16 0FFF 0000 0102 63B0") [] [] ∷ exceptionTo MaskRegister (hex "11 16 1000 0000 0102 75CB") [] [] ∷ []) (hex "00 02")
+    line (exceptionTo ReadRegisters (hex "11 03 1FFF 0001 B17E") [] ∷ exceptionTo ReadRegisters (hex "11 03 1FFF 0002 F17F") [] ∷ exceptionTo ReadRegisters (hex "11 03 FFFF 0002 C6BF") [] ∷ []) (hex "00 02 02")
+    ∷ line (exceptionTo ReadRegisters (hex "11 03 0FFF 0002 F5BF") [] ∷ exceptionTo WriteRegister (hex "11 06 0FFF 0102 382F") [] ∷ exceptionTo WriteRegister (hex "11 06 1000 0102 0FCB") [] ∷ []) (hex "00 00 02")
+    ∷ line (exceptionTo WriteRegisters (hex "11 10 0FFE 0002 04 0102 0304 C958") [] ∷ exceptionTo WriteRegisters (hex "11 10 0FFF 0002 04 0102 0304 0894") [] ∷ []) (hex "00 02")
+    ∷ line (exceptionTo MaskRegister (hex "11 16 0FFF 0000 0102 63B0") [] ∷ exceptionTo MaskRegister (hex "11 16 1000 0000 0102 75CB") [] ∷ []) (hex "00 02")
     ∷ []
 
--- 3: a byte count that does not fit the frame, or the quantity; frames of functions 3, 6 and 22 that are too short or too long
+-- 3: a byte count that does not fit the frame, or the quantity; a frame of function 22 that is too short
 unfoldable pub lengthRows : List Line
 lengthRows =
-    line (map (λ (f : List ℕ). exceptionTo WriteRegisters f [] []) (hex "11 10 0000 0001 02 000000 D1EF" ∷ hex "11 10 0000 0001 02 00 C1AA" ∷ hex "11 10 0000 0001 03 000000 D013" ∷ [])) (hex "03 03 03")
-    ∷ line (exceptionTo ReadRegisters (hex "11 03 0000 00 D847") [] [] ∷ exceptionTo ReadRegisters (hex "11 03 0000 0001 00 1BA2") [] [] ∷ []) (hex "03 03")
-    ∷ line (exceptionTo WriteRegister (hex "11 06 0000 00 D88B") [] [] ∷ exceptionTo MaskRegister (hex "11 16 0000 0000 00 18F7") [] [] ∷ []) (hex "03 03")
+    line (map (λ (f : List ℕ). exceptionTo WriteRegisters f []) (hex "11 10 0000 0001 02 000000 D1EF" ∷ hex "11 10 0000 0001 02 00 C1AA" ∷ hex "11 10 0000 0001 03 000000 D013" ∷ [])) (hex "03 03 03")
+    ∷ line (exceptionTo MaskRegister (hex "11 16 0000 0000 00 18F7") [] ∷ []) (hex "03")
     ∷ []
 
 -- 3 before 2, and 1 before both
@@ -156,8 +153,6 @@ unfoldable pub orderRows : List Line
 orderRows =
     excepts (hex "11 03 2000 0000 4C9A") "11 83 03 00F4"
     ∷ excepts (hex "11 06 1000 0000 00 DBA4") "11 86 03 03A4"
-    -- no change either where the register could be written
-    ∷ excepts (hex "11 06 0001 ABCD 00 3EEB") "11 86 03 03A4"
     ∷ excepts (hex "11 04 FFFF 0001 337E") "11 84 01 8305"
     ∷ []
 
@@ -165,12 +160,11 @@ orderRows =
 
 unfoldable pub refusalRows : List Line
 refusalRows =
-    line (modbusRefusal true 247 (lent 16384) (lent 256) ∷ modbusRefusal true 247 (lent 16384) (lent 255) ∷ modbusRefusal true 248 (lent 16384) (lent 256) ∷ modbusRefusal true 248 (lent 16384) (lent 255) ∷ modbusRefusal true 248 [] [] ∷ []) (hex "00 03 09 03 02")
-    ∷ line (modbusRefusal true 247 (lent 16385) (lent 256) ∷ modbusRefusal false 247 (lent 16384) (lent 256) ∷ modbusRefusal false 248 [] [] ∷ []) (hex "02 01 01")
+    line (modbusRefusal 247 (lent 16384) (lent 256) ∷ modbusRefusal 247 (lent 16384) (lent 255) ∷ modbusRefusal 248 (lent 16384) (lent 256) ∷ modbusRefusal 248 (lent 16384) (lent 255) ∷ modbusRefusal 248 [] [] ∷ []) (hex "00 03 09 03 02")
     -- "Bytes of it behind the answer keep their values; without an answer, all do."
-    ∷ line (modbusBuffer 0x11 (hex "11 04 0C23") [] four (lent 7)) (hex "11 84 01 8305 AAAA")
-    ∷ line (modbusBuffer 0x11 (hex "11 03 0001 0003 569B") [] four (lent 12)) (hex "11 03 06 0403 0012 FFFE C944 AA")
-    ∷ line (modbusBuffer 0x11 (hex "10 04 0DB3") [] four (lent 2)) (hex "AAAA")
+    ∷ line (modbusBuffer 0x11 (hex "11 04 0C23") four (lent 7)) (hex "11 84 01 8305 AAAA")
+    ∷ line (modbusBuffer 0x11 (hex "11 03 0001 0003 569B") four (lent 12)) (hex "11 03 06 0403 0012 FFFE C944 AA")
+    ∷ line (modbusBuffer 0x11 (hex "10 04 0DB3") four (lent 2)) (hex "AAAA")
     ∷ []
 
 -- ---- both ports: "Demand 3 reads the memory as both ports left it."

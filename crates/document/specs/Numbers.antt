@@ -111,7 +111,3 @@ listRefused = 8
 -- "9 for an own station outside 1 to 247, after 8" (2026-07)
 abbrev pub stationRefused : ℕ
 stationRefused = 9
-
--- "call number 10 for any other text, after 9" (2026-10)
-abbrev pub fileRefused : ℕ
-fileRefused = 10

@@ -20,6 +20,6 @@ panelPrepares g body = unless g (prepareLines g body) (prepare g false body)
 unfoldable pub panelStarts : Gate → Outcome
 panelStarts g = unless g (recorderLines g) (start g)
 
--- ---- preparing knows 1; a start, which writes the memory, knows 1 and 2, as a tick does (2026-08)
-abbrev pub prepareRefusal : Bool → ℕ
-prepareRefusal sound = cond sound taken stateRefused
+-- ---- both calls know 1
+abbrev pub panelRefusal : Bool → ℕ
+panelRefusal sound = cond sound taken stateRefused

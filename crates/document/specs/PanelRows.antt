@@ -3,7 +3,7 @@ use Rattle.std.specs.Prelude.{true, false, List, [], ◌∷◌, ◌++◌, ℕ, r
 use Rattle.document.specs.Hex.{hex}
 use Rattle.document.specs.Gate.{Gate, fresh}
 use Rattle.document.specs.Happenings.{fromReset}
-use Rattle.document.specs.Panel.{panelPrepares, panelStarts, prepareRefusal}
+use Rattle.document.specs.Panel.{panelPrepares, panelStarts, panelRefusal}
 use Rattle.document.specs.Rows.{zeros, Row, Step, asks, sends, hears, passes, preparing, starting, afterSteps}
 use Rattle.document.specs.CallRows.{Line, line}
 
@@ -69,5 +69,5 @@ panelLines =
     ∷ line (preparedStatus [] twoPlaces ∷ preparedStatus (preparing twoPlaces ∷ []) twoPlaces ∷ preparedStatus traced twoPlaces ∷ []) (hex "00 00 00")
     -- as 0xC1
     ∷ line (toldStart [] ∷ toldStart (recording ∷ []) ∷ toldStart (preparing twoPlaces ∷ []) ∷ toldStart traced ∷ []) (hex "88 01 00 00")
-    ∷ line (prepareRefusal true ∷ prepareRefusal false ∷ []) (hex "00 01")
+    ∷ line (panelRefusal true ∷ panelRefusal false ∷ []) (hex "00 01")
     ∷ []

@@ -109,7 +109,7 @@ recorderSizeWrong ex body =
     || ltb 4096 (samplesField body * setSize (recordedIn ex body))
     || looksAtTrigger body && not (isIn (triggerSizeField ex body) (1 ∷ 2 ∷ 4 ∷ []))
 
--- "Recorded variables, the trigger variable .. must end at or below 12,286." (2026-08)
+-- "Recorded variables and trigger must end at or below 12,288."
 abbrev pub recorderRangeWrong : Bool → List ℕ → Bool
 recorderRangeWrong ex body =
     not (allMay mayBeRecorded (recordedIn ex body))

@@ -19,7 +19,7 @@ readRows =
     ∷ (asks "E0 00400000" "89" ∷ asks "E1 FF3F0000" "89" ∷ asks "E2 FD3F0000" "89" ∷ [])
     -- "size, address: read", across the ends of areas
     ∷ (puts 8191 "A1 A2" ∷ asks "01 03 02 FF1F" "00 A1A2" ∷ [])
-    ∷ (puts 12285 "B1 B2 B3 B4" ∷ asks "01 03 04 FD2F" "00 B1B2B3B4" ∷ asks "D1 FE2F" "00 B2B3" ∷ [])
+    ∷ (puts 12287 "B1 B2" ∷ asks "01 03 02 FF2F" "00 B1B2" ∷ [])
     ∷ (puts 16 "11 22 33 44 55" ∷ asks "04 05 03 11000000" "00 223344" ∷ asks "04 05 02 FF3F0000" "89" ∷ [])
     -- 64 bytes are read up to the memory's end, 65 nowhere
     ∷ (sends (hex "01 03 40 C03F") (replicate 65 0) ∷ asks "01 03 40 C13F" "89" ∷ [])

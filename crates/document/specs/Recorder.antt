@@ -3,7 +3,7 @@ use Rattle.std.specs.Prelude.{Bool, true, false, cond, List, [], ◌++◌, ℕ}
 use Rattle.document.specs.Areas.{bufferBegin}
 use Rattle.document.specs.Values.{littleEndian}
 use Rattle.document.specs.Plan.{Plan, planIn}
-use Rattle.document.specs.Run.{Run, started, stopped, prepared, startIndex, numberShown, ranTick, memoryAfterTick}
+use Rattle.document.specs.Run.{Run, started, stopped, prepared, startIndex, ranTick, memoryAfterTick}
 
 pub data Recorder : Type 0 where
   absent : Recorder
@@ -26,11 +26,6 @@ recorderPrepared ex body = planned (planIn ex body) prepared
 abbrev pub recorderStarted : Recorder → Recorder
 recorderStarted absent = absent
 recorderStarted (planned p r) = planned p (cond r.running r started)
-
--- "A start writes 0 .. at bytes 12,286 and 12,287" (2026-08); what is answered 0x01 or 0x88 is none
-abbrev pub startedMemory : Recorder → List ℕ → List ℕ
-startedMemory absent memory = memory
-startedMemory (planned p r) memory = cond r.running memory (numberShown 0 memory)
 
 -- "0xC2: stopped answers 0x02, else stops"
 abbrev pub recorderHalted : Recorder → Recorder

@@ -1,13 +1,12 @@
 -- "the first that applies in this order": every pair of refusals that can apply together, and each refusal alone.
-use Rattle.std.specs.Prelude.{Bool, true, false, cond, List, [], ◌∷◌, ◌++◌, map, ℕ, replicate, take}
+use Rattle.std.specs.Prelude.{cond, List, [], ◌∷◌, ◌++◌, map, ℕ, replicate, take}
 use Prim.Native.String.{String}
 use Rattle.document.specs.Hex.{hex}
 use Rattle.document.specs.Message.{Message, heard}
-use Rattle.document.specs.Refusals.{Refusal, stringLines, table}
+use Rattle.document.specs.Refusals.{Refusal, table}
 use Rattle.document.specs.Gate.{Gate, fresh}
 use Rattle.document.specs.Happenings.{fromReset}
 use Rattle.document.specs.Rows.{zeros, Row, Step, hears, asks, framed, wire, afterSteps}
-use Rattle.document.specs.CallRows.{Line, line}
 
 -- a message after some steps, and all refusals that apply to it, in the table's order
 pub record Faulty : Type 0 where
@@ -105,23 +104,3 @@ of_all g (m ∷ ms) = applying (table g m) ++ of_all g ms
 
 abbrev pub faultsOf : Faulty → List ℕ
 faultsOf f = of_all (afterSteps (fromReset (fresh zeros)) f.before).gate (heard (wire f.message))
-
--- ---- where memory ends: whether a range is refused does not depend on what it holds, and no string ends in an empty memory
-
-abbrev far : String → String → Line
-far message faults = line (of_all (fresh []) (heard (wire (hex message)))) (hex faults)
-
-unfoldable pub farRows : List Line
-farRows =
-    far "D0 FF3F" ""
-    ∷ far "01 03 40 C03F" ""
-    ∷ far "01 03 40 C13F" "89"
-    ∷ far "D4 FF3F" "86"
-    ∷ far "D4 0040" "89"
-    -- "the data are an address": of 2 bytes, in EX commands 4
-    ∷ line (strings false "00" ++ strings false "0000" ++ strings false "000000") (hex "85 86 86 85 86")
-    ∷ line (strings true "0000" ++ strings true "00000000") (hex "85 86 86")
-    ∷ []
-  where
-    strings : Bool → String → List ℕ
-    strings ex body = applying (stringLines (fresh []) ex (hex body))

@@ -4,8 +4,7 @@ use Rattle.std.specs.Int.Bits.{bit_and, bit_or}
 use Rattle.document.specs.Areas.{bytes_at, mayBeRead}
 use Rattle.document.specs.Values.{number, littleEndian}
 use Rattle.document.specs.Stores.{stored}
-use Rattle.document.specs.Tables.{Table}
-use Rattle.document.specs.Gate.{registered}
+use Rattle.document.specs.Gate.{fresh}
 use Rattle.document.specs.Permission.{mayBeWritten}
 
 -- "low byte first in memory", and in a frame high byte first: the bytes of each register turned round
@@ -33,7 +32,6 @@ registerMasked memory first andMask orMask =
 abbrev pub mayReadRegisters : ℕ → ℕ → Bool
 mayReadRegisters first quantity = mayBeRead (2 * first) (2 * quantity)
 
--- "writes up to 8,191", as on the service port. "Both ports share the memory and nothing else": a gate with this memory is asked,
--- and with the tables that were registered: "A write from either port" (2026-09)
-abbrev pub mayWriteRegisters : List Table → List ℕ → ℕ → ℕ → Bool
-mayWriteRegisters tables memory first quantity = mayBeWritten (registered tables memory) (2 * first) (2 * quantity)
+-- "writes up to 8,191", as on the service port. "Both ports share the memory and nothing else": a gate with this memory is asked
+abbrev pub mayWriteRegisters : List ℕ → ℕ → ℕ → Bool
+mayWriteRegisters memory first quantity = mayBeWritten (fresh memory) (2 * first) (2 * quantity)

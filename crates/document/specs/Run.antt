@@ -1,7 +1,6 @@
 -- The recorder between two setups: start, stop, tick, start index.
 use Rattle.std.specs.Prelude.{Bool, true, false, cond, ◌||◌, List, ℕ, ◌+◌, ◌-◌, ◌*◌, eqb, ltb}
-use Rattle.document.specs.Areas.{numberPlace, bufferBegin}
-use Rattle.document.specs.Values.{littleEndian}
+use Rattle.document.specs.Areas.{bufferBegin}
 use Rattle.document.specs.Stores.{stored}
 use Rattle.document.specs.Variables.{setSize, values_of}
 use Rattle.document.specs.Plan.{Plan, Trigger}
@@ -26,20 +25,17 @@ pub record Run : Type 0 where
   -- 'samples' sets are taken
   pub full : Bool
   pub watch : Watch
-  -- "the number of sets taken since the start" (2026-08)
-  pub number : ℕ
 
 -- "After a start the first tick takes a set"
 abbrev pub started : Run
-started = record { running = true; wait = 0; place = 0; full = false; watch = unprimed; number = 0 }
+started = record { running = true; wait = 0; place = 0; full = false; watch = unprimed }
 
 -- a stop leaves all else as it is
 abbrev pub stopped : Run → Run
-stopped r =
-    record { running = false; wait = r.wait; place = r.place; full = r.full; watch = r.watch; number = r.number }
+stopped r = record { running = false; wait = r.wait; place = r.place; full = r.full; watch = r.watch }
 
 -- "A recorder prepared and not started since .. counts as having taken no set" (2026-06): what a start and a stop with no tick
--- between leave. "Preparing alone sets the number to 0" (2026-08)
+-- between leave
 abbrev pub prepared : Run
 prepared = stopped started
 
@@ -63,14 +59,6 @@ placeAfter samples place = cond (eqb (place + 1) samples) 0 (place + 1)
 
 abbrev pub fullAfter : ℕ → ℕ → Bool → Bool
 fullAfter samples place full = full || eqb (place + 1) samples
-
--- "staying at 65,535 once there" (2026-08)
-abbrev pub numberAfter : ℕ → ℕ
-numberAfter number = cond (ltb number 65535) (number + 1) number
-
--- "low byte first, at bytes 12,286 and 12,287"
-abbrev pub numberShown : ℕ → List ℕ → List ℕ
-numberShown number memory = stored memory numberPlace (littleEndian 2 number)
 
 -- "Then, if no trigger has come, the trigger variable is compared."; 2026-02: the first set for itself, and "Later sets keep
 -- 01's rule."
@@ -102,24 +90,18 @@ setTaken p r memory =
       place = placeAfter p.samples r.place;
       full = fullAfter p.samples r.place r.full;
       watch = watched p r.watch (triggerValue p.trigger memory);
-      number = numberAfter r.number;
     }
-
--- "each taken set writes the count .. after the set is copied" (2026-08)
-abbrev pub setCopied : Plan → Run → List ℕ → List ℕ
-setCopied p r memory = numberShown (numberAfter r.number) (stored memory (placeBegins p r.place) (setOf p memory))
 
 -- ---- a tick
 
 abbrev pub waited : Run → Run
-waited r =
-    record { running = r.running; wait = r.wait - 1; place = r.place; full = r.full; watch = r.watch; number = r.number }
+waited r = record { running = r.running; wait = r.wait - 1; place = r.place; full = r.full; watch = r.watch }
 
 -- "A stopped recorder does nothing at it. After a start the first tick takes a set, then every (time divider + 1)th."
 unfoldable pub ranTick : Plan → Run → List ℕ → Run
 ranTick p r memory = cond r.running (cond (eqb r.wait 0) (setTaken p r memory) (waited r)) r
 
--- "A tick changes only that place", and "these two bytes as well" (2026-08)
+-- "A tick changes only that place."
 unfoldable pub memoryAfterTick : Plan → Run → List ℕ → List ℕ
 memoryAfterTick p r memory =
-    cond r.running (cond (eqb r.wait 0) (setCopied p r memory) memory) memory
+    cond r.running (cond (eqb r.wait 0) (stored memory (placeBegins p r.place) (setOf p memory)) memory) memory

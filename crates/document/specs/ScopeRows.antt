@@ -17,8 +17,8 @@ scopeRows =
     ∷ (asks "08 04 01 00 1000" "86" ∷ asks "08 07 02 01 1000 00 1000" "86" ∷ asks "08 01 00" "86" ∷ asks "0A 01 00" "86" ∷ [])
     ∷ (asks "08 1C 09 011000 011000 011000 011000 011000 011000 011000 011000 011000" "86" ∷ asks "C5" "88" ∷ [])
     ∷ (puts 16 "11" ∷ asks "08 19 08 011000 011000 011000 011000 011000 011000 011000 011000" "00" ∷ asks "C5" "00 1111111111111111" ∷ [])
-    -- "ranges are checked at setup": all that may be read, bytes 12,286 and 12,287 too
-    ∷ (asks "08 04 01 02 FE2F" "00" ∷ asks "08 07 02 01 0030 01 FF3F" "00" ∷ asks "08 04 01 02 FF3F" "89" ∷ asks "08 07 02 01 1000 01 0040" "89" ∷ asks "08 07 02 01 0040 01 1000" "89" ∷ asks "0A 06 01 01 10000100" "89" ∷ [])
+    -- "ranges are checked at setup": all that may be read
+    ∷ (asks "08 04 01 02 FF3F" "89" ∷ asks "08 07 02 01 1000 01 0040" "89" ∷ asks "08 07 02 01 0040 01 1000" "89" ∷ asks "0A 06 01 01 10000100" "89" ∷ [])
     -- "Any size from 1 to 255 may be set up", but at most 64 bytes are read
     ∷ (asks "08 04 01 FF 1000" "00" ∷ asks "C5" "84" ∷ asks "08 07 02 20 1000 21 1000" "00" ∷ asks "C5" "84" ∷ asks "08 07 02 20 1000 20 1000" "00" ∷ sends (hex "C5") (replicate 65 0) ∷ [])
     -- a write keeps the scope

@@ -34,13 +34,7 @@ exPlan =
 -- "With mode 0 the trigger's fields are not looked at."
 abbrev pub plainPlanNoTrigger : Plan
 plainPlanNoTrigger =
-    record {
-      samples = 1;
-      postTrigger = 2;
-      divider = 3;
-      trigger = record { mode = 0; address = 0; size = 0; sign = 0; threshold = 0 };
-      variables = record { size = 1; address = 16 } ∷ [];
-    }
+    record { samples = 1; postTrigger = 2; divider = 3; trigger = noTrigger; variables = record { size = 1; address = 16 } ∷ [] }
 
 abbrev pub plansIn : List Plan
 plansIn =
@@ -54,7 +48,7 @@ abbrev pub bufferAnswers : List (List ℕ)
 bufferAnswers = bufferAnswer 2 full ∷ bufferAnswer 4 full ∷ []
   where
     full : Rattle.document.specs.Recorder.Recorder
-    full = planned plainPlan (record { running = false; wait = 0; place = 0x0102; full = true; watch = unprimed; number = 3 })
+    full = planned plainPlan (record { running = false; wait = 0; place = 0x0102; full = true; watch = unprimed })
 
 -- ---- a run of a memory of one byte, which is recorded and rises to 0x80: at each tick its value
 

@@ -11,7 +11,6 @@ use Rattle.document.specs.Asides.Aside.{frames}
 use Rattle.document.specs.Happenings.{fromReset}
 use Rattle.document.specs.Rows.{zeros, Row, Step, hears, sends, asks, framed, wire, puts, ticks, passes, collecting, reporting, preparing, starting, afterSteps}
 use Rattle.document.specs.CallRows.{Line, line, lent, below}
-use Rattle.document.specs.FileRows.{importing}
 
 -- ---- what is set up
 
@@ -60,7 +59,6 @@ stayRows =
     ∷ (asks "E5 2000 05 FF" "00" ∷ [])
     ∷ (framing "11 06 0010 0005 4A9C" ∷ asks "D0 2000" "00 05" ∷ [])
     ∷ (puts 32 "05" ∷ [])
-    ∷ (importing ":01200000419E" ∷ [])
     -- all that reads
     ∷ (asks "C0" "00 03000101004000100140 4C4F472047415445 0000000000000000000000000000000000" ∷ asks "D0 1100" "00 A5" ∷ asks "D4 2000" "00 0000" ∷ asks "11 02 0000" "00 0200 0800 0020" ∷ asks "C6" "00 FE" ∷ asks "C5" "00 A5" ∷ [])
     -- a setup of the scope, and two ticks, which leave the oldest set where it stood
@@ -99,6 +97,6 @@ leftRows =
     -- the command is new until it is collected, whatever comes between, and it does not come again with its result
     ∷ line (new (setUp ++ (asks "E3 2000 05 00" "00" ∷ watching ∷ framing "11 06 0010 0005 4A9C" ∷ puts 32 "05" ∷ ticks 1 ∷ asks "10 01 02" "87" ∷ reporting 0x05 ∷ []))) (hex "01 07")
     ∷ line (new (selfTest ∷ collecting ∷ []) ++ new (selfTest ∷ collecting ∷ reporting 0x05 ∷ collecting ∷ [])) []
-    -- a tick writes its set, and how many there are
-    ∷ line (bytes_at (left zeros (recording "00" ∷ passes "A1 A2" ∷ [])).memory 12285 6) (hex "00 0200 A1 A2 00")
+    -- a tick writes its set
+    ∷ line (bytes_at (left zeros (recording "00" ∷ passes "A1 A2" ∷ [])).memory 12287 4) (hex "00 A1 A2 00")
     ∷ []

@@ -8,7 +8,6 @@ use Rattle.document.specs.Answer.{answerOnWire}
 use Rattle.document.specs.Gate.{registered}
 use Rattle.document.specs.Happenings.{fromReset}
 use Rattle.document.specs.Numbers.{taken, listRefused}
-use Rattle.document.specs.BaseTypes.{BaseType, baseTypes}
 use Rattle.document.specs.Tables.{baseSize, isEntryGood, areEntriesGood, tablesIn, isListGood, registerRefusal}
 use Rattle.document.specs.Rows.{Row, asks, afterSteps}
 use Rattle.document.specs.CallRows.{Line, line, below}
@@ -53,9 +52,8 @@ entry_rows =
     line (entries "0000" ("0800" ∷ "0900" ∷ "0A00" ∷ "0B00" ∷ "0700" ∷ "0C00" ∷ "0200" ∷ "0801" ∷ "0880" ∷ [])) (hex "00 00 00 00 08 08 08 08 08")
     -- "other types have any size": a code with a character behind it, no code, an empty string, a code that memory ends behind
     ∷ line (entries "0200" ("FFFF" ∷ "0000" ∷ []) ++ entries "0300" ("0000" ∷ "0300" ∷ []) ++ entries "0400" ("0000" ∷ []) ++ (refused (isEntryGood (hex "E1") (entry "0000" "0000")) ∷ [])) (hex "00 00 00 00 00 00")
-    -- 0xEC and 0xFF are no codes; the codes as they are listed; of all bytes, those that are
+    -- 0xEC and 0xFF are no codes; of all bytes, those that are
     ∷ line (sized (λ (s : ℕ). s) (hex "EC EC FF FF") (hex "04 0C 04 0C")) (replicate 4 0)
-    ∷ line (map (λ (t : BaseType). t.code) baseTypes) codesWritten
     ∷ line (coded (below 256)) (hex "E001 E102 E204 E308 E502 E604 F001 F102 F204 F308 F502 F604 FA04 FB08")
     -- each by the type that its own address names
     ∷ line (map (λ (e : List ℕ). refused (isEntryGood (hex "E100 F200") e)) (entry "0000" "0800" ∷ entry "0200" "0800" ∷ entry "0200" "1000" ∷ [])) (hex "00 08 00")
@@ -84,10 +82,8 @@ listRows memory =
     line (map (λ (n : ℕ). refused (isListGood memory (many n))) (hex "00 01 10 11")) (hex "00 00 00 08")
     -- half a pair, and parts of one
     ∷ line (lists ("0020" ∷ "00" ∷ "0020 08" ∷ "0020 0800 0020" ∷ [])) (hex "08 08 08 08")
-    -- "inside the calibration area": before it, across its beginning, its first 8 bytes, across its end by much, behind it
-    ∷ line (lists ("F81F 0800" ∷ "FF1F 0800" ∷ "0020 0800" ∷ "F62F 0801" ∷ "0030 0800" ∷ "F8FF 0800" ∷ [])) (hex "08 08 00 08 08 08")
-    -- "registered tables must end at or below 12,286" (2026-08): at 12,285, 12,286, 12,287 and 12,288
-    ∷ line (lists ("F52F 0800" ∷ "F62F 0800" ∷ "F72F 0800" ∷ "F82F 0800" ∷ [])) (hex "00 00 08 08")
+    -- "inside the calibration area": before it, across its beginning, its first 8 bytes, its last 8, across its end by little and by much, behind it
+    ∷ line (lists ("F81F 0800" ∷ "FF1F 0800" ∷ "0020 0800" ∷ "F82F 0800" ∷ "F92F 0800" ∷ "F82F 0801" ∷ "0030 0800" ∷ "F8FF 0800" ∷ [])) (hex "08 08 00 00 08 08 08 08")
     -- "one or more whole entries": 0, 4, 7, 9, 12 and 16 bytes; and at an odd address
     ∷ line (lists ("0020 0000" ∷ "0020 0400" ∷ "0020 0700" ∷ "0020 0900" ∷ "0020 0C00" ∷ "0020 1000" ∷ "0120 0800" ∷ [])) (hex "08 08 08 08 08 00 00")
     -- two may overlap; one bad table makes the list bad
@@ -106,7 +102,7 @@ unfoldable pub registerRows : List Line
 registerRows =
     line (map (λ (l : String). registerRefusal entered (hex l)) ("" ∷ "0020 1000" ∷ "0020 1800" ∷ "1020 1000" ∷ "1820 0800" ∷ "00" ∷ [])) (hex "00 00 08 08 00 08")
     -- "lowest number first"
-    ∷ line (registerRefusal [] (hex "00") ∷ registerRefusal (replicate 16385 0) [] ∷ []) (hex "02 02")
+    ∷ line (registerRefusal [] (hex "00") ∷ []) (hex "02")
     ∷ []
 
 -- ---- over the port, with three tables
@@ -123,9 +119,9 @@ tableRows =
     ∷ (asks "11 00" "85" ∷ asks "11 01 00" "85" ∷ asks "11 03 000000" "85" ∷ [])
     ∷ []
 
--- a name of 300 bytes: the length's second byte; and behind it one that no zero ends
+-- a name of 300 bytes: the length's second byte
 abbrev pub longName : List ℕ
-longName = replicate 300 0x41 ++ hex "00 41"
+longName = replicate 300 0x41 ++ hex "00"
 
 unfoldable pub longNameRows : List Row
-longNameRows = (asks "D4 0000" "00 2C01" ∷ asks "E6 02000000" "00 2A01" ∷ asks "D4 2D01" "86" ∷ []) ∷ []
+longNameRows = (asks "D4 0000" "00 2C01" ∷ asks "E6 02000000" "00 2A01" ∷ []) ∷ []

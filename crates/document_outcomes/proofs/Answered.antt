@@ -11,7 +11,6 @@ use Rattle.document.specs.Message.{Message, sumRight}
 use Rattle.document.specs.Stores.{stored, maskStored}
 use Rattle.document.specs.Services.{serviceOf}
 use Rattle.document.specs.Fields.{sizeField, addressField, dataField, maskField}
-use Rattle.document.specs.Run.{numberShown}
 use Rattle.document.specs.Gate.{Gate}
 use Rattle.document.specs.Permission.{mayBeWritten}
 use Rattle.document.specs.Refusals.{table, servedLines, first_of, refusal}
@@ -20,7 +19,6 @@ use Rattle.document.specs.AnswerWriter.{answerFormed}
 use Rattle.document.specs.declared.Service.{Service}
 use Rattle.document.proofs.Cases.{split}
 use Rattle.document_outcomes.specs.Changes.{Change, changeOf, changed, Accepted}
-use Rattle.document_outcomes.specs.Starts.{isStart}
 use Rattle.document_outcomes.proofs.Firsts.{Known, first-known, none-applies}
 use Rattle.document_outcomes.proofs.Carried.{Carried, carried}
 use Rattle.document_outcomes.proofs.Served.{alone-formed, memory-changed}
@@ -85,16 +83,11 @@ module _ (g : Gate) (m : Message) where
       (λ none. rw none (all.answer (none-of-lines (eqb-true _ _ none))).formed)
       (λ some. rw some (alone-formed (refusal g m) refusal-known))
 
-  -- ---- what holds of the memory, of it with a permitted range stored, and at an accepted start of it with the number 0 shown, holds of
-  -- the memory that is left
+  -- ---- what holds of the memory, and of it with a permitted range stored, holds of the memory that is left
 
   pub answered-memory : (P : List ℕ → Type 0) → P g.memory
       → (mayBeWritten g (addressField service m.body) (sizeField service m.body) ≡ true → P (stored g.memory (addressField service m.body) (dataField service m.body)))
       → (mayBeWritten g (addressField service m.body) (sizeField service m.body) ≡ true → P (maskStored g.memory (addressField service m.body) (dataField service m.body) (maskField service m.body)))
-      → (isStart g m ≡ true → P (numberShown 0 g.memory))
       → P (answered g m).gate.memory
-  answered-memory P same plain masked zero =
-      split (eqb (refusal g m) done)
-      (λ none. subst (λ (q : Gate). P q.memory) (sym (accepted-gate (eqb-true _ _ none)))
-      (memory-changed g service m.body P same plain masked change (accepted (eqb-true _ _ none)) (λ begins. zero (rw (none, begins) refl))))
-      (λ some. subst (λ (q : Gate). P q.memory) (sym (refused-gate some)) same)
+  answered-memory P same plain masked =
+      answered-gate (λ (q : Gate). P q.memory) same (memory-changed g service m.body P same plain masked change)

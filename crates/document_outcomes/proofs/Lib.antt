@@ -1,5 +1,6 @@
 -- The laws, lowest first.
 pub mod Firsts
+pub mod Permitted
 pub mod Carried
 pub mod Served
 pub mod Answered

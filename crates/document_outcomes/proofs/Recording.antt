@@ -9,8 +9,8 @@ use Rattle.document.specs.Numbers.{done}
 use Rattle.document.specs.Message.{Message}
 use Rattle.document.specs.Services.{serviceOf}
 use Rattle.document.specs.Plan.{Plan, planIn}
-use Rattle.document.specs.Run.{Run, started, stopped, numberShown}
-use Rattle.document.specs.Recorder.{Recorder, recorderAbsent, isRunning, recorderStarted, startedMemory, recorderHalted}
+use Rattle.document.specs.Run.{Run, started, stopped}
+use Rattle.document.specs.Recorder.{Recorder, recorderAbsent, isRunning, recorderStarted, recorderHalted}
 use Rattle.document.specs.Recorder.Recorder.{absent, planned}
 use Rattle.document.specs.Gate.{Gate}
 use Rattle.document.specs.Refusals.{refusal}
@@ -27,10 +27,9 @@ pub started-same : (r : Recorder) → isRunning r ≡ true → recorderStarted r
 started-same absent runs = neither runs
 started-same (planned p r) runs = rw runs refl
 
-pub begun : (r : Recorder) → recorderAbsent r ≡ false → isRunning r ≡ false
-    → (p : Plan) × (recorderStarted r ≡ planned p started) × ((m : List ℕ) → startedMemory r m ≡ numberShown 0 m)
+pub begun : (r : Recorder) → recorderAbsent r ≡ false → isRunning r ≡ false → (p : Plan) × (recorderStarted r ≡ planned p started)
 begun absent there still = neither (sym there)
-begun (planned p r) there still = (p, rw still refl, λ m. rw still refl)
+begun (planned p r) there still = (p, rw still refl)
 
 -- ---- by what is changed
 
@@ -56,15 +55,13 @@ module _ (g : Gate) (s : Service) (body : List ℕ) where
   stopping commandSent stop = neither stop
 
   beginning : (c : Change) → Accepted c g s body → begins c (isRunning g.recorder) ≡ true
-      → (p : Plan) × ((changed c g s body).recorder ≡ planned p started) × ((changed c g s body).memory ≡ numberShown 0 g.memory)
+      → (p : Plan) × ((changed c g s body).recorder ≡ planned p started)
   beginning nothing there start = neither start
   beginning store there start = neither start
   beginning maskedStore there start = neither start
   beginning scopeSetUp there start = neither start
-  beginning recorderPrepareAndStart there start = (planIn s.ex body, refl, refl)
-  beginning recorderStart there start =
-      let b = begun g.recorder there (not-true (isRunning g.recorder) start) in
-      (b.0, b.1, b.2 g.memory)
+  beginning recorderPrepareAndStart there start = (planIn s.ex body, refl)
+  beginning recorderStart there start = begun g.recorder there (not-true (isRunning g.recorder) start)
   beginning recorderStop there start = neither start
   beginning commandSent there start = neither start
 
@@ -82,12 +79,7 @@ module _ (g : Gate) (m : Message) where
       let t = both (eqb (refusal g m) done) (begins change (isRunning g.recorder)) start in
       let none = eqb-true (refusal g m) done t.0 in
       let b = beginning g service m.body change (accepted g m none) t.1 in
-      let gate = accepted-gate g m none in
-      record {
-        plan = b.0;
-        recorder = ap (λ (q : Gate). q.recorder) gate ∙ b.1;
-        memory = ap (λ (q : Gate). q.memory) gate ∙ b.2;
-      }
+      record { plan = b.0; recorder = ap (λ (q : Gate). q.recorder) (accepted-gate g m none) ∙ b.1 }
 
   module _ (p : Plan) (r : Run) (has : g.recorder ≡ planned p r) where
     pub stop-stops : isStop g m ≡ true → ((answered g m).gate.recorder ≡ planned p (stopped r)) × ((answered g m).gate.memory ≡ g.memory)

@@ -1,6 +1,6 @@
 -- A service's outcome: refused, the gate stays and a known status is said; else the gate is changed as its operation says.
 use mathlib.Core.Path.{◌≡◌, refl, sym, ap, subst}
-use mathlib.Core.Bool.{true, not, and-false}
+use mathlib.Core.Bool.{true, and-false}
 use mathlib.Core.List.{List, []}
 use Prim.Native.Nat.{ℕ}
 use borrow.Author.Tests.{eqb-true, eqb-false}
@@ -8,9 +8,6 @@ use lib.Dec.{eqb}
 use Rattle.document.specs.Numbers.{done, isStatus, isError}
 use Rattle.document.specs.Stores.{stored, maskStored}
 use Rattle.document.specs.Fields.{sizeField, addressField, dataField, maskField}
-use Rattle.document.specs.Run.{numberShown}
-use Rattle.document.specs.Recorder.{Recorder, isRunning, startedMemory}
-use Rattle.document.specs.Recorder.Recorder.{absent, planned}
 use Rattle.document.specs.Gate.{Gate}
 use Rattle.document.specs.Permission.{mayBeWritten}
 use Rattle.document.specs.Refusals.{servedLines, first_of}
@@ -20,7 +17,6 @@ use Rattle.document.specs.declared.Service.{Service}
 use Rattle.document.proofs.Cases.{split, neither}
 use Rattle.document_outcomes.specs.Changes.{Change, changeOf, changed, Accepted, Refused, leavesMemory}
 use Rattle.document_outcomes.specs.Changes.Change.{nothing, store, maskedStore, scopeSetUp, recorderPrepareAndStart, recorderStart, recorderStop, commandSent}
-use Rattle.document_outcomes.specs.Starts.{begins}
 use Rattle.document_outcomes.proofs.Firsts.{first-known}
 use Rattle.document_outcomes.proofs.Carried.{Carried, carried}
 
@@ -63,34 +59,28 @@ module _ (g : Gate) (s : Service) (body : List ℕ) where
   memory_kept store leaves = neither leaves
   memory_kept maskedStore leaves = neither leaves
   memory_kept scopeSetUp leaves = refl
-  memory_kept recorderPrepareAndStart leaves = neither leaves
-  memory_kept recorderStart leaves = neither leaves
+  memory_kept recorderPrepareAndStart leaves = refl
+  memory_kept recorderStart leaves = refl
   memory_kept recorderStop leaves = refl
   memory_kept commandSent leaves = refl
 
   pub served-memory-kept : leavesMemory change ≡ true → (served g s body).gate.memory ≡ g.memory
   served-memory-kept leaves = served-gate (λ (q : Gate). q.memory ≡ g.memory) refl (λ accepted. memory_kept change leaves)
 
-  -- ---- what holds of the memory, of it with a permitted range stored, and where a start is accepted of it with the number 0 shown, holds
-  -- of the memory that is left
+  -- ---- what holds of the memory, and of it with a permitted range stored, holds of the memory that is left
 
   module _ (P : List ℕ → Type 0) (same : P g.memory)
       (plain : mayBeWritten g (addressField s body) (sizeField s body) ≡ true → P (stored g.memory (addressField s body) (dataField s body)))
       (masked : mayBeWritten g (addressField s body) (sizeField s body) ≡ true → P (maskStored g.memory (addressField s body) (dataField s body) (maskField s body))) where
-    started-memory : (r : Recorder) → (not (isRunning r) ≡ true → P (numberShown 0 g.memory)) → P (startedMemory r g.memory)
-    started-memory absent zero = same
-    started-memory (planned p r) zero = split r.running (λ runs. rw runs same) (λ still. rw still (zero (rw still refl)))
+    pub memory-changed : (c : Change) → Accepted c g s body → P (changed c g s body).memory
+    memory-changed nothing accepted = same
+    memory-changed store accepted = plain accepted
+    memory-changed maskedStore accepted = masked accepted
+    memory-changed scopeSetUp accepted = same
+    memory-changed recorderPrepareAndStart accepted = same
+    memory-changed recorderStart accepted = same
+    memory-changed recorderStop accepted = same
+    memory-changed commandSent accepted = same
 
-    pub memory-changed : (c : Change) → Accepted c g s body → (begins c (isRunning g.recorder) ≡ true → P (numberShown 0 g.memory))
-        → P (changed c g s body).memory
-    memory-changed nothing accepted zero = same
-    memory-changed store accepted zero = plain accepted
-    memory-changed maskedStore accepted zero = masked accepted
-    memory-changed scopeSetUp accepted zero = same
-    memory-changed recorderPrepareAndStart accepted zero = zero refl
-    memory-changed recorderStart accepted zero = started-memory g.recorder zero
-    memory-changed recorderStop accepted zero = same
-    memory-changed commandSent accepted zero = same
-
-    pub served-memory : P (numberShown 0 g.memory) → P (served g s body).gate.memory
-    served-memory zero = served-gate (λ (q : Gate). P q.memory) same (λ accepted. memory-changed change accepted (λ begins. zero))
+    pub served-memory : P (served g s body).gate.memory
+    served-memory = served-gate (λ (q : Gate). P q.memory) same (memory-changed change)

@@ -7,7 +7,6 @@ use Rattle.document.specs.Recorder as recorder
 use Rattle.document.specs.Fields.{sizeField, addressField, dataField, maskField}
 use Rattle.document.specs.Application.Application.{waiting}
 use Rattle.document.specs.Gate.{Gate, withMemory, withScope, withRecorder, withApplication}
-use Rattle.document.specs.Commands.{startedGate}
 use Rattle.document.specs.Permission.{mayBeWritten}
 use Rattle.document.specs.Refusals.{first_of, scopeSetUpLines, recorderSetUpLines, sendLines}
 use Rattle.document.specs.declared.Operation.{Operation}
@@ -50,8 +49,8 @@ changed store g s body = withMemory g (stored g.memory (addressField s body) (da
 changed maskedStore g s body =
     withMemory g (maskStored g.memory (addressField s body) (dataField s body) (maskField s body))
 changed scopeSetUp g s body = withScope g (scope.scopeSetUp s.ex body)
-changed recorderPrepareAndStart g s body = startedGate (withRecorder g (recorder.recorderPrepared s.ex body))
-changed recorderStart g s body = startedGate g
+changed recorderPrepareAndStart g s body = withRecorder g (recorder.recorderStarted (recorder.recorderPrepared s.ex body))
+changed recorderStart g s body = withRecorder g (recorder.recorderStarted g.recorder)
 changed recorderStop g s body = withRecorder g (recorder.recorderHalted g.recorder)
 changed commandSent g s body = withApplication g (waiting body)
 
@@ -77,13 +76,13 @@ Refused recorderStart g s body = recorder.recorderAbsent g.recorder ≡ true
 Refused recorderStop g s body = recorder.recorderAbsent g.recorder ≡ true
 Refused commandSent g s body = first_of (sendLines g body) ≡ done → ⊥
 
--- whether it leaves the memory alone: a store writes variables, and a start shows that no set is taken (2026-08)
+-- whether it leaves the memory alone
 abbrev pub leavesMemory : Change → Bool
 leavesMemory nothing = true
 leavesMemory store = false
 leavesMemory maskedStore = false
 leavesMemory scopeSetUp = true
-leavesMemory recorderPrepareAndStart = false
-leavesMemory recorderStart = false
+leavesMemory recorderPrepareAndStart = true
+leavesMemory recorderStart = true
 leavesMemory recorderStop = true
 leavesMemory commandSent = true

@@ -4,7 +4,7 @@ use Rattle.document.specs.Numbers.{done}
 use Rattle.document.specs.Message.{Message}
 use Rattle.document.specs.Services.{serviceOf}
 use Rattle.document.specs.Plan.{Plan}
-use Rattle.document.specs.Run.{started, numberShown}
+use Rattle.document.specs.Run.{started}
 use Rattle.document.specs.Recorder.{isRunning}
 use Rattle.document.specs.Recorder.Recorder.{planned}
 use Rattle.document.specs.Gate.{Gate}
@@ -42,8 +42,7 @@ isStart g m = eqb (refusal g m) done && begins (changeOf (serviceOf m.command).o
 abbrev pub isStop : Gate → Message → Bool
 isStop g m = eqb (refusal g m) done && halts (changeOf (serviceOf m.command).operation)
 
--- what an accepted start leaves: a recorder with its plan, at its start, and the memory but for the number, which is 0 (2026-08)
+-- what an accepted start leaves: a recorder with its plan, at its start
 pub record Begins (g : Gate) (m : Message) : Type 0 where
   pub plan : Plan
   pub recorder : (answered g m).gate.recorder ≡ planned plan started
-  pub memory : (answered g m).gate.memory ≡ numberShown 0 g.memory

@@ -12,7 +12,6 @@ use Rattle.document.specs.Permission.{mayBeWritten}
 use Rattle.document.specs.Refusals.{refusal}
 use Rattle.document.specs.Commands.{answered}
 use Rattle.document.specs.Panel.{panelPrepares, panelStarts}
-use Rattle.document.specs.Files.{isFileGood, recordsIn, importedMemory}
 use Rattle.document.specs.Asides.{beside}
 use Rattle.document.specs.Strings.{beforeZero, hasZero}
 use Rattle.document.specs.CheckSum.{shifted, shifts, stepped, checkSum}
@@ -32,29 +31,20 @@ use Rattle.document.specs.TableRows.{tableRows, tablesByStep}
 use Rattle.document.specs.StayRows.{stayRows}
 use Rattle.document.proofs.Rows.{holds-eq, rows}
 use Rattle.document_worked.specs.WholeRows as whole
-use Rattle.document_worked.specs.TableRows.{named, nameRows, importedRows}
+use Rattle.document_worked.specs.TableRows.{named, nameRows}
 
 abbrev pub given : List (List (List ℕ))
-unfolding lineRows longLineRows midstRows whole.scopeRows tableRows nameRows
+unfolding lineRows longLineRows midstRows whole.scopeRows tableRows nameRows stayRows
 given =
     map byteByByte (lineRows ++ longLineRows ++ midstRows) ++ map stepByStep (rows ++ whole.scopeRows)
     ++ map (tablesByStep named) (tableRows ++ nameRows)
+    ++ map (tablesByStep zeros) stayRows
 
 abbrev pub said : List (List (List ℕ))
-unfolding lineRows longLineRows midstRows whole.scopeRows tableRows nameRows
+unfolding lineRows longLineRows midstRows whole.scopeRows tableRows nameRows stayRows
 said =
-    map saidBy (lineRows ++ longLineRows ++ midstRows) ++ map saidBy (rows ++ whole.scopeRows) ++ map saidBy (tableRows ++ nameRows)
+    map saidBy (lineRows ++ longLineRows ++ midstRows) ++ map saidBy (rows ++ whole.scopeRows) ++ map saidBy (tableRows ++ nameRows) ++ map saidBy stayRows
 
 pub rows-hold : given ≡ said
-unfolding lineRows longLineRows readRows writeRows scopeRows setupRows recorderRows triggerRows applicationRows panelRows midstRows tableRows nameRows whole.scopeRows panelPrepares panelStarts answerOnWire heard finishedBy serviceOf mayBeWritten refusal answered planIn fires isBeyond ranTick memoryAfterTick shifted shifts stepped checkSum isSilenced exceptionTo modbusMemory beside beforeZero hasZero
+unfolding lineRows longLineRows readRows writeRows scopeRows setupRows recorderRows triggerRows applicationRows panelRows midstRows tableRows nameRows stayRows whole.scopeRows panelPrepares panelStarts answerOnWire heard finishedBy serviceOf mayBeWritten refusal answered planIn fires isBeyond ranTick memoryAfterTick shifted shifts stepped checkSum isSilenced exceptionTo modbusMemory beside beforeZero hasZero
 rows-hold = holds-eq given said refl
-
--- with three tables in place, whose entries every write asks
-pub stay-rows-hold : map (tablesByStep zeros) stayRows ≡ map saidBy stayRows
-unfolding stayRows panelPrepares panelStarts answerOnWire heard finishedBy serviceOf mayBeWritten refusal answered planIn fires isBeyond ranTick memoryAfterTick shifted shifts stepped checkSum isSilenced exceptionTo modbusMemory isFileGood recordsIn importedMemory beside beforeZero hasZero
-stay-rows-hold = holds-eq (map (tablesByStep zeros) stayRows) (map saidBy stayRows) refl
-
--- and behind files that change an entry
-pub imported-rows-hold : map (tablesByStep named) importedRows ≡ map saidBy importedRows
-unfolding importedRows answerOnWire heard finishedBy serviceOf mayBeWritten refusal answered isFileGood recordsIn importedMemory beside beforeZero hasZero
-imported-rows-hold = holds-eq (map (tablesByStep named) importedRows) (map saidBy importedRows) refl

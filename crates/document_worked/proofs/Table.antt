@@ -2,26 +2,21 @@
 use mathlib.Core.Path.{◌≡◌}
 use mathlib.Core.List.{map}
 use Rattle.document_worked.specs.Staples.{Case, shown}
-use Rattle.document.specs.Rows.{zeros, saidBy, stepByStep}
-use Rattle.document.specs.TableRows.{tablesByStep}
-use Rattle.document.specs.StayRows.{stayRows}
+use Rattle.document.specs.Rows.{saidBy, stepByStep}
 use Rattle.document.specs.RefusalPairs.{pairRows, faultyMessages}
 use Rattle.document.specs.EdgeRows.{Edge, edges, firesAt}
 use Rattle.document.specs.LevelRows.{Level, levels, firesFirst}
 use Rattle.document.specs.KindRows.{kindRows, kindsFrom, kindsIn}
 use Rattle.document_worked.proofs.Staples.{table, staples-hold}
-use Rattle.document_worked.specs.TableRows.{named, importedRows}
-use Rattle.document_worked.proofs.Rows.{given, said, rows-hold, stay-rows-hold, imported-rows-hold}
+use Rattle.document_worked.proofs.Rows.{given, said, rows-hold}
 use Rattle.document.proofs.Rows.{edges-hold, levels-hold}
 use Rattle.document.proofs.Pairs.{pairs-hold, kinds-hold}
 
 pub table-holds :
     (map shown table ≡ map (λ (c : Case). c.shows) table)
     × (given ≡ said)
-    × (map (tablesByStep zeros) stayRows ≡ map saidBy stayRows)
-    × (map (tablesByStep named) importedRows ≡ map saidBy importedRows)
     × (map stepByStep (pairRows faultyMessages) ≡ map saidBy (pairRows faultyMessages))
     × (map firesAt edges ≡ map (λ (e : Edge). e.fires) edges)
     × (map firesFirst levels ≡ map (λ (l : Level). l.fires) levels)
     × (kindsFrom 0 kindRows ≡ kindsIn kindRows)
-table-holds = (staples-hold, rows-hold, stay-rows-hold, imported-rows-hold, pairs-hold, edges-hold, levels-hold, kinds-hold)
+table-holds = (staples-hold, rows-hold, pairs-hold, edges-hold, levels-hold, kinds-hold)

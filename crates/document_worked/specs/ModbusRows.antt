@@ -1,6 +1,6 @@
 -- Further rows for the second port (2026-07), with those that are slow to compute: the longest frames, every exception, and where the memory and
 -- its variables end.
-use Rattle.std.specs.Prelude.{true, false, List, [], ◌∷◌, ◌++◌, map, ℕ, replicate}
+use Rattle.std.specs.Prelude.{List, [], ◌∷◌, ◌++◌, map, ℕ, replicate}
 use Prim.Native.String.{String}
 use Rattle.document.specs.Hex.{hex}
 use Rattle.document.specs.Areas.{bytes_at}
@@ -32,10 +32,10 @@ silenceRows =
 -- the longest: of 256 bytes, and of 255
 unfoldable pub longRows : List Line
 longRows =
-    line (modbusAnswer 0x11 (hex "11 03" ++ replicate 252 0 ++ hex "1CCE") [] four) (hex "11 83 03 00F4")
+    line (modbusAnswer 0x11 (hex "11 03" ++ replicate 252 0 ++ hex "1CCE") four) (hex "11 83 03 00F4")
     -- the most registers that are read and written at once: 125 in an answer of 255 bytes, 123 in a frame of 255
-    ∷ line (modbusAnswer 0x11 (hex "11 03 0000 007D 877B") [] (replicate 252 0x55)) (hex "11 03 FA" ++ replicate 250 0x55 ++ hex "15D6")
-    ∷ line (modbusAnswer 0x11 many [] (replicate 248 0) ++ modbusMemory 0x11 many [] (replicate 248 0)) (hex "11 10 0000 007B 82BA" ++ replicate 246 0x55 ++ hex "0000")
+    ∷ line (modbusAnswer 0x11 (hex "11 03 0000 007D 877B") (replicate 252 0x55)) (hex "11 03 FA" ++ replicate 250 0x55 ++ hex "15D6")
+    ∷ line (modbusAnswer 0x11 many (replicate 248 0) ++ modbusMemory 0x11 many (replicate 248 0)) (hex "11 10 0000 007B 82BA" ++ replicate 246 0x55 ++ hex "0000")
     ∷ []
   where
     many : List ℕ
@@ -102,16 +102,14 @@ exceptionRows =
 
 -- what the last four variables are then, and the first byte behind them
 abbrev lasts : String → String → Line
-lasts frame last = line (bytes_at (modbusMemory 0x11 (hex frame) [] (replicate 8193 0)) 8188 5) (hex last)
+lasts frame last = line (bytes_at (modbusMemory 0x11 (hex frame) (replicate 8193 0)) 8188 5) (hex last)
 
 -- the same where the memory ends, and where its variables do
 unfoldable pub endRows : List Line
 endRows =
-    line (modbusAnswer 0x11 (hex "11 03 1FFF 0001 B17E") [] zeros) (hex "11 03 02 0000 7987")
-    -- register 6,143 is the number of sets (2026-08)
-    ∷ line (modbusAnswer 0x11 (hex "11 03 17FF 0001 B31E") [] (replicate 12286 0 ++ hex "0102")) (hex "11 03 02 0201 B927")
+    line (modbusAnswer 0x11 (hex "11 03 1FFF 0001 B17E") zeros) (hex "11 03 02 0000 7987")
     -- a read from the variables on into the calibration area
-    ∷ line (modbusAnswer 0x11 (hex "11 03 0FFF 0002 F5BF") [] (replicate 8190 0 ++ hex "A1A2 B1B2")) (hex "11 03 04 A2A1 B2B1 2D7C")
+    ∷ line (modbusAnswer 0x11 (hex "11 03 0FFF 0002 F5BF") (replicate 8190 0 ++ hex "A1A2 B1B2")) (hex "11 03 04 A2A1 B2B1 2D7C")
     ∷ lasts "11 06 0FFF 0102 382F" "0000 0201 00"
     ∷ lasts "11 10 0FFE 0002 04 0102 0304 C958" "0201 0403 00"
     ∷ lasts "11 10 0FFF 0002 04 0102 0304 0894" "0000 0000 00"
@@ -122,9 +120,7 @@ endRows =
 
 unfoldable pub modbusCallRows : List Line
 modbusCallRows =
-    line (map (λ (s : ℕ). modbusRefusal true s (lent 16384) (lent 256)) (0 ∷ 1 ∷ 17 ∷ 247 ∷ 248 ∷ 255 ∷ 257 ∷ [])) (hex "09 00 00 00 09 09 09")
-    ∷ line (modbusRefusal true 1 (lent 16384) (lent 255) ∷ modbusRefusal true 1 (lent 16383) (lent 256) ∷ modbusRefusal true 1 (lent 16385) (lent 256) ∷ []) (hex "03 02 02")
-    ∷ line (modbusRefusal true 0 [] [] ∷ modbusRefusal true 0 (lent 16384) [] ∷ []) (hex "02 03")
-    -- a state outside its bounds before all of them (2026-09)
-    ∷ line (modbusRefusal false 1 (lent 16384) (lent 256) ∷ modbusRefusal false 0 [] [] ∷ []) (hex "01 01")
+    line (map (λ (s : ℕ). modbusRefusal s (lent 16384) (lent 256)) (0 ∷ 1 ∷ 17 ∷ 247 ∷ 248 ∷ 255 ∷ 257 ∷ [])) (hex "09 00 00 00 09 09 09")
+    ∷ line (modbusRefusal 1 (lent 16384) (lent 255) ∷ modbusRefusal 1 (lent 16383) (lent 256) ∷ modbusRefusal 1 (lent 16385) (lent 256) ∷ []) (hex "03 02 02")
+    ∷ line (modbusRefusal 0 [] [] ∷ modbusRefusal 0 (lent 16384) [] ∷ []) (hex "02 03")
     ∷ []

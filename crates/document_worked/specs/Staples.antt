@@ -80,9 +80,9 @@ risingGate sign memory run =
       tables = [];
     }
 
--- both values stand in the buffer, the older first, and before them that there are two (2026-08)
+-- both values stand in the buffer, the older first
 abbrev risen : List ℕ
-risen = stored (stored zeros 16 (0x00 ∷ 0x80 ∷ [])) 12286 (0x02 ∷ 0x00 ∷ 0x00 ∷ 0x60 ∷ 0x00 ∷ 0x80 ∷ [])
+risen = stored (stored zeros 16 (0x00 ∷ 0x80 ∷ [])) 12288 (0x00 ∷ 0x60 ∷ 0x00 ∷ 0x80 ∷ [])
 
 -- ---- the cases
 
@@ -111,7 +111,7 @@ staples =
       shows =
           record {
             answers = (0x2B ∷ 0x00 ∷ 0x00 ∷ []) ∷ (0x2B ∷ 0x02 ∷ 0xFE ∷ []) ∷ [];
-            gate = risingGate 0 risen (record { running = false; wait = 0; place = 2; full = false; watch = triggered 0; number = 2 });
+            gate = risingGate 0 risen (record { running = false; wait = 0; place = 2; full = false; watch = triggered 0 });
           };
     }
     ∷ record {
@@ -121,7 +121,7 @@ staples =
       shows =
           record {
             answers = (0x2B ∷ 0x00 ∷ 0x00 ∷ []) ∷ (0x2B ∷ 0x01 ∷ 0xFF ∷ []) ∷ [];
-            gate = risingGate 1 risen (record { running = true; wait = 0; place = 2; full = false; watch = previous 0x8000; number = 2 });
+            gate = risingGate 1 risen (record { running = true; wait = 0; place = 2; full = false; watch = previous 0x8000 });
           };
     }
     ∷ []

@@ -8,7 +8,8 @@ use Rattle.document.specs.CallRows.{Line, line, lent, commandLine, below, status
 -- "2 memory of another length", "3 a lent output buffer too short"; "Lowest number first"
 unfoldable pub callRows : List Line
 callRows =
-    line (tickRefusal true (lent 16383) ∷ byteRefusal true (lent 16383) [] ∷ byteRefusal true (lent 16384) (lent 133) ∷ []) (hex "02 02 00")
+    line (tickRefusal true (lent 16383) ∷ tickRefusal true (lent 16385) ∷ []) (hex "02 02")
+    ∷ line (byteRefusal true (lent 16383) [] ∷ byteRefusal true (lent 16385) [] ∷ byteRefusal true (lent 16384) (lent 133) ∷ []) (hex "02 02 00")
     ∷ []
 
 -- "standard data above 255"; "00 to 02 and 81 to 89", of all bytes
@@ -21,7 +22,4 @@ writerRows =
 
 -- "ranges are checked at setup": all that may be read, the last areas too
 unfoldable pub scopeRows : List Row
-scopeRows =
-    (puts 12288 "11" ∷ puts 16383 "22" ∷ asks "08 07 02 01 0030 01 FF3F" "00" ∷ asks "C5" "00 11 22" ∷ [])
-    ∷ (puts 12286 "11 22" ∷ asks "08 04 01 02 FE2F" "00" ∷ asks "C5" "00 11 22" ∷ [])
-    ∷ []
+scopeRows = (puts 12288 "11" ∷ puts 16383 "22" ∷ asks "08 07 02 01 0030 01 FF3F" "00" ∷ asks "C5" "00 11 22" ∷ []) ∷ []

@@ -5,8 +5,10 @@ use mathlib.Core.List.{List, []}
 use Prim.Native.Nat.{ℕ}
 use lib.Dec.{eqb, leb}
 use lib.ListN.{length}
-use Rattle.document.specs.Numbers.{notServed, taken}
-use Rattle.document.specs.Panel.{panelPrepares}
+use Rattle.document.specs.Numbers.{notServed, taken, done}
+use Rattle.document.specs.Refusals.{first_of, recorderLines}
+use Rattle.document.specs.Panel.{panelPrepares, panelStarts}
+use Rattle.document.proofs.Cases.{split}
 use Rattle.line_wire.specs.declared.Written.{Written}
 use Rattle.call_application.specs.declared.Collected.{Collected}
 use Rattle.state_parts.specs.State.{Instruments, gateOf}
@@ -17,14 +19,19 @@ use Rattle.call_panel.proofs.Told.{given-said}
 use Rattle.call_byte.specs.declared.Taken.{Taken}
 use Rattle.call_block.specs.declared.BlockTaken.{BlockTaken}
 use Rattle.laws_calls.specs.Calls.{Call, Lent, Left, Outcome, tookOf, wroteOf, length_of, number_of, leaves, outcome}
-use Rattle.laws_calls.specs.Calls.Call.{byte, receive, tick, collect, report, prepare, start, frame, import, register, reset}
+use Rattle.laws_calls.specs.Calls.Call.{byte, receive, tick, collect, report, prepare, start, frame, register, reset}
 use Rattle.laws_calls.specs.Promised.{Promised}
-use Rattle.laws_calls.specs.Promised.Promised.{by_byte, by-block, by-tick, by-collect, by-report, by-prepare, by-start, by-modbus, by-import, by_register, by-reset}
+use Rattle.laws_calls.specs.Promised.Promised.{by_byte, by-block, by-tick, by-collect, by-report, by-prepare, by-start, by-modbus, by_register, by-reset}
 use Rattle.laws_calls.proofs.Settled.{settled}
 
--- a preparing says the same over any memory
+-- the panel's calls say the same over any memory
 pub prepare-alike : (i : Instruments) (setup memory other : List ℕ) → (panelPrepares (gateOf i memory) setup).answer.status ≡ (panelPrepares (gateOf i other) setup).answer.status
 prepare-alike i setup memory other = sym (given-said (gateOf i memory) setup) ∙ given-said (gateOf i other) setup
+
+pub start-alike : (i : Instruments) (memory other : List ℕ) → (panelStarts (gateOf i memory)).answer.status ≡ (panelStarts (gateOf i other)).answer.status
+unfolding panelStarts
+start-alike i memory other =
+    split (eqb (first_of (recorderLines (gateOf i memory))) done) (λ none. rw none refl) (λ some. rw some refl)
 
 module _ (l : Lent) where
   -- what is there when it is taken, and else
@@ -66,17 +73,16 @@ module _ (l : Lent) where
             (record { result = λ memory. ap (λ (n : ℕ). either c (record { refusal = taken; status = n }) (record { refusal = number_of c l; status = notServed })) (prepare-alike (decoded l.block).instruments setup [] memory); state = refl }),
       )
   exists start =
-      let x : Left = leaves start l in
-      let r : Said = either start (record { refusal = taken; status = length_of x }) (record { refusal = number_of start l; status = notServed }) in
-      (_, by-start r (either start x.block l.block) (either start x.memory l.memory) (record { result = refl; state = refl; memory-left = refl }))
+      let r : Said = either start (record { refusal = taken; status = length_of (leaves start l) }) (record { refusal = number_of start l; status = notServed }) in (
+        _,
+        by-start r (either start (leaves start l).block l.block)
+            (record { result = λ memory. ap (λ (n : ℕ). either start (record { refusal = taken; status = n }) (record { refusal = number_of start l; status = notServed })) (start-alike (decoded l.block).instruments [] memory); state = refl }),
+      )
   exists (frame station bytes) =
       let c : Call = frame station bytes in
       let x : Left = leaves c l in
       let r : Written = either c (record { refusal = taken; length = length_of x }) (record { refusal = number_of c l; length = 0 }) in
       (_, by-modbus station bytes r (either c x.memory l.memory) (either c x.buffer l.buffer) (record { result = refl; memory-left = refl; buffer-told = refl }))
-  exists (import text) =
-      let c : Call = import text in
-      (_, by-import text (number_of c l) (either c (leaves c l).memory l.memory) (record { number = refl; memory-left = refl }))
   exists (register list) =
       let c : Call = register list in
       (_, by_register list (number_of c l) (either c (leaves c l).block l.block) (record { number = refl; state = refl }))

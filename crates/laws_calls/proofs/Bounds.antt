@@ -22,7 +22,7 @@ use Rattle.state_parts.specs.State.{Target, withRecorder, withApplication, withI
 use Rattle.state_parts.specs.Bounds.{sound}
 use Rattle.state_parts.specs.Within.{RecorderWithin, CommandWithin, MemoryWithin, Within}
 use Rattle.state_parts.proofs.ByteLaws.{all-zeros}
-use Rattle.state_parts.proofs.Keeps.{recorder-started, recorder-ticked, memory-started, memory-ticked, command-collected, command-ended, within-sound, within-fits, within-registered, no-tables}
+use Rattle.state_parts.proofs.Keeps.{recorder-started, recorder-ticked, memory-ticked, command-collected, command-ended, within-sound, within-fits, within-registered, no-tables}
 use Rattle.state_block.specs.Places.{stateLength}
 use Rattle.state_block.specs.Layout.{decoded, encoded}
 use Rattle.state_block.proofs.Back.{stored-decoded}
@@ -36,12 +36,10 @@ use Rattle.call_checks.proofs.ApplicationNumbers.{collect-known, report-known}
 use Rattle.call_checks.proofs.Settled.{block-known, long-decides}
 use Rattle.call_register.proofs.Registered.{taken-good, registered-within}
 use Rattle.call_panel.proofs.Kept.{given-within}
-use Rattle.call_modbus.proofs.Refusals.{lent-right}
-use Rattle.call_files.proofs.Files.{import-taken}
+use Rattle.call_modbus.proofs.Answers.{lent-right}
 use Rattle.laws_modbus.proofs.Kept.{frame-keeps-length}
-use Rattle.laws_files.proofs.Records.{import-length}
-use Rattle.laws_calls.specs.Calls.{Call, Lent, Left, Outcome, row, number_of, commandIn, tablesFound, foundBy, doneBy}
-use Rattle.laws_calls.specs.Calls.Call.{byte, receive, tick, collect, report, prepare, start, frame, import, register, reset}
+use Rattle.laws_calls.specs.Calls.{Call, Lent, Left, Outcome, row, number_of, commandIn, doneBy}
+use Rattle.laws_calls.specs.Calls.Call.{byte, receive, tick, collect, report, prepare, start, frame, register, reset}
 use Rattle.laws_calls.specs.Promised.{Promised}
 use Rattle.laws_calls.specs.Bounds.{BytesLent, HandedOut}
 use Rattle.laws_calls.proofs.Settled.{taken-leaves, call-refused}
@@ -69,35 +67,21 @@ passed : (t : Bool) → cond t taken stateRefused ≡ taken → t ≡ true
 passed true e = refl
 passed false e = let z : ⊥ = omega (arith, e) in absurd z
 
--- who stores a state is lent the block
-pub stores-lent : (c : Call) → (row c).stores ≡ true → (row c).on-block ≡ true
-stores-lent (byte b) stores = refl
-stores-lent (receive bytes) stores = refl
-stores-lent tick stores = refl
-stores-lent collect stores = refl
-stores-lent (report result) stores = refl
-stores-lent (prepare setup) stores = refl
-stores-lent start stores = refl
-stores-lent (frame station bytes) stores = refl
-stores-lent (import text) stores = neither stores
-stores-lent (register list) stores = refl
-stores-lent reset stores = refl
-
--- what a taken call was lent is long enough; and one that stores no state leaves the memory its length
+-- what a taken call was lent is long enough; and one that is not lent the block leaves the memory its length
 pub record Lengths (c : Call) (l : Lent) : Type 0 where
   pub block : (row c).on-block ≡ true → stateLength ≤ length l.block
   pub memory : (row c).on-memory ≡ true → length l.memory ≡ memoryEnd
-  pub kept : (row c).stores ≡ false → length (doneBy c l).memory ≡ length l.memory
+  pub kept : (row c).on-block ≡ false → length (doneBy c l).memory ≡ length l.memory
 
 module _ (l : Lent) where
   long : blockSound l.block ≡ true → stateLength ≤ length l.block
   long ok = (block-known l.block ok).0
 
   -- of a call that is lent the block, and of one that is lent it alone
-  both-lent : (c : Call) → (row c).stores ≡ true → stateLength ≤ length l.block → length l.memory ≡ memoryEnd → Lengths c l
+  both-lent : (c : Call) → (row c).on-block ≡ true → stateLength ≤ length l.block → length l.memory ≡ memoryEnd → Lengths c l
   both-lent c on block memory = record { block = λ lent. block; memory = λ lent. memory; kept = λ off. neither (sym off ∙ on) }
 
-  block-lent : (c : Call) → (row c).stores ≡ true → (row c).on-memory ≡ false → stateLength ≤ length l.block → Lengths c l
+  block-lent : (c : Call) → (row c).on-block ≡ true → (row c).on-memory ≡ false → stateLength ≤ length l.block → Lengths c l
   block-lent c on none block = record { block = λ lent. block; memory = λ lent. neither (sym none ∙ lent); kept = λ off. neither (sym off ∙ on) }
 
   pub lengths : (c : Call) → number_of c l ≡ taken → Lengths c l
@@ -110,18 +94,12 @@ module _ (l : Lent) where
   lengths (report result) fine =
       block-lent (report result) refl refl (long (report-known (blockSound l.block) (commandIn (decoded l.block)) result fine).0)
   lengths (prepare setup) fine = block-lent (prepare setup) refl refl (long (passed (blockSound l.block) fine))
-  lengths start fine = let known = tick-known (blockSound l.block) l.memory fine in both-lent start refl (long known.0) known.1
+  lengths start fine = block-lent start refl refl (long (passed (blockSound l.block) fine))
   lengths (frame station bytes) fine =
       record {
-        block = λ lent. (lent-right l.block station l.memory l.buffer fine).long;
-        memory = λ lent. (lent-right l.block station l.memory l.buffer fine).memory-length;
-        kept = λ off. frame-keeps-length station bytes (tablesFound (foundBy (frame station bytes) l)) l.memory;
-      }
-  lengths (import text) fine =
-      record {
         block = λ lent. neither lent;
-        memory = λ lent. (import-taken text l.memory fine).1;
-        kept = λ off. import-length text l.memory;
+        memory = λ lent. (lent-right station l.memory l.buffer fine).memory-length;
+        kept = λ off. frame-keeps-length station bytes l.memory;
       }
   lengths (register list) fine =
       let known = taken-good l.block l.memory list fine in both-lent (register list) refl known.long known.whole
@@ -135,7 +113,7 @@ module _ (l : Lent) (m : List ℕ) (good : MemoryWithin m) (lent : blockSound l.
   abbrev now : Target
   now = decoded l.block
 
-  pub does-within : (c : Call) → (row c).stores ≡ true → cond (row c).on-memory l.memory m ≡ m → AllBytes (row c).brings → number_of c l ≡ taken
+  pub does-within : (c : Call) → (row c).on-block ≡ true → cond (row c).on-memory l.memory m ≡ m → AllBytes (row c).brings → number_of c l ≡ taken
       → Within (doneBy c l).state (cond (row c).on-memory (doneBy c l).memory m)
   does-within (byte b) on is all fine =
       let w = lent (byte-known (blockSound l.block) l.memory l.buffer fine).0 in
@@ -158,11 +136,9 @@ module _ (l : Lent) (m : List ℕ) (good : MemoryWithin m) (lent : blockSound l.
       let w = lent (passed (blockSound l.block) fine) in
       changed-within now m m _ _ w (given-within now.instruments.recorder setup all w.recorder-part) w.application-part good
   does-within start on is all fine =
-      let w = subst (Within now) (sym is) (lent (tick-known (blockSound l.block) l.memory fine).0) in
-      changed-within now l.memory _ _ _ w (recorder-started now.instruments.recorder w.recorder-part) w.application-part
-      (memory-started (recorderOf now.instruments.recorder) l.memory w.memory-part)
+      let w = lent (passed (blockSound l.block) fine) in
+      changed-within now m m _ _ w (recorder-started now.instruments.recorder w.recorder-part) w.application-part good
   does-within (frame station bs) on is all fine = neither on
-  does-within (import text) on is all fine = neither on
   does-within (register list) on is all fine =
       within-registered (registeredList list) l.memory (registered-within l.memory list (taken-good l.block l.memory list fine).good all)
       (subst MemoryWithin (sym is) good)
@@ -181,19 +157,19 @@ module _ (c : Call) (l : Lent) (o : Outcome) (are : BytesLent c l) (p : Promised
       let known = block-known l.block ok in lent-within l.block known.0 (each-a-byte l.block are.block) m known.1 good
 
   -- over this memory
-  sound-over : (m : List ℕ) → MemoryWithin m → (row c).stores ≡ true → cond (row c).on-memory l.memory m ≡ m → o.number ≡ taken
+  sound-over : (m : List ℕ) → MemoryWithin m → (row c).on-block ≡ true → cond (row c).on-memory l.memory m ≡ m → o.number ≡ taken
       → blockSound o.left.block ≡ true
   sound-over m good on is fine =
       let number : number_of c l ≡ taken = sym (call-refused l c o p).number ∙ fine in
       let w = does-within l m good (lent-bytes m good) c on is are.brought number in
-      let long = (lengths l c number).block (stores-lent c on) in
+      let long = (lengths l c number).block on in
       let next : Target = (doneBy c l).state in
       let there : decoded (sets l.block 0 (encoded next)) ≡ next = stored-decoded l.block next long (within-fits next _ w) in
       ap (λ (x : Left). blockSound x.block) (taken-leaves l c o p fine)
       ∙ ap (λ (t : Bool). blockSound (cond t (sets l.block 0 (encoded next)) l.block)) on
       ∙ sym (long-decides (sets l.block 0 (encoded next)) (omega (arith, long, length-sets l.block 0 (encoded next))) true (sym (ap sound there ∙ within-sound next _ w)))
 
-  given : (row c).stores ≡ true → o.number ≡ taken → blockSound o.left.block ≡ true
+  given : (row c).on-block ≡ true → o.number ≡ taken → blockSound o.left.block ≡ true
   given on fine =
       split (row c).on-memory
       (λ lent.
@@ -208,7 +184,7 @@ module _ (c : Call) (l : Lent) (o : Outcome) (are : BytesLent c l) (p : Promised
             split (eqb o.number taken)
             (λ t.
             let fine = eqb-true o.number taken t in
-            split (row c).stores (λ on. given on fine)
+            split (row c).on-block (λ on. given on fine)
             (λ off.
             ap (λ (x : Left). blockSound x.block) (taken-leaves l c o p fine)
             ∙ ap (λ (t : Bool). blockSound (cond t (sets l.block 0 (encoded (doneBy c l).state)) l.block)) off

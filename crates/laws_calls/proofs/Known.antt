@@ -14,7 +14,7 @@ use Rattle.state_block.specs.Places.{stateLength}
 use Rattle.state_block.specs.Layout.{decoded}
 use Rattle.call_checks.specs.Promises.{blockSound}
 use Rattle.laws_calls.specs.Calls.{Call, Lent, nothingSent, commandIn, row, number_of, sends, kept}
-use Rattle.laws_calls.specs.Calls.Call.{byte, receive, tick, collect, report, prepare, start, frame, import, register, reset}
+use Rattle.laws_calls.specs.Calls.Call.{byte, receive, tick, collect, report, prepare, start, frame, register, reset}
 
 -- a sound block of its length, and the whole memory
 pub record Fit (l : Lent) : Type 0 where
@@ -39,8 +39,7 @@ known (report result) l =
           rw (fit.sound, le-ltb 0xFD result (leb-true result 0xFD t.0), t.1) refl;
     }
 known (prepare setup) l = record { none-sent = refl; asked-taken = λ fit room due. rw fit.sound refl }
-known start l = record { none-sent = refl; asked-taken = λ fit room due. rw (fit.sound, fit.memory) refl }
-known (frame station bytes) l = record { none-sent = refl; asked-taken = λ fit room due. rw (fit.sound, fit.memory, le-ltb (length l.buffer) modbusRoom room, due) refl }
-known (import text) l = record { none-sent = refl; asked-taken = λ fit room due. rw (fit.memory, due) refl }
+known start l = record { none-sent = refl; asked-taken = λ fit room due. rw fit.sound refl }
+known (frame station bytes) l = record { none-sent = refl; asked-taken = λ fit room due. rw (fit.memory, le-ltb (length l.buffer) modbusRoom room, due) refl }
 known (register list) l = record { none-sent = refl; asked-taken = λ fit room due. rw fit.long (eqb-true _ taken due) }
 known reset l = record { none-sent = refl; asked-taken = λ fit room due. rw fit.long refl }

@@ -8,13 +8,11 @@ use lib.ListN.{length}
 use lib.Seq.{sets}
 use Rattle.document.specs.Application.{newCommand}
 use Rattle.document.specs.Frames.{isSilenced}
-use Rattle.document.specs.Tables.{Table}
 use Rattle.document.specs.Modbus.{functionIn, exceptionTo, answerTo, modbusAnswer, modbusRoom}
 use Rattle.document.proofs.Cases.{split}
 use Rattle.line_wire.proofs.Left.{sets-front}
 use Rattle.state_block.specs.Layout.{decoded}
 use Rattle.call_modbus.proofs.Sealed.{sealed-length}
-use Rattle.call_modbus.specs.Promises.{tablesIn}
 use Rattle.call_modbus.proofs.Responses.{answer-short}
 use Rattle.laws_happenings.specs.Asides.{ifAny, waitingIn}
 use Rattle.laws_calls.specs.Calls.{Call, Lent, handedOut, commandIn, leaves, sends}
@@ -26,12 +24,12 @@ front-handed (code ∷ arguments) buffer fits =
     rw (ne_eqb (suc (length arguments)) 0 (λ e. omega (arith, e))) (ap (λ (l : List ℕ). l ∷ []) (sets-front (code ∷ arguments) buffer fits))
 
 -- an answer of the second port has room in the 256 bytes that its call asks for
-pub modbus-fits : (station : ℕ) (bytes : List ℕ) (tables : List Table) (memory : List ℕ) → length (modbusAnswer station bytes tables memory) ≤ modbusRoom
+pub modbus-fits : (station : ℕ) (bytes memory : List ℕ) → length (modbusAnswer station bytes memory) ≤ modbusRoom
 unfolding modbusAnswer
-modbus-fits station bytes tables memory =
-    let answer : List ℕ = station ∷ answerTo (exceptionTo (functionIn bytes) bytes tables memory) bytes memory in
+modbus-fits station bytes memory =
+    let answer : List ℕ = station ∷ answerTo (exceptionTo (functionIn bytes) bytes memory) bytes memory in
     split (isSilenced station bytes) (λ quiet. rw quiet (omega arith))
-    (λ loud. rw loud (omega (arith, answer-short bytes tables memory, sealed-length answer)))
+    (λ loud. rw loud (omega (arith, answer-short bytes memory, sealed-length answer)))
 
 module _ (l : Lent) where
   pub collect-sends : length (newCommand (commandIn (decoded l.block))) ≤ length l.buffer
@@ -42,7 +40,7 @@ module _ (l : Lent) where
 
   pub frame-sends : (station : ℕ) (bytes : List ℕ) → modbusRoom ≤ length l.buffer
       → sends (Call.frame station bytes) (leaves (Call.frame station bytes) l)
-      ≡ record { answers = []; commands = []; modbus-answers = ifAny (modbusAnswer station bytes (tablesIn l.block) l.memory) }
+      ≡ record { answers = []; commands = []; modbus-answers = ifAny (modbusAnswer station bytes l.memory) }
   frame-sends station bytes room =
       ap (λ (new : List (List ℕ)). record { answers = []; commands = []; modbus-answers = new })
-      (front-handed (modbusAnswer station bytes (tablesIn l.block) l.memory) l.buffer (omega (arith, modbus-fits station bytes (tablesIn l.block) l.memory, room)))
+      (front-handed (modbusAnswer station bytes l.memory) l.buffer (omega (arith, modbus-fits station bytes l.memory, room)))

@@ -16,7 +16,7 @@ use Rattle.call_byte.specs.declared.Taken.{Taken}
 use Rattle.call_block.specs.declared.BlockTaken.{BlockTaken}
 use Rattle.laws_calls.specs.Calls.{Call, Lent, Left, Outcome, number_of, leaves, kept, outcome, CallRefused}
 use Rattle.laws_calls.specs.Promised.{Promised}
-use Rattle.laws_calls.specs.Promised.Promised.{by_byte, by-block, by-tick, by-collect, by-report, by-prepare, by-start, by-modbus, by-import, by_register, by-reset}
+use Rattle.laws_calls.specs.Promised.Promised.{by_byte, by-block, by-tick, by-collect, by-report, by-prepare, by-start, by-modbus, by_register, by-reset}
 
 -- ---- by a test
 
@@ -77,14 +77,12 @@ module _ (l : Lent) where
   settled c o (by-prepare setup r after p) =
       done c r.refusal o.left (number_in c (λ (x : Said). x.refusal) r _ _ refl refl (p.result []))
       (part (λ (x : Said). x.status ∷ []) (fine c) r _ _ (p.result [])) p.state (unlent (fine c) l.memory) (unlent (fine c) l.buffer)
-  settled c o (by-start r after left p) =
-      done c r.refusal o.left (number_in c (λ (x : Said). x.refusal) r _ _ refl refl p.result)
-      (part (λ (x : Said). x.status ∷ []) (fine c) r _ _ p.result) p.state p.memory-left (unlent (fine c) l.buffer)
+  settled c o (by-start r after p) =
+      done c r.refusal o.left (number_in c (λ (x : Said). x.refusal) r _ _ refl refl (p.result []))
+      (part (λ (x : Said). x.status ∷ []) (fine c) r _ _ (p.result [])) p.state (unlent (fine c) l.memory) (unlent (fine c) l.buffer)
   settled c o (by-modbus station bytes r left told p) =
       done c r.refusal o.left (number_in c (λ (x : Written). x.refusal) r _ _ refl refl p.result)
       (part (λ (x : Written). x.length ∷ []) (fine c) r _ _ p.result) (unlent (fine c) l.block) p.memory-left p.buffer-told
-  settled c o (by-import text r left p) =
-      done c r o.left p.number (unlent (fine c) []) (unlent (fine c) l.block) p.memory-left (unlent (fine c) l.buffer)
   settled c o (by_register list r after p) =
       done c r o.left p.number (unlent (fine c) []) p.state (unlent (fine c) l.memory) (unlent (fine c) l.buffer)
   settled c o (by-reset r after p) =

@@ -15,5 +15,5 @@ pub record BytesLent (c : Call) (l : Lent) : Type 0 where
 pub record HandedOut (c : Call) (l : Lent) (o : Outcome) : Type 0 where
   -- refused or not, a state within its bounds is followed by one
   pub sound-stays : blockSound l.block ≡ true → blockSound o.left.block ≡ true
-  -- and a call that is taken and stores a state hands out one, whatever the block was
-  pub sound-given : (row c).stores ≡ true → o.number ≡ taken → blockSound o.left.block ≡ true
+  -- and a call that is taken on a block hands out one, whatever the block was
+  pub sound-given : (row c).on-block ≡ true → o.number ≡ taken → blockSound o.left.block ≡ true

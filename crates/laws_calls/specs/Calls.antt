@@ -3,22 +3,21 @@
 use Rattle.std.specs.Prelude.{◌≡◌, Bool, true, false, cond, ◌&&◌, List, [], ◌∷◌, ℕ, eqb, leb, length, take, get_or}
 use Rattle.std.proofs.lemmas.List.Edits.{sets}
 use Rattle.document.specs.Numbers.{answerRoom, mostData, notServed, taken, stateRefused}
-use Rattle.document.specs.Recorder.{startedMemory, tickedMemory}
+use Rattle.document.specs.Recorder.{tickedMemory}
 use Rattle.document.specs.Application.{Application, newCommand, collectBuffer, isCollected}
-use Rattle.document.specs.Tables.{Table, registerRefusal}
+use Rattle.document.specs.Tables.{registerRefusal}
 use Rattle.document.specs.Panel.{panelPrepares, panelStarts}
 use Rattle.document.specs.Frames.{isStation}
-use Rattle.document.specs.Modbus.{modbusAnswer, modbusMemory, modbusRoom, modbusBuffer}
-use Rattle.document.specs.Files.{isFileGood, importedMemory, importRefusal}
+use Rattle.document.specs.Modbus.{modbusAnswer, modbusMemory, modbusRoom, modbusRefusal, modbusBuffer}
 use Rattle.document.specs.Gate.{Gate}
 use Rattle.recorder_state.specs.State.{recorderOf}
 use Rattle.application_state.specs.State.{applicationOf}
-use Rattle.tables_state.specs.State.{tables_of, registeredList}
+use Rattle.tables_state.specs.State.{registeredList}
 use Rattle.state_parts.specs.State.{Target, gateOf}
 use Rattle.state_parts.specs.Bounds.{freshWith, fresh}
 use Rattle.state_block.specs.Places.{stateLength}
 use Rattle.state_block.specs.Layout.{decoded, encoded}
-use Rattle.call_checks.specs.Promises.{byteNumber, tickNumber, modbusNumber, collectNumber, reportNumber, prepareNumber}
+use Rattle.call_checks.specs.Promises.{byteNumber, tickNumber, collectNumber, reportNumber, panelNumber}
 use Rattle.state_byte.specs.Turn.{Turn, turn}
 use Rattle.state_byte.specs.Walk.{Walk, begun, walked}
 use Rattle.call_tick.specs.Promises.{tickedTarget}
@@ -39,8 +38,6 @@ pub data Call : Type 0 where
   start : Call
   -- a frame of the second port, and the own station
   frame : ℕ → List ℕ → Call
-  -- a calibration file
-  import : List ℕ → Call
   -- tables
   register : List ℕ → Call
   reset : Call
@@ -119,15 +116,11 @@ commandIn t = applicationOf t.instruments.application
 abbrev pub gateFound : Found → Gate
 gateFound f = gateOf f.state.instruments f.memory
 
-abbrev pub tablesFound : Found → List Table
-tablesFound f = tables_of f.state.instruments.tables
-
 -- ---- the rows
 
 pub record Row : Type 0 where
-  -- whether it is lent the block, and stores a state there; and whether it is lent the memory
+  -- whether it is lent the block, and the memory
   pub on-block : Bool
-  pub stores : Bool
   pub on-memory : Bool
   -- what it brings, of which all are bytes
   pub brings : List ℕ
@@ -153,7 +146,6 @@ abbrev pub row : Call → Row
 row (byte b) =
     record {
       on-block = true;
-      stores = true;
       on-memory = true;
       brings = b ∷ [];
       number = λ l. byteNumber l.block l.memory l.buffer;
@@ -166,7 +158,6 @@ row (byte b) =
 row (receive bytes) =
     record {
       on-block = true;
-      stores = true;
       on-memory = true;
       brings = bytes;
       number = λ l. byteNumber l.block l.memory l.buffer;
@@ -179,7 +170,6 @@ row (receive bytes) =
 row tick =
     record {
       on-block = true;
-      stores = true;
       on-memory = true;
       brings = [];
       number = λ l. tickNumber l.block l.memory;
@@ -198,7 +188,6 @@ row tick =
 row collect =
     record {
       on-block = true;
-      stores = true;
       on-memory = false;
       brings = [];
       number = λ l. collectNumber l.block l.buffer;
@@ -217,7 +206,6 @@ row collect =
 row (report result) =
     record {
       on-block = true;
-      stores = true;
       on-memory = false;
       brings = result ∷ [];
       number = λ l. reportNumber l.block result;
@@ -231,10 +219,9 @@ row (report result) =
 row (prepare setup) =
     record {
       on-block = true;
-      stores = true;
       on-memory = false;
       brings = setup;
-      number = λ l. prepareNumber l.block;
+      number = λ l. panelNumber l.block;
       does = λ f. storing f (preparedTarget setup f.state) ((panelPrepares (gateFound f) setup).answer.status ∷ []);
       denied = notServed ∷ [];
       sends = silent;
@@ -244,17 +231,10 @@ row (prepare setup) =
 row start =
     record {
       on-block = true;
-      stores = true;
-      on-memory = true;
+      on-memory = false;
       brings = [];
-      number = λ l. tickNumber l.block l.memory;
-      does = λ f.
-          record {
-            said = (panelStarts (gateFound f)).answer.status ∷ [];
-            state = startedTarget f.state;
-            memory = startedMemory (recorderOf f.state.instruments.recorder) f.memory;
-            buffer = f.buffer;
-          };
+      number = λ l. panelNumber l.block;
+      does = λ f. storing f (startedTarget f.state) ((panelStarts (gateFound f)).answer.status ∷ []);
       denied = notServed ∷ [];
       sends = silent;
       room = 0;
@@ -262,41 +242,25 @@ row start =
     }
 row (frame station bytes) =
     record {
-      on-block = true;
-      -- it looks at the tables alone (2026-09)
-      stores = false;
+      on-block = false;
       on-memory = true;
       brings = bytes;
-      number = λ l. modbusNumber l.block station l.memory l.buffer;
+      number = λ l. modbusRefusal station l.memory l.buffer;
       does = λ f.
           record {
-            said = length (modbusAnswer station bytes (tablesFound f) f.memory) ∷ [];
+            said = length (modbusAnswer station bytes f.memory) ∷ [];
             state = f.state;
-            memory = modbusMemory station bytes (tablesFound f) f.memory;
-            buffer = modbusBuffer station bytes (tablesFound f) f.memory f.buffer;
+            memory = modbusMemory station bytes f.memory;
+            buffer = modbusBuffer station bytes f.memory f.buffer;
           };
       denied = 0 ∷ [];
       sends = λ said told. record { answers = []; commands = []; modbus-answers = handedOut (get_or said 0 0) told };
       room = modbusRoom;
       due = λ t memory. isStation station;
     }
-row (import text) =
-    record {
-      on-block = false;
-      stores = false;
-      on-memory = true;
-      brings = text;
-      number = λ l. importRefusal text l.memory;
-      does = λ f. record { said = []; state = f.state; memory = importedMemory text f.memory; buffer = f.buffer };
-      denied = [];
-      sends = silent;
-      room = 0;
-      due = λ t memory. isFileGood text;
-    }
 row (register list) =
     record {
       on-block = true;
-      stores = true;
       on-memory = true;
       brings = list;
       number = λ l. registerNumber l.block l.memory list;
@@ -309,7 +273,6 @@ row (register list) =
 row reset =
     record {
       on-block = true;
-      stores = true;
       on-memory = false;
       brings = [];
       number = λ l. cond (leb stateLength (length l.block)) taken stateRefused;
@@ -337,7 +300,7 @@ abbrev pub leaves : Call → Lent → Left
 leaves c l =
     record {
       said = (doneBy c l).said;
-      block = cond (row c).stores (sets l.block 0 (encoded (doneBy c l).state)) l.block;
+      block = cond (row c).on-block (sets l.block 0 (encoded (doneBy c l).state)) l.block;
       memory = cond (row c).on-memory (doneBy c l).memory l.memory;
       buffer = (doneBy c l).buffer;
     }

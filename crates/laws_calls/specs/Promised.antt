@@ -13,9 +13,8 @@ use Rattle.call_byte.specs.Promises.{ByteTaken}
 use Rattle.call_block.specs.declared.BlockTaken.{BlockTaken}
 use Rattle.call_block.specs.Promises.{BlockDone}
 use Rattle.call_modbus.specs.Promises.{ModbusDone}
-use Rattle.call_files.specs.Promises.{ImportDone}
 use Rattle.laws_calls.specs.Calls.{Call, Lent, Outcome}
-use Rattle.laws_calls.specs.Calls.Call.{byte, receive, tick, collect, report, prepare, start, frame, import, register, reset}
+use Rattle.laws_calls.specs.Calls.Call.{byte, receive, tick, collect, report, prepare, start, frame, register, reset}
 
 -- its number, what it says beside it, and block, memory and buffer at its exit
 abbrev pub came : ℕ → List ℕ → List ℕ → List ℕ → List ℕ → Outcome
@@ -33,11 +32,9 @@ pub data Promised (l : Lent) : Call → Outcome → Type 0 where
   by-report : (result r : ℕ) (after : List ℕ) → ReportDone l.block result r after → Promised l (report result) (came r [] after l.memory l.buffer)
   by-prepare : (setup : List ℕ) (r : Said) (after : List ℕ) → PrepareDone l.block setup r after
       → Promised l (prepare setup) (came r.refusal (r.status ∷ []) after l.memory l.buffer)
-  by-start : (r : Said) (after left : List ℕ) → StartDone l.block l.memory r after left
-      → Promised l start (came r.refusal (r.status ∷ []) after left l.buffer)
-  by-modbus : (station : ℕ) (bytes : List ℕ) (r : Written) (left told : List ℕ) → ModbusDone l.block station bytes l.memory l.buffer r left told
+  by-start : (r : Said) (after : List ℕ) → StartDone l.block r after → Promised l start (came r.refusal (r.status ∷ []) after l.memory l.buffer)
+  by-modbus : (station : ℕ) (bytes : List ℕ) (r : Written) (left told : List ℕ) → ModbusDone station bytes l.memory l.buffer r left told
       → Promised l (frame station bytes) (came r.refusal (r.length ∷ []) l.block left told)
-  by-import : (text : List ℕ) (r : ℕ) (left : List ℕ) → ImportDone text l.memory r left → Promised l (import text) (came r [] l.block left l.buffer)
   by_register : (list : List ℕ) (r : ℕ) (after : List ℕ) → RegisterDone l.block l.memory list r after
       → Promised l (register list) (came r [] after l.memory l.buffer)
   by-reset : (r : ℕ) (after : List ℕ) → ResetDone l.block r after → Promised l reset (came r [] after l.memory l.buffer)

@@ -6,8 +6,7 @@ use Prim.Native.Nat.{ℕ, ◌≤◌}
 use borrow.Author.Tests.{le-leb}
 use Rattle.document.specs.Bytes.{AllBytes}
 use Rattle.document.specs.Application.{isCollected}
-use Rattle.document.specs.Files.{isFileGood}
-use Rattle.document.specs.Asides.Aside.{tick, writes, collects, reports, prepares, starts, frames, imports}
+use Rattle.document.specs.Asides.Aside.{tick, writes, collects, reports, prepares, starts, frames}
 use Rattle.document.specs.Happenings.{Happening, Since}
 use Rattle.document.specs.Happenings.Happening.{byte, aside}
 use Rattle.laws_happenings.specs.Bytes.{IsBytes}
@@ -24,7 +23,6 @@ carried (aside (reports result)) = result ∷ []
 carried (aside (prepares setup)) = setup
 carried (aside starts) = []
 carried (aside (frames station frame)) = frame
-carried (aside (imports text)) = text
 
 pub carried-bytes : (h : Happening) → AllBytes (carried h) → IsBytes h
 carried-bytes (byte b) are = are.0
@@ -35,7 +33,6 @@ carried-bytes (aside (reports result)) are = are
 carried-bytes (aside (prepares setup)) are = are
 carried-bytes (aside starts) are = are
 carried-bytes (aside (frames station frame)) are = are
-carried-bytes (aside (imports text)) are = are
 
 -- ---- what it asks for
 
@@ -65,7 +62,3 @@ module _ (s : Since) where
   -- not "an own station outside 1 to 247"
   pub frame-due : (station : ℕ) (frame : List ℕ) → 1 ≤ station → station ≤ 247 → DueAt s (aside (frames station frame))
   frame-due station frame low high = rw (le-leb 1 station low, le-leb station 247 high) refl
-
-  -- not "any other text"
-  pub import-due : (text : List ℕ) → isFileGood text ≡ true → DueAt s (aside (imports text))
-  import-due text good = good

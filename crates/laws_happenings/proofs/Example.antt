@@ -8,7 +8,7 @@ use native.Mathlib.Omega.{arith}
 use borrow.Author.Tests.{ltb-true}
 use lib.Dec.{ltb}
 use Rattle.document.specs.Numbers.{done, recorderRuns, recorderStopped, busy}
-use Rattle.document.specs.Areas.{numberPlace, bufferBegin, bytes_at}
+use Rattle.document.specs.Areas.{bufferBegin, bytes_at}
 use Rattle.document.specs.Bytes.{AllBytes}
 use Rattle.document.specs.Message.{wellFormed, onWire, heard, finishedBy}
 use Rattle.document.specs.Stores.{stored}
@@ -27,34 +27,31 @@ use Rattle.document.specs.Panel.{panelPrepares, panelStarts}
 use Rattle.document.specs.CheckSum.{shifted, shifts, stepped, checkSum}
 use Rattle.document.specs.Frames.{isSilenced}
 use Rattle.document.specs.Modbus.{exceptionTo, modbusAnswer, modbusMemory}
-use Rattle.document.specs.Files.{isFileGood, recordsIn, importedMemory}
 use Rattle.document.specs.Asides.{beside}
-use Rattle.document.specs.Asides.Aside.{writes, tick, reports, prepares}
+use Rattle.document.specs.Asides.Aside.{tick, reports, prepares}
 use Rattle.document.specs.Happenings.{Happening, Since, after, afterAll}
 use Rattle.document.specs.Happenings.Happening.{byte, aside}
 use Rattle.document.proofs.Cases.{neither, both}
 use Rattle.document.proofs.Rows.{lists-eq}
 use Rattle.line_receiver.specs.Runs.{oddRun}
-use Rattle.memory_ranges.proofs.Stored.{drop-sets, bytes-behind}
+use Rattle.memory_ranges.proofs.Stored.{drop-sets}
 use Rattle.recorder_history.specs.History.{memoriesLeft, NoneBeyond, TriggersNext, Unstopped}
 use Rattle.recorder_history.specs.History as history
-use Rattle.recorder_history.specs.Number.{shownIn}
 use Rattle.document_outcomes.specs.Starts.{isStart}
 use Rattle.document_outcomes.specs.Sending.{sends, unrefusedSoFar}
 use Rattle.laws_happenings.specs.Asides.{preparesAnew, startsAnew}
 use Rattle.laws_happenings.specs.Bytes.{bytes_of, AreBytes}
 use Rattle.laws_happenings.specs.Due.{AllDue}
-use Rattle.laws_happenings.specs.Recording.{events, ticksOf, AllUnstarted, AllUndisturbed, AllUnwritten}
+use Rattle.laws_happenings.specs.Recording.{events, ticksOf, AllUnstarted, AllUndisturbed}
 use Rattle.laws_happenings.specs.Applying.{sentOf, handedOut, Pending, AllUnreported}
 use Rattle.laws_happenings.specs.Ports.{modbusOf, withoutFrames, found, SameService, withoutService, shared, calibrationIn}
-use Rattle.laws_happenings.specs.Example.{zeros, reset, setup, plan, before, begun, calibration, meanwhile, start, starting, firstSet, command, rising, sending, earlier, risen, oneTaken, question, awaiting, repeating, pending, untilReport, asking, later, since, happened, stale, raised, lowered, disturbed, shown, unattended}
+use Rattle.laws_happenings.specs.Example.{zeros, reset, setup, plan, before, begun, meanwhile, start, starting, firstSet, command, rising, sending, earlier, risen, oneTaken, question, awaiting, repeating, pending, untilReport, asking, later, since, happened, stale, raised, lowered, disturbed, unattended}
 use Rattle.laws_happenings.proofs.Follows.{unstarted}
-use Rattle.laws_happenings.proofs.Imports.{import-leaves-buffer, import-leaves-number}
 use Rattle.laws_happenings.proofs.Due.{carried, carried-bytes}
 
 -- what a computation looks through
 unfoldable pub computed : Since → List Happening → Since
-unfolding heard finishedBy serviceOf planIn fires isBeyond ranTick memoryAfterTick mayBeWritten refusal answered panelPrepares panelStarts shifted shifts stepped checkSum isSilenced exceptionTo modbusAnswer modbusMemory isFileGood recordsIn importedMemory beside
+unfolding heard finishedBy serviceOf planIn fires isBeyond ranTick memoryAfterTick mayBeWritten refusal answered panelPrepares panelStarts shifted shifts stepped checkSum isSilenced exceptionTo modbusAnswer modbusMemory beside
 computed = afterAll
 
 -- of one thing that happens, and of those behind it; below there is a line for each part of the example
@@ -68,7 +65,7 @@ abbrev pub allSmall : List ℕ → Bool
 allSmall [] = true
 allSmall (b ∷ bs) = ltb b 256 && allSmall bs
 
-abbrev pub areSmall : List Happening → Bool
+abbrev areSmall : List Happening → Bool
 areSmall [] = true
 areSmall (h ∷ hs) = allSmall (carried h) && areSmall hs
 
@@ -76,7 +73,7 @@ pub all_small : (bs : List ℕ) → allSmall bs ≡ true → AllBytes bs
 all_small [] small = tt
 all_small (b ∷ bs) small = let t = both (ltb b 256) (allSmall bs) small in (ltb-true b 256 t.0, all_small bs t.1)
 
-pub are-small : (hs : List Happening) → areSmall hs ≡ true → AreBytes hs
+are-small : (hs : List Happening) → areSmall hs ≡ true → AreBytes hs
 are-small [] small = tt
 are-small (h ∷ hs) small =
     let t = both (allSmall (carried h)) (areSmall hs) small in (carried-bytes h (all_small (carried h) t.0), are-small hs t.1)
@@ -96,7 +93,7 @@ pub happened-due : AllDue reset happened
 unfolding computed
 happened-due =
     refl and refl
-    and refl and refl and refl and refl and refl and refl
+    and refl and refl and refl and refl and refl
     and tt and tt and refl and tt and refl
     and tt and tt and tt and tt and refl and tt
     and refl
@@ -111,7 +108,7 @@ pub disturbed-due : AllDue stale disturbed
 unfolding computed
 disturbed-due =
     refl and refl and refl
-    and refl and refl and refl and refl and refl and refl
+    and refl and refl and refl and refl and refl
     and tt and tt and refl and refl and tt and refl
     and tt and tt and tt and tt and refl and tt
     and refl and refl
@@ -122,9 +119,9 @@ disturbed-due =
     and tt and tt and tt
     and tt
 
-pub unattended-due : AllDue shown unattended
+pub unattended-due : AllDue stale unattended
 unfolding computed
-unattended-due = refl and refl and refl and refl and refl and tt
+unattended-due = refl and refl and refl and refl and tt
 
 -- ---- the recorder
 
@@ -142,21 +139,12 @@ pub begun-recorder : begun.gate.recorder ≡ planned plan started
 unfolding computed
 begun-recorder = refl
 
-pub begun-number : shownIn begun.gate.memory ≡ 0 ∷ 0 ∷ []
-unfolding computed
-begun-number = refl
-
--- behind what the gate's own program writes, where it imports
-abbrev written : Since
-written = afterAll begun (aside (writes 8 (0xFF ∷ [])) ∷ aside (writes 12285 (1 ∷ [])) ∷ [])
-
 -- nothing that happens since starts the recorder anew or writes its buffer
 pub since-undisturbed : AllUndisturbed begun since
 unfolding computed
 since-undisturbed =
-    (refl, λ own. drop-sets (0xFF ∷ []) begun.gate.memory 8 bufferBegin (omega arith))
-    and (refl, λ own. drop-sets (1 ∷ []) (stored begun.gate.memory 8 (0xFF ∷ [])) 12285 bufferBegin (omega arith))
-    and (refl, import-leaves-buffer written.gate calibration)
+    (refl, λ own. drop-sets (0xFF ∷ []) zeros 8 bufferBegin (omega arith))
+    and (refl, λ own. drop-sets (1 ∷ []) (stored zeros 8 (0xFF ∷ [])) 12287 bufferBegin (omega arith))
     and (refl, neither) and (refl, neither) and (refl, neither)
     and tt and tt and (refl, neither) and refl and (refl, neither)
     and tt and tt and tt and tt and (refl, neither) and refl
@@ -170,29 +158,12 @@ since-undisturbed =
 pub since-unstarted : AllUnstarted begun since
 since-unstarted = unstarted since begun since-undisturbed
 
--- nor do they write the two bytes that show the number
-pub since-unwritten : AllUnwritten begun since
-unfolding computed
-since-unwritten =
-    (λ own. bytes-behind (0xFF ∷ []) begun.gate.memory 8 numberPlace 2 (omega arith))
-    and (λ own. bytes-behind (1 ∷ []) (stored begun.gate.memory 8 (0xFF ∷ [])) 12285 numberPlace 2 (omega arith))
-    and import-leaves-number written.gate calibration
-    and neither and neither and neither
-    and tt and tt and neither and tt and neither
-    and tt and tt and tt and tt and neither and tt
-    and neither
-    and tt and neither and tt and tt and tt and tt and tt and tt and tt
-    and tt and tt and tt and tt and tt and tt and tt and neither and neither
-    and neither and neither and tt and neither and tt and tt
-    and neither and tt and tt and tt
-    and tt
-
--- its history; the two bytes show that three sets are taken (2026-08), and behind them the places hold the last two
+-- its history, and the places that hold the last two sets of it
 pub since-sets : setsTaken plan (memoriesLeft begun.gate.memory (events begun since)) ≡ (0 ∷ []) ∷ (7 ∷ []) ∷ (9 ∷ []) ∷ []
 unfolding computed setsTaken
 since-sets = refl
 
-pub since-buffer : bytes_at (afterAll begun since).gate.memory numberPlace 5 ≡ 3 ∷ 0 ∷ 9 ∷ 7 ∷ 0 ∷ []
+pub since-buffer : bytes_at (afterAll begun since).gate.memory bufferBegin 3 ≡ 9 ∷ 7 ∷ 0 ∷ []
 unfolding computed
 since-buffer = refl
 
@@ -200,7 +171,7 @@ since-buffer = refl
 pub earlier-unstarted : AllUnstarted begun earlier
 unfolding computed
 earlier-unstarted =
-    refl and refl and refl and refl and refl and refl
+    refl and refl and refl and refl and refl
     and tt and tt and refl and refl and refl
     and tt and tt and tt and tt and refl and refl
     and tt
@@ -236,7 +207,7 @@ later-ticks = refl
 
 -- it has stopped
 pub later-recorder : (afterAll (after risen (aside tick)) later).gate.recorder
-    ≡ planned plan (record { running = false; wait = 0; place = 1; full = true; watch = triggered 0; number = 3 })
+    ≡ planned plan (record { running = false; wait = 0; place = 1; full = true; watch = triggered 0 })
 unfolding computed
 later-recorder = refl
 
@@ -395,12 +366,12 @@ unfolding computed
 disturbed-found = lists-eq (found stale disturbed) (found reset happened) refl
 
 -- no service traffic; but for it the same happened, and the frames found the same
-pub shown-calibration : calibrationIn shown.gate.memory ≡ calibrationIn zeros
-shown-calibration = refl
+pub stale-calibration : calibrationIn stale.gate.memory ≡ calibrationIn zeros
+stale-calibration = refl
 
 pub unattended-happened : withoutService unattended ≡ withoutService happened
 unattended-happened = refl
 
-pub unattended-shared : shared shown unattended ≡ shared reset happened
+pub unattended-shared : shared stale unattended ≡ shared reset happened
 unfolding computed
 unattended-shared = refl

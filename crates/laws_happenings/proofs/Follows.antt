@@ -18,13 +18,12 @@ use Rattle.document.specs.Happenings.Happening.{byte, aside}
 use Rattle.document.proofs.Cases.{split}
 use Rattle.recorder_history.specs.History.{Event, Recording, AllLeaveBuffer}
 use Rattle.recorder_history.specs.History as history
-use Rattle.recorder_history.specs.Number.{shownIn, AllLeaveNumber}
 use Rattle.document_outcomes.specs.Starts.{isStart, isStop}
 use Rattle.document_outcomes.proofs.Recording.{stop-stops, others-pass}
 use Rattle.laws_happenings.specs.Bytes.{withByte}
-use Rattle.laws_happenings.specs.Recording.{eventsOf, eventsBeside, eventsAt, events, NoStart, Unstarted, AllUnstarted, NothingNew, LeavesBuffer, Undisturbed, AllUndisturbed, LeavesNumber, Unwritten, AllUnwritten}
+use Rattle.laws_happenings.specs.Recording.{eventsOf, eventsBeside, eventsAt, events, NoStart, Unstarted, AllUnstarted, NothingNew, LeavesBuffer, Undisturbed, AllUndisturbed}
 use Rattle.laws_happenings.specs.Asides.{recorderAfter, row, isTick, isOwn}
-use Rattle.laws_happenings.proofs.Recording.{buffer-left, number-left, message-leaves}
+use Rattle.laws_happenings.proofs.Recording.{buffer-left, message-leaves}
 use Rattle.laws_happenings.proofs.Panel.{is-ticked, nothing-new}
 use Rattle.laws_happenings.proofs.Asides.{leaves}
 
@@ -35,14 +34,13 @@ pub record Follows (p : Plan) (gate : Gate) (g : Recording) : Type 0 where
   pub size : length gate.memory ≡ memoryEnd
 
 module _ (p : Plan) where
-  -- what is left; and that the buffer is, where nobody disturbs it, and the number's two bytes, where nobody writes them
-  pub record Followed (quiet unwritten : Type 0) (gate : Gate) (g : Recording) (es : List Event) : Type 0 where
+  -- what is left; and that the buffer is, where nobody disturbs it
+  pub record Followed (quiet : Type 0) (gate : Gate) (g : Recording) (es : List Event) : Type 0 where
     pub follows : Follows p gate (history.after p g es)
     pub leaves : quiet → AllLeaveBuffer p g es
-    pub shows : unwritten → AllLeaveNumber p g es
 
-  followed-message : {quiet unwritten : Type 0} (gate : Gate) (g : Recording) (m : Message) (ms : List Message) → Follows p gate g → isStart gate m ≡ false
-      → Followed quiet unwritten (answered gate m).gate g (eventsOf gate (m ∷ ms))
+  followed-message : {quiet : Type 0} (gate : Gate) (g : Recording) (m : Message) (ms : List Message) → Follows p gate g → isStart gate m ≡ false
+      → Followed quiet (answered gate m).gate g (eventsOf gate (m ∷ ms))
   followed-message gate g m ms f no_start =
       split (isStop gate m)
       (λ t.
@@ -51,45 +49,37 @@ module _ (p : Plan) where
       (record {
         follows = record { recorder = s.0; memory = s.1 ∙ f.memory; size = ap length s.1 ∙ f.size };
         leaves = λ quiet. (tt, tt);
-        shows = λ unwritten. (tt, tt);
       }))
       (λ n.
-      let left = message-leaves gate m no_start in
+      let left = message-leaves gate m in
       let size : length (answered gate m).gate.memory ≡ memoryEnd = left.0 ∙ f.size in
       let buffer = buffer-left (answered gate m).gate.memory gate.memory left.1 in
-      let number = number-left (answered gate m).gate.memory gate.memory left.1 in
       rw n
       (record {
         follows = record { recorder = others-pass gate m p g.run f.recorder no_start n; memory = refl; size = size };
         leaves = λ quiet. ((size, buffer ∙ ap (drop bufferBegin) f.memory), tt);
-        shows = λ unwritten. ((size, number ∙ ap shownIn f.memory), tt);
       }))
 
-  -- what does not tick and starts nothing keeps the buffer and the number's two bytes, unless the gate's own program writes them
-  module _ (gate : Gate) (a : Aside) (still : isTick a ≡ false) (old : NothingNew gate a) where
-    buffer-kept : LeavesBuffer gate a → drop bufferBegin (beside gate a).memory ≡ drop bufferBegin gate.memory
-    buffer-kept quiet =
-        split (isOwn a) quiet (λ other. buffer-left (beside gate a).memory gate.memory ((leaves gate a).rest other still old))
-
-    number-kept : LeavesNumber gate a → shownIn (beside gate a).memory ≡ shownIn gate.memory
-    number-kept unwritten =
-        split (isOwn a) unwritten (λ other. number-left (beside gate a).memory gate.memory ((leaves gate a).rest other still old))
+  -- what does not tick keeps the buffer, unless the gate's own program writes it
+  buffer-kept : (gate : Gate) (a : Aside) → isTick a ≡ false → LeavesBuffer gate a → drop bufferBegin (beside gate a).memory ≡ drop bufferBegin gate.memory
+  buffer-kept gate a still quiet =
+      split (isOwn a) quiet (λ other. buffer-left (beside gate a).memory gate.memory ((leaves gate a).rest other still))
 
   module _ (s : Since) (g : Recording) (f : Follows p s.gate g) where
-    followed-byte : (b : ℕ) → Unstarted s (byte b) → Followed (Undisturbed s (byte b)) (Unwritten s (byte b)) (after s (byte b)).gate g (eventsAt s (byte b))
+    followed-byte : (b : ℕ) → Unstarted s (byte b) → Followed (Undisturbed s (byte b)) (after s (byte b)).gate g (eventsAt s (byte b))
     followed-byte b quiet = by (finishedBy s.bytes b) refl
       where
-        by : (ms : List Message) → finishedBy s.bytes b ≡ ms → Followed (Undisturbed s (byte b)) (Unwritten s (byte b)) (after s (byte b)).gate g (eventsAt s (byte b))
+        by : (ms : List Message) → finishedBy s.bytes b ≡ ms → Followed (Undisturbed s (byte b)) (after s (byte b)).gate g (eventsAt s (byte b))
         by [] e =
-            subst (λ (ms : List Message). Followed (Undisturbed s (byte b)) (Unwritten s (byte b)) (afterMessages (withByte s b) ms).gate g (eventsOf s.gate ms)) (sym e)
-            (record { follows = f; leaves = λ undisturbed. tt; shows = λ unwritten. tt })
+            subst (λ (ms : List Message). Followed (Undisturbed s (byte b)) (afterMessages (withByte s b) ms).gate g (eventsOf s.gate ms)) (sym e)
+            (record { follows = f; leaves = λ undisturbed. tt })
         by (m ∷ ms) e =
-            subst (λ (ms : List Message). Followed (Undisturbed s (byte b)) (Unwritten s (byte b)) (afterMessages (withByte s b) ms).gate g (eventsOf s.gate ms)) (sym e)
+            subst (λ (ms : List Message). Followed (Undisturbed s (byte b)) (afterMessages (withByte s b) ms).gate g (eventsOf s.gate ms)) (sym e)
             (followed-message s.gate g m ms f
             (subst (λ (l : List Message). NoStart s.gate l) e quiet))
 
     abbrev Beside : Aside → Type 0
-    Beside a = Followed (Undisturbed s (aside a)) (Unwritten s (aside a)) (beside s.gate a) g (eventsBeside s.gate a)
+    Beside a = Followed (Undisturbed s (aside a)) (beside s.gate a) g (eventsBeside s.gate a)
 
     followed-tick : (a : Aside) → isTick a ≡ true → Beside a
     followed-tick a is =
@@ -111,7 +101,6 @@ module _ (p : Plan) where
                 size = left.size ∙ f.size;
               };
           leaves = λ quiet. (tt, tt);
-          shows = λ unwritten. (tt, tt);
         })
 
     -- whatever writes the memory leaves the recorder as it was
@@ -127,15 +116,13 @@ module _ (p : Plan) where
         rw (still, some)
         (record {
           follows = record { recorder = recorder; memory = refl; size = size };
-          leaves = λ quiet. ((size, buffer-kept s.gate a still old quiet.1 ∙ ap (drop bufferBegin) f.memory), tt);
-          shows = λ unwritten. ((size, number-kept s.gate a still old unwritten ∙ ap shownIn f.memory), tt);
+          leaves = λ quiet. ((size, buffer-kept s.gate a still quiet.1 ∙ ap (drop bufferBegin) f.memory), tt);
         }))
         (λ none.
         rw (still, none)
         (record {
           follows = record { recorder = recorder; memory = left.memory none ∙ f.memory; size = size };
           leaves = λ quiet. tt;
-          shows = λ unwritten. tt;
         })))
 
   -- ---- one after the other
@@ -147,23 +134,17 @@ module _ (p : Plan) where
   leaves-append [] fs g left right = right
   leaves-append (e ∷ es) fs g left right = (left.0, leaves-append es fs (history.stepped p g e) left.1 right)
 
-  shows-append : (es fs : List Event) (g : Recording) → AllLeaveNumber p g es → AllLeaveNumber p (history.after p g es) fs → AllLeaveNumber p g (es ++ fs)
-  shows-append [] fs g left right = right
-  shows-append (e ∷ es) fs g left right = (left.0, shows-append es fs (history.stepped p g e) left.1 right)
-
-  followed-append : {first-quiet second-quiet first-unwritten second-unwritten : Type 0} (between last : Gate) (g : Recording) (es fs : List Event)
-      → Followed first-quiet first-unwritten between g es → Followed second-quiet second-unwritten last (history.after p g es) fs
-      → Followed (first-quiet × second-quiet) (first-unwritten × second-unwritten) last g (es ++ fs)
+  followed-append : {first-quiet second-quiet : Type 0} (between last : Gate) (g : Recording) (es fs : List Event) → Followed first-quiet between g es
+      → Followed second-quiet last (history.after p g es) fs → Followed (first-quiet × second-quiet) last g (es ++ fs)
   followed-append between last g es fs first second =
       record {
         follows = subst (λ (q : Recording). Follows p last q) (sym (after-append es fs g)) second.follows;
         leaves = λ quiet. leaves-append es fs g (first.leaves quiet.0) (second.leaves quiet.1);
-        shows = λ unwritten. shows-append es fs g (first.shows unwritten.0) (second.shows unwritten.1);
       }
 
   pub followed-all : (hs : List Happening) (s : Since) (g : Recording) → Follows p s.gate g → AllUnstarted s hs
-      → Followed (AllUndisturbed s hs) (AllUnwritten s hs) (afterAll s hs).gate g (events s hs)
-  followed-all [] s g f quiet = record { follows = f; leaves = λ undisturbed. tt; shows = λ unwritten. tt }
+      → Followed (AllUndisturbed s hs) (afterAll s hs).gate g (events s hs)
+  followed-all [] s g f quiet = record { follows = f; leaves = λ undisturbed. tt }
   followed-all (byte b ∷ hs) s g f quiet =
       let one = followed-byte s g f b quiet.0 in
       followed-append (after s (byte b)).gate (afterAll (after s (byte b)) hs).gate g (eventsAt s (byte b)) (events (after s (byte b)) hs) one

@@ -4,9 +4,7 @@ pub mod Resync
 pub mod FreshLink
 pub mod Recording
 pub mod Panel
-pub mod Number
 pub mod Agree
-pub mod Imports
 pub mod Asides
 pub mod Ticks
 pub mod Follows
@@ -15,6 +13,5 @@ pub mod Tables
 pub mod Blocks
 pub mod ServicePort
 pub mod ModbusPort
-pub mod Marks
 pub mod Due
 pub mod Example

@@ -1,31 +1,28 @@
 -- "an answer on the service port depends on Modbus traffic only through bytes 0 to 8,191 as commands, ticks and registering found them":
 -- what happens to the service port can be replayed without the frames, from what was found alone.
 use mathlib.Core.Path.{◌≡◌, refl, sym, ap, subst, ◌∙◌}
-use mathlib.Core.Bool.{false, cond}
+use mathlib.Core.Bool.{true, false, cond}
 use mathlib.Core.List.{List, [], ◌∷◌, ◌++◌}
 use Prim.Native.Nat.{ℕ}
 use lib.Dec.{eqb}
 use lib.ListN.{take, drop, take-append-drop}
-use Rattle.document.specs.Areas.{variablesEnd, numberPlace}
+use Rattle.document.specs.Areas.{variablesEnd}
 use Rattle.document.specs.Numbers.{done}
 use Rattle.document.specs.Message.{Message, finishedBy}
-use Rattle.document.specs.Values.{littleEndian}
 use Rattle.document.specs.Recorder.{Recorder, recorderStarted}
 use Rattle.document.specs.Gate.{Gate, withMemory, withRecorder}
 use Rattle.document.specs.Refusals.{first_of, recorderLines}
 use Rattle.document.specs.Panel.{prepareLines, panelPrepares, panelStarts}
 use Rattle.document.specs.Asides.{Aside, beside}
-use Rattle.document.specs.Asides.Aside.{writes, collects, reports, prepares, starts, frames, imports}
 use Rattle.document.specs.Happenings.{Happening, Since, after, afterAll}
 use Rattle.document.specs.Happenings.Happening.{byte, aside}
 use Rattle.document.proofs.Cases.{split, neither}
-use Rattle.laws_happenings.specs.Asides.{isProgram, isService, isController, CommandStep, commandAfter, handedBy, RecorderStep, isTicked, recorderAfter, memoryAfter, startsAnew, row, isTick}
+use Rattle.laws_happenings.specs.Asides.{isProgram, isController, CommandStep, commandAfter, handedBy, RecorderStep, isTicked, recorderAfter, row, isTick, isOwn, isFrame}
 use Rattle.laws_happenings.specs.Asides.Side.{controller}
 use Rattle.laws_happenings.specs.Asides.RecorderStep.{stays, ticked, prepared, started}
 use Rattle.laws_happenings.specs.Applying.{handedAt, handedOut}
 use Rattle.laws_happenings.specs.Ports.{withoutFrames, finishes, looks, found, SameBeyond, SameService}
-use Rattle.laws_happenings.proofs.Agree.{drop-sets-agrees}
-use Rattle.laws_happenings.proofs.Asides.{by_side, leaves, frame-rest}
+use Rattle.laws_happenings.proofs.Asides.{by_side, leaves}
 
 -- ---- the same but for bytes 0 to 8,191
 
@@ -104,17 +101,6 @@ module _ (g k : Gate) (same : SameBeyond g k) where
   same_step (prepared setup) no-tick = same-prepared setup
   same_step started no-tick = same-started
 
-  -- and so does what it writes
-  same-written : (o : RecorderStep) → isTicked o ≡ false → drop variablesEnd (memoryAfter o g) ≡ drop variablesEnd (memoryAfter o k)
-  same-written stays no-tick = same.memory
-  same-written ticked no-tick = neither (sym no-tick)
-  same-written (prepared setup) no-tick = same.memory
-  same-written started no-tick =
-      let is : startsAnew g ≡ startsAnew k = ap (λ (r : Recorder). startsAnew (withRecorder g r)) same.recorder in
-      split (startsAnew g)
-      (λ start. rw (start, sym is ∙ start) (drop-sets-agrees (littleEndian 2 0) g.memory k.memory variablesEnd numberPlace same.memory))
-      (λ quiet. rw (quiet, sym is ∙ quiet) same.memory)
-
   -- but for ticks nothing beside the line looks at these bytes
   same_beside : (a : Aside) → isTick a ≡ false → SameBeyond (beside g a) (beside k a)
   same_beside a still =
@@ -122,12 +108,8 @@ module _ (g k : Gate) (same : SameBeyond g k) where
       let there = leaves k a in
       record {
         memory =
-            by_side (row a).side (λ own. (here.own (ap isProgram own) k).rest same.memory)
-            (λ service.
-            ap (drop variablesEnd) (here.service-memory (ap isService service))
-            ∙ same-written (row a).recorder still
-            ∙ sym (ap (drop variablesEnd) (there.service-memory (ap isService service))))
-            (λ frame. frame-rest g a frame ∙ same.memory ∙ sym (frame-rest k a frame));
+            split (isOwn a) (λ own. (here.own own k).rest same.memory)
+            (λ other. here.rest other still ∙ same.memory ∙ sym (there.rest other still));
         scope = here.scope ∙ same.scope ∙ sym there.scope;
         recorder = here.recorder ∙ same_step (row a).recorder still ∙ sym there.recorder;
         application = here.application ∙ ap (commandAfter (row a).command) same.application ∙ sym there.application;
@@ -153,16 +135,17 @@ module _ (s t : Since) (same : SameService s t) where
   same-handed (aside a) = ap (handedBy (row a).command) same.gate.application
 
   -- a frame in the one alone
-  same-frame : (a : Aside) → (row a).side ≡ controller → SameService (after s (aside a)) t
-  same-frame a is =
+  same-frame : (a : Aside) → isFrame a ≡ true → isOwn a ≡ false → SameService (after s (aside a)) t
+  same-frame a is other =
       let here = leaves s.gate a in
-      let apart = here.apart (ap isController is) in
+      let apart = here.apart is in
+      let still : isTick a ≡ false = ap isTicked apart.1 in
       record {
         bytes = same.bytes;
         answers = same.answers;
         gate =
             record {
-              memory = frame-rest s.gate a is ∙ same.gate.memory;
+              memory = here.rest other still ∙ same.gate.memory;
               scope = here.scope ∙ same.gate.scope;
               recorder = here.recorder ∙ ap (λ (o : RecorderStep). recorderAfter o s.gate) apart.1 ∙ same.gate.recorder;
               application = here.application ∙ ap (λ (o : CommandStep). commandAfter o s.gate.application) apart.0 ∙ same.gate.application;
@@ -221,7 +204,7 @@ module _ (s t : Since) (same : SameService s t) (hs ks : List Happening) where
       → Replays s (aside a ∷ hs) t ks (found s (aside a ∷ hs))
   replay-frame a is on =
       let apart = (leaves s.gate a).apart (ap isController is) in
-      let next = on (after s (aside a)) t (same-frame s t same a is) in
+      let next = on (after s (aside a)) t (same-frame s t same a (ap isController is) (ap isProgram is)) in
       record {
         ends = rw (ap isTicked apart.1) next.ends;
         hands = ap (λ (o : CommandStep). handedBy o s.gate.application ++ handedOut (after s (aside a)) hs) apart.0 ∙ rw (ap isTicked apart.1) next.hands;
@@ -249,9 +232,3 @@ module _ (hs ks : List Happening) (s t : Since) (same : SameService s t) (happen
 
   pub commands-same : handedOut s hs ≡ handedOut t ks
   commands-same = one.hands ∙ sym other.hands
-
--- ---- beside the bytes a tick alone looks at the variables: the gate's own program, the panel and a frame find nothing
-
-module _ (s : Since) (address result station : ℕ) (bytes setup frame text : List ℕ) where
-  pub others-find-nothing : found s (aside (writes address bytes) ∷ aside collects ∷ aside (reports result) ∷ aside (prepares setup) ∷ aside starts ∷ aside (frames station frame) ∷ aside (imports text) ∷ []) ≡ []
-  others-find-nothing = refl

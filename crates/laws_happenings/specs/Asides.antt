@@ -1,26 +1,24 @@
 -- What happens beside the line, a row for each: whose doing it is, what it brings, and what it does to each part of a gate. All that is
 -- said here and above of an aside is read off its row.
-use Rattle.std.specs.Prelude.{◌≡◌, Bool, true, false, cond, not, ◌&&◌, List, [], ◌∷◌, ℕ, eqb, leb}
+use Rattle.std.specs.Prelude.{◌≡◌, Bool, true, false, not, ◌&&◌, List, [], ◌∷◌, ℕ, eqb, leb}
 use Rattle.document.specs.Numbers.{done}
+use Rattle.document.specs.Recorder.{isRunning}
 use Rattle.document.specs.Application.{Application, newCommand, isCollected, afterCollect, afterReport}
-use Rattle.document.specs.Tables.{Table}
 use Rattle.document.specs.Gate.{Gate}
 use Rattle.document.specs.Refusals.{first_of, recorderLines}
 use Rattle.document.specs.Panel.{prepareLines, panelPrepares, panelStarts}
-use Rattle.document.specs.Run.{numberShown}
-use Rattle.document.specs.Recorder.{Recorder, isRunning, ticked as tickedRecorder, tickedMemory}
+use Rattle.document.specs.Recorder.{Recorder, ticked as tickedRecorder}
 use Rattle.document.specs.Frames.{isStation}
 use Rattle.document.specs.Modbus.{modbusAnswer}
-use Rattle.document.specs.Files.{isFileGood}
 use Rattle.document.specs.Asides.{Aside}
-use Rattle.document.specs.Asides.Aside.{tick, writes, collects, reports, prepares, starts, frames, imports}
+use Rattle.document.specs.Asides.Aside.{tick, writes, collects, reports, prepares, starts, frames}
 
 -- ---- whose doing it is
 
 pub data Side : Type 0 where
-  -- the gate's own program, where it writes its memory or imports a calibration file
+  -- the gate's own program
   program : Side
-  -- the service port's side, with its ticks, the panel, and what the gate's own program collects and reports
+  -- the service port's side, with its ticks and the panel
   service : Side
   -- the mill's controller, on the second port
   controller : Side
@@ -100,13 +98,6 @@ preparesAnew g setup = eqb (first_of (prepareLines g setup)) done
 abbrev pub startsAnew : Gate → Bool
 startsAnew g = eqb (first_of (recorderLines g)) done && not (isRunning g.recorder)
 
--- what the recorder writes: at a tick its set, and "A start writes 0"; preparing "leaves the two bytes" (2026-08)
-abbrev pub memoryAfter : RecorderStep → Gate → List ℕ
-memoryAfter stays g = g.memory
-memoryAfter ticked g = tickedMemory g.recorder g.memory
-memoryAfter (prepared setup) g = g.memory
-memoryAfter started g = cond (startsAnew g) (numberShown 0 g.memory) g.memory
-
 -- it sets the recorder up or starts it anew
 abbrev pub isAnew : RecorderStep → Gate → Bool
 isAnew stays g = false
@@ -120,17 +111,17 @@ pub record Row : Type 0 where
   pub side : Side
   -- what it brings, of which all are bytes
   pub brings : List ℕ
-  -- whether it can happen now: a report waits for its command, a frame for a gate that has its station, and an import for a good text
+  -- whether it can happen now: a report waits for its command, and a frame for a gate that has its station
   pub due : Application → Bool
   -- whether it may write the memory
   pub stores : Bool
   pub command : CommandStep
   pub recorder : RecorderStep
-  -- what the second port answers over these tables and this memory; none is silence (2026-07)
-  pub answer : List Table → List ℕ → List ℕ
+  -- what the second port answers over this memory; none is silence (2026-07)
+  pub answer : List ℕ → List ℕ
 
-abbrev silence : List Table → List ℕ → List ℕ
-silence tables memory = []
+abbrev silence : List ℕ → List ℕ
+silence memory = []
 
 abbrev always : Application → Bool
 always a = true
@@ -152,7 +143,7 @@ row (reports result) =
     }
 row (prepares setup) =
     record { side = service; brings = setup; due = always; stores = false; command = kept; recorder = prepared setup; answer = silence }
-row starts = record { side = service; brings = []; due = always; stores = true; command = kept; recorder = started; answer = silence }
+row starts = record { side = service; brings = []; due = always; stores = false; command = kept; recorder = started; answer = silence }
 row (frames station frame) =
     record {
       side = controller;
@@ -163,8 +154,6 @@ row (frames station frame) =
       recorder = stays;
       answer = modbusAnswer station frame;
     }
-row (imports text) =
-    record { side = program; brings = text; due = λ a. isFileGood text; stores = true; command = kept; recorder = stays; answer = silence }
 
 abbrev pub isTick : Aside → Bool
 isTick a = isTicked (row a).recorder

@@ -7,8 +7,7 @@ use Rattle.document.specs.Plan.{Plan}
 use Rattle.document.specs.Run.{Run}
 use Rattle.document.specs.Run.Watch.{previous}
 use Rattle.document.specs.Gate.{fresh}
-use Rattle.document.specs.FileRows.{crlf}
-use Rattle.document.specs.Asides.Aside.{tick, writes, collects, reports, prepares, starts, frames, imports}
+use Rattle.document.specs.Asides.Aside.{tick, writes, collects, reports, prepares, starts, frames}
 use Rattle.document.specs.Happenings.{Happening, Since, afterAll, fromReset}
 use Rattle.document.specs.Happenings.Happening.{byte, aside}
 
@@ -42,14 +41,10 @@ begun = afterAll reset before
 
 -- ---- since that start, until the trigger comes
 
--- a calibration file of one record, for byte 8,192
-abbrev pub calibration : List ℕ
-calibration = crlf (":01200000419E" ∷ ":00000001FF" ∷ [])
-
--- the gate's own program writes up to the number and imports a calibration file, and no command is there to collect; the panel prepares and
--- starts nothing anew, since the recorder runs
+-- the gate's own program writes up to the buffer, and no command is there to collect; the panel prepares and starts nothing anew, since
+-- the recorder runs
 abbrev pub meanwhile : List Happening
-meanwhile = aside (writes 8 (0xFF ∷ [])) ∷ aside (writes 12285 (1 ∷ [])) ∷ aside (imports calibration) ∷ aside collects ∷ aside (prepares setup) ∷ aside starts ∷ []
+meanwhile = aside (writes 8 (0xFF ∷ [])) ∷ aside (writes 12287 (1 ∷ [])) ∷ aside collects ∷ aside (prepares setup) ∷ aside starts ∷ []
 
 -- 0xC1 but for its last byte: of a running recorder it starts nothing anew either
 abbrev pub start : Message
@@ -80,7 +75,7 @@ abbrev pub risen : Since
 risen = afterAll reset (before ++ earlier)
 
 abbrev pub oneTaken : Run
-oneTaken = record { running = true; wait = 0; place = 1; full = false; watch = previous 0; number = 1 }
+oneTaken = record { running = true; wait = 0; place = 1; full = false; watch = previous 0 }
 
 -- ---- behind the tick at which it comes
 
@@ -152,9 +147,6 @@ disturbed =
     ++ starting
     ++ (byte 0x3F ∷ [])
 
--- the same without service traffic, over a memory that shows one set as well
-abbrev pub shown : Since
-shown = fromReset (fresh (set (set zeros 8 1) 12286 1))
-
+-- the same without service traffic
 abbrev pub unattended : List Happening
-unattended = aside (writes 8 (0xFF ∷ [])) ∷ aside (writes 12285 (1 ∷ [])) ∷ aside (imports calibration) ∷ aside (frames 1 []) ∷ aside (frames 247 rising) ∷ []
+unattended = aside (writes 8 (0xFF ∷ [])) ∷ aside (writes 12287 (1 ∷ [])) ∷ aside (frames 1 []) ∷ aside (frames 247 rising) ∷ []

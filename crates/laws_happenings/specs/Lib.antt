@@ -7,5 +7,4 @@ pub mod Resync
 pub mod Recording
 pub mod Applying
 pub mod Ports
-pub mod Marks
 pub mod Example

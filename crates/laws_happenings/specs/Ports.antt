@@ -5,15 +5,14 @@ use Rattle.document.specs.Message.{Message, finishedBy}
 use Rattle.document.specs.Gate.{Gate}
 use Rattle.document.specs.Happenings.{Happening, Since}
 use Rattle.document.specs.Happenings.Happening.{byte, aside}
-use Rattle.recorder_history.specs.Number.{shownIn}
 use Rattle.laws_happenings.specs.Along.{along}
 use Rattle.laws_happenings.specs.Asides.{isService, ifAny, row, isTick, isFrame}
 
--- ---- what the second port answers, over the tables, and the memory as it stands at each frame; silence is no answer
+-- ---- what the second port answers, over the memory as it stands at each frame; silence is no answer
 
 abbrev pub modbusAt : Since → Happening → List (List ℕ)
 modbusAt s (byte b) = []
-modbusAt s (aside a) = ifAny ((row a).answer s.gate.tables s.gate.memory)
+modbusAt s (aside a) = ifAny ((row a).answer s.gate.memory)
 
 abbrev pub modbusOf : Since → List Happening → List (List ℕ)
 modbusOf = along modbusAt
@@ -56,9 +55,8 @@ pub record SameService (s t : Since) : Type 0 where
   pub answers : s.answers ≡ t.answers
   pub gate : SameBeyond s.gate t.gate
 
--- ---- "a Modbus answer depends on service traffic only through those bytes and the recorder buffer"; ".. and the Modbus rule of 2026-07
--- now name these two bytes as well" (2026-08): beside service traffic, with its ticks and the panel's calls, there are frames and what the
--- gate's own program writes and imports
+-- ---- "a Modbus answer depends on service traffic only through those bytes and the recorder buffer": beside service traffic, with its
+-- ticks and the panel's calls, there are frames and what the gate's own program writes
 
 abbrev pub withoutService : List Happening → List Happening
 withoutService [] = []
@@ -67,13 +65,12 @@ withoutService (aside a ∷ hs) = cond (isService (row a).side) (withoutService 
 
 pub record Shared : Type 0 where
   pub variables : List ℕ
-  pub number : List ℕ
   pub buffer : List ℕ
 
 abbrev pub sharedIn : List ℕ → Shared
-sharedIn memory = record { variables = take variablesEnd memory; number = shownIn memory; buffer = drop bufferBegin memory }
+sharedIn memory = record { variables = take variablesEnd memory; buffer = drop bufferBegin memory }
 
--- as the frames found them
+-- both as the frames found them
 abbrev pub shared_at : Since → Happening → List Shared
 shared_at s (byte b) = []
 shared_at s (aside a) = cond (isFrame a) (sharedIn s.gate.memory ∷ []) []
@@ -81,6 +78,6 @@ shared_at s (aside a) = cond (isFrame a) (sharedIn s.gate.memory ∷ []) []
 abbrev pub shared : Since → List Happening → List Shared
 shared = along shared_at
 
--- bytes 8,192 to 12,285, the calibration but for the number: neither port writes it
+-- "8,192 to 12,287 calibration": neither port writes it
 abbrev pub calibrationIn : List ℕ → List ℕ
 calibrationIn memory = bytes_at memory variablesEnd (calibrationEnd - variablesEnd)

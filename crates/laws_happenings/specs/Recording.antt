@@ -1,6 +1,6 @@
 -- The recorder among what happens to a gate: what a message, a tick and a write are to it, from one accepted start to the next.
-use Rattle.std.specs.Prelude.{◌≡◌, true, false, cond, List, [], ◌∷◌, ℕ, ◌+◌, take, drop}
-use Rattle.document.specs.Areas.{numberPlace, bufferBegin}
+use Rattle.std.specs.Prelude.{◌≡◌, true, false, cond, List, [], ◌∷◌, ℕ, ◌+◌, drop}
+use Rattle.document.specs.Areas.{bufferBegin}
 use Rattle.document.specs.Message.{Message, finishedBy}
 use Rattle.document.specs.Gate.{Gate}
 use Rattle.document.specs.Commands.{answered}
@@ -9,7 +9,6 @@ use Rattle.document.specs.Happenings.{Happening, Since, after}
 use Rattle.document.specs.Happenings.Happening.{byte, aside}
 use Rattle.recorder_history.specs.History.{Event}
 use Rattle.recorder_history.specs.History.Event.{tick as ticks, others, stop}
-use Rattle.recorder_history.specs.Number.{shownIn}
 use Rattle.document_outcomes.specs.Starts.{isStart, isStop}
 use Rattle.laws_happenings.specs.Along.{along}
 use Rattle.laws_happenings.specs.Asides.{isAnew, row, isTick, isOwn}
@@ -41,7 +40,7 @@ abbrev pub NoStart : Gate → List Message → Type 0
 NoStart g [] = Unit {0}
 NoStart g (m ∷ ms) = isStart g m ≡ false
 
--- nothing beside the line prepares the recorder or starts it anew: "01's sentence on reading round the buffer speaks again from the
+-- nothing beside the line sets the recorder up or starts it anew: "01's sentence on reading round the buffer speaks again from the
 -- next start"
 abbrev pub NothingNew : Gate → Aside → Type 0
 NothingNew g a = isAnew (row a).recorder g ≡ false
@@ -65,23 +64,3 @@ Undisturbed s (aside a) = NothingNew s.gate a × LeavesBuffer s.gate a
 abbrev pub AllUndisturbed : Since → List Happening → Type 0
 AllUndisturbed s [] = Unit {0}
 AllUndisturbed s (h ∷ hs) = Undisturbed s h × AllUndisturbed (after s h) hs
-
--- ---- the two bytes that show the number of sets (2026-08)
-
--- commands and frames cannot write them, and the gate's own program does not
-abbrev pub LeavesNumber : Gate → Aside → Type 0
-LeavesNumber g a = isOwn a ≡ true → shownIn (beside g a).memory ≡ shownIn g.memory
-
-abbrev pub Unwritten : Since → Happening → Type 0
-Unwritten s (byte b) = Unit {0}
-Unwritten s (aside a) = LeavesNumber s.gate a
-
-abbrev pub AllUnwritten : Since → List Happening → Type 0
-AllUnwritten s [] = Unit {0}
-AllUnwritten s (h ∷ hs) = Unwritten s h × AllUnwritten (after s h) hs
-
--- "A start writes 0 .. at bytes 12,286 and 12,287", and nothing else of the memory
-pub record OnlyNumber (before after : List ℕ) : Type 0 where
-  pub front : take numberPlace after ≡ take numberPlace before
-  pub none : shownIn after ≡ 0 ∷ 0 ∷ []
-  pub buffer : drop bufferBegin after ≡ drop bufferBegin before

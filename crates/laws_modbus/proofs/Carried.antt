@@ -1,19 +1,16 @@
--- What a function stores: bytes, at a place below the end of the variables, where no registered table marks them.
+-- What a function stores: bytes, at a place below the end of the variables.
 use mathlib.Core.Path.{◌≡◌, refl}
 use mathlib.Core.Bool.{false, not}
 use mathlib.Core.List.{List, [], ◌∷◌}
-use Prim.Native.Nat.{ℕ, ◌+◌, ◌*◌, ◌<◌, ◌≤◌}
+use Prim.Native.Nat.{ℕ, ◌+◌, ◌*◌, ◌≤◌}
 use native.Mathlib.Omega.{arith}
-use borrow.Author.Tests.{not-false}
 use lib.ListN.{length, drop, length-take}
 use Rattle.document.specs.Bytes.{AllBytes}
 use Rattle.document.specs.Numbers.{done}
 use Rattle.document.specs.Areas.{variablesEnd, bytes_at}
 use Rattle.document.specs.Values.{number, littleEndian}
 use Rattle.document.specs.Stores.{stored}
-use Rattle.document.specs.Tables.{Table}
-use Rattle.document.specs.Gate.{registered}
-use Rattle.document.specs.Marks.{isMarked}
+use Rattle.document.specs.Gate.{fresh}
 use Rattle.document.specs.Permission.{mayBeWritten}
 use Rattle.document.specs.Registers.{turned, maskedBoth}
 use Rattle.document.specs.Frames.{firstIn, quantityIn, word_in}
@@ -21,19 +18,16 @@ use Rattle.document.specs.Modbus.{exceptionTo, carriedOut}
 use Rattle.document.specs.declared.Function.{Function}
 use Rattle.document.specs.declared.Function.TheVariants.{ReadRegisters, WriteRegister, WriteRegisters, MaskRegister, Other}
 use Rattle.document.proofs.Bytes.{all-range}
-use Rattle.document.proofs.Permission.{written-unmarked}
 use Rattle.modbus_registers.proofs.Turns.{turned-short}
 use Rattle.modbus_frames.proofs.WrongAddresses.{writes_below}
 use Rattle.modbus_frames.proofs.Order.{accepted}
-use Rattle.laws_marks.proofs.Bytes.{range-free}
 
--- a store of bytes below the end of the variables, none of them marked, or none
-pub record Stored (frame : List ℕ) (tables : List Table) (memory left : List ℕ) : Type 0 where
+-- a store of bytes below the end of the variables, or none
+pub record Stored (frame memory left : List ℕ) : Type 0 where
   pub at : ℕ
   pub values : List ℕ
   pub stores : left ≡ stored memory at values
   pub below : at + length values ≤ variablesEnd
-  pub unmarked : (i : ℕ) → at ≤ i → i < at + length values → isMarked tables memory i 1 ≡ false
   pub bytes : AllBytes frame → AllBytes values
 
 all-turned : (l : List ℕ) → AllBytes l → AllBytes (turned l)
@@ -41,43 +35,33 @@ all-turned [] all = tt
 all-turned (a ∷ []) all = tt
 all-turned (a ∷ b ∷ l) all = (all.1.0, (all.0, all-turned l all.1.1))
 
-module _ (frame : List ℕ) (tables : List Table) (memory : List ℕ) where
-  pub nothing_stored : Stored frame tables memory memory
-  nothing_stored =
-      record { at = 0; values = []; stores = refl; below = omega arith; unmarked = λ i from to. (let none : ⊥ = omega (arith, to) in absurd none); bytes = λ all. tt }
-
-  -- of a write without exception
-  module _ (size : ℕ) (may : not (mayBeWritten (registered tables memory) (2 * firstIn frame) size) ≡ false) where
-    free : (count : ℕ) → count ≤ size → (i : ℕ) → 2 * firstIn frame ≤ i → i < 2 * firstIn frame + count → isMarked tables memory i 1 ≡ false
-    free count few i from to =
-        range-free (2 * firstIn frame) size i from (omega (arith, to, few)) tables memory
-        (written-unmarked (registered tables memory) (2 * firstIn frame) size (not-false (mayBeWritten (registered tables memory) (2 * firstIn frame) size) may))
+module _ (frame memory : List ℕ) where
+  pub nothing_stored : Stored frame memory memory
+  nothing_stored = record { at = 0; values = []; stores = refl; below = omega arith; bytes = λ all. tt }
 
   -- registers from a place of the frame on
-  registers-stored : (place size : ℕ) → not (mayBeWritten (registered tables memory) (2 * firstIn frame) size) ≡ false
-      → Stored frame tables memory (stored memory (2 * firstIn frame) (turned (bytes_at frame place size)))
+  registers-stored : (place size : ℕ) → not (mayBeWritten (fresh memory) (2 * firstIn frame) size) ≡ false
+      → Stored frame memory (stored memory (2 * firstIn frame) (turned (bytes_at frame place size)))
   registers-stored place size may =
       let part : List ℕ = bytes_at frame place size in
       record {
         at = 2 * firstIn frame;
         values = turned part;
         stores = refl;
-        below = omega (arith, writes_below frame tables memory size may, turned-short part, length-take size (drop place frame));
-        unmarked = free size may (length (turned part)) (omega (arith, turned-short part, length-take size (drop place frame)));
+        below = omega (arith, writes_below frame memory size may, turned-short part, length-take size (drop place frame));
         bytes = λ all. all-turned part (all-range frame place size all);
       }
 
-  pub carried-stored : (function : Function) → exceptionTo function frame tables memory ≡ done → Stored frame tables memory (carriedOut function frame memory)
+  pub carried-stored : (function : Function) → exceptionTo function frame memory ≡ done → Stored frame memory (carriedOut function frame memory)
   carried-stored ReadRegisters none = nothing_stored
-  carried-stored WriteRegister none = registers-stored 4 2 (accepted WriteRegister frame tables memory none).address
-  carried-stored WriteRegisters none = registers-stored 7 (2 * quantityIn frame) (accepted WriteRegisters frame tables memory none).address
+  carried-stored WriteRegister none = registers-stored 4 2 (accepted WriteRegister frame memory none).address
+  carried-stored WriteRegisters none = registers-stored 7 (2 * quantityIn frame) (accepted WriteRegisters frame memory none).address
   carried-stored MaskRegister none =
       record {
         at = 2 * firstIn frame;
         values = littleEndian 2 (maskedBoth (number (bytes_at memory (2 * firstIn frame) 2)) (word_in frame 4) (word_in frame 6));
         stores = refl;
-        below = writes_below frame tables memory 2 (accepted MaskRegister frame tables memory none).address;
-        unmarked = free 2 (accepted MaskRegister frame tables memory none).address 2 (omega arith);
+        below = writes_below frame memory 2 (accepted MaskRegister frame memory none).address;
         bytes = λ all. (omega arith, (omega arith, tt));
       }
   carried-stored Other none = nothing_stored

@@ -8,7 +8,6 @@ use borrow.Author.Tests.{ltb-true, ltb-false}
 use lib.Dec.{ltb}
 use lib.ListN.{length}
 use Rattle.document.specs.CheckSum.{isCheckSumRight}
-use Rattle.document.specs.Tables.{Table}
 use Rattle.document.specs.Frames.{isSilenced}
 use Rattle.document.specs.Modbus.{modbusAnswer, modbusMemory}
 use Rattle.document.proofs.Cases.{split}
@@ -23,12 +22,12 @@ module _ (station : ℕ) where
   unfolding isSilenced
   wrong-silent frame wrong = simp (wrong, or-true)
 
-  module _ (frame : List ℕ) (tables : List Table) (memory : List ℕ) where
-    silent : isSilenced station frame ≡ true → (modbusAnswer station frame tables memory ≡ []) × (modbusMemory station frame tables memory ≡ memory)
+  module _ (frame memory : List ℕ) where
+    silent : isSilenced station frame ≡ true → (modbusAnswer station frame memory ≡ []) × (modbusMemory station frame memory ≡ memory)
     unfolding modbusAnswer modbusMemory
     silent quiet = (rw quiet refl, rw quiet refl)
 
-    pub wrong-silenced : isCheckSumRight frame ≡ false → (modbusAnswer station frame tables memory ≡ []) × (modbusMemory station frame tables memory ≡ memory)
+    pub wrong-silenced : isCheckSumRight frame ≡ false → (modbusAnswer station frame memory ≡ []) × (modbusMemory station frame memory ≡ memory)
     wrong-silenced wrong = silent (wrong-silent frame wrong)
 
   module _ (sent got : List ℕ) (s : Sent sent got) where
@@ -44,5 +43,5 @@ module _ (station : ℕ) where
         (λ long. sym (too_long station got (omega (arith, ltb-true 256 (length sent) long, s.lengths))))
         (λ short. wrong-silent got (noticed (ltb-false 256 (length sent) short) damaged))
 
-    pub noise-silenced : Damaged sent got → (tables : List Table) (memory : List ℕ) → (modbusAnswer station got tables memory ≡ []) × (modbusMemory station got tables memory ≡ memory)
-    noise-silenced damaged tables memory = silent got tables memory (noise-silent damaged)
+    pub noise-silenced : Damaged sent got → (memory : List ℕ) → (modbusAnswer station got memory ≡ []) × (modbusMemory station got memory ≡ memory)
+    noise-silenced damaged memory = silent got memory (noise-silent damaged)

@@ -1,5 +1,4 @@
--- Noise on the second port's wire: the damage to a frame after which it always gets silence. In a frame of up to 256 bytes its check sum
--- notices it, and a longer one is silenced for its length.
+-- Noise on the second port's wire: the damage to a frame that its check sum always notices.
 use Rattle.std.specs.Prelude.{◌≡◌, List, ℕ, ◌+◌, ◌*◌, ◌^◌, ◌%◌, ◌<◌, length}
 use Rattle.modbus_check_sums.specs.Flips.{flips, bitsSet}
 

@@ -19,7 +19,7 @@ use Rattle.document.specs.Gate.{Gate, Outcome}
 use Rattle.document.specs.Commands.{served, answered}
 use Rattle.document.proofs.Cases.{split}
 use Rattle.document.proofs.Values.{number-back}
-use Rattle.document.proofs.Sum.{adds-up}
+use Rattle.line_wire.proofs.RightSum.{adds-up}
 use Rattle.document_outcomes.proofs.Answered.{answered-served, answered-gate}
 use Rattle.laws_names.specs.Steps.{asked, received, pieceRead}
 

@@ -18,7 +18,7 @@ use Rattle.document.proofs.Cases.{split}
 use Rattle.line_wire.proofs.Pairing.{waitsBehind}
 use Rattle.line_wire.proofs.Machine.{Reads, foundBy, reported-at, within-after, found_map, answer-finished-found}
 use Rattle.line_wire.proofs.Frames.{counted}
-use Rattle.document.proofs.Sum.{total-append}
+use Rattle.line_wire.proofs.RightSum.{total-append}
 use Rattle.line_reader.specs.Reader.{AnswerReader, Step, sound, dataLength, phaseAt, fresh, silent, opened, literal, stepped, turned, readerAfter}
 use Rattle.line_reader.proofs.Bounds.{phases, data-left, data-all, data-room, fresh-sound, stepped-sound, literal-data, literal-sum, literal-idle, stepped-doubled, stepped-first, stepped_start, stepped-plain}
 

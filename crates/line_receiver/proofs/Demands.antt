@@ -6,7 +6,7 @@ use mathlib.Core.List.{List, [], ◌∷◌, ◌++◌, map, nil≢cons, head-eq_o
 use mathlib.Core.Bool.{true, false}
 use lib.ListN.{length, take, get_or}
 use Rattle.document.specs.Message.{Message, lengthPart, wellFormed, onWire, summed, finishedBy}
-use Rattle.document.proofs.Sum.{sum-right}
+use Rattle.line_wire.proofs.RightSum.{sum-right}
 use Rattle.line_wire.proofs.Resync.{message-last, message-before, message-settled}
 use Rattle.line_wire.proofs.Half.{EndsWith, whole-on-wire, no_other}
 use Rattle.line_receiver.specs.Report.{HeldMessage, held, reporting}

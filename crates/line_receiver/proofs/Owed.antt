@@ -14,7 +14,7 @@ use Rattle.document.specs.Sum.{total}
 use Rattle.document.specs.Kinds.{hasLengthByte, fastLength}
 use Rattle.document.specs.Message.{ofLength, afterLengthByte, wholeMessage}
 use Rattle.document.proofs.Cases.{split}
-use Rattle.document.proofs.Sum.{total-append}
+use Rattle.line_wire.proofs.RightSum.{total-append}
 use Rattle.line_wire.proofs.Frames.{message}
 use Rattle.line_receiver.specs.declared.Receiver.{Receiver}
 use Rattle.line_receiver.specs.declared.Event.TheVariants.{Nothing, Keep}

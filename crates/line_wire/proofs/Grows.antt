@@ -1,21 +1,20 @@
 -- A byte appends what it finishes, at most one thing, and nothing that stood there before changes.
-use Prim.Native.Nat.{ℕ, ◌+◌, ◌≤◌, ◌<◌}
+use Prim.Native.Nat.{ℕ, ◌≤◌, ◌<◌}
 use mathlib.Core.Path.{◌≡◌, refl, sym, ap, ◌∙◌}
-use mathlib.Core.List.{List, [], ◌∷◌, ◌++◌, append_assoc, append-nil, map, map-append}
+use mathlib.Core.List.{List, [], ◌∷◌, ◌++◌, append_assoc, append-nil}
 use mathlib.Core.Bool.{Bool, true, false, cond}
 use native.Mathlib.Omega.{arith}
 use borrow.Author.Tests.{ltb-true, lt-ltb, le-ltb}
-use lib.ListN.{length, take, get_or, length-append, length-map, get_or-append}
+use lib.ListN.{length, take, get_or, length-append, get_or-append}
 use lib.Seq.{drop-append_seam, take-append-le}
 use lib.Dec.{ltb, eqb}
-use Rattle.document.specs.Pairing.{Token, start, literal, Placed, paired, untilStart, opened, width, openedAt}
+use Rattle.document.specs.Pairing.{Token, start, literal, paired, untilStart, opened}
 use Rattle.document.specs.Kinds.{hasLengthByte, fastLength}
-use Rattle.document.specs.Message.{wholeMessage, afterLengthByte, heard, heardAt, finishedBy}
+use Rattle.document.specs.Message.{wholeMessage, afterLengthByte, heard, finishedBy}
 use Rattle.document.specs.Numbers.{isError}
 use Rattle.document.specs.Answer.{Reading, wholeAnswer, answersHeard, answerFinishedBy}
 use Rattle.document.proofs.Cases.{split}
-use Rattle.document.proofs.Places.{opened-at}
-use Rattle.line_wire.proofs.Pairing.{tokensAt, waitsAfter, paired-last, untilStart-start}
+use Rattle.line_wire.proofs.Pairing.{tokensAt, waitsAfter, paired-last, opened-start}
 use Rattle.line_wire.proofs.Machine.{foundBy}
 use Rattle.line_wire.proofs.Frames.{counted, message}
 
@@ -53,15 +52,6 @@ module _ {A : Type 0} (make : List ℕ → ℕ → A) (n : ℕ) (ls : List ℕ) 
       (same (make (take n ls) (get_or ls n 0) ∷ [])))
       (λ short. rw short (record { more = counted make n (ls ++ (l ∷ [])); appended = refl; one = counted-one }))
 
--- shown by part, it grows the same
-parted : {A R : Type 0} (shown : A → R) {before after : List A} → Grown before after → Grown (map shown before) (map shown after)
-parted shown {before} g =
-    record {
-      more = map shown g.more;
-      appended = ap (map shown) g.appended ∙ map-append shown before g.more;
-      one = rw length-map g.one;
-    }
-
 -- a literal behind the tokens belongs to the last start, where one stands before it and no whole thing was closed by another
 module _ {A : Type 0} (whole : List ℕ → List A) (grows : (ls : List ℕ) (l : ℕ) → Grown (whole ls) (whole (ls ++ (l ∷ [])))) (alone : (c : ℕ) → whole (c ∷ []) ≡ []) where
   -- whether what stands first is closed by a start
@@ -70,53 +60,34 @@ module _ {A : Type 0} (whole : List ℕ → List A) (grows : (ls : List ℕ) (l 
 
   record Unclosed (ts : List Token) (l : ℕ) : Type 0 where
     longer : untilStart (ts ++ (literal l ∷ [])) ≡ untilStart ts ++ (l ∷ [])
-    none : (place : ℕ) → openedAt whole place ts ≡ []
-    none_then : (place : ℕ) → openedAt whole place (ts ++ (literal l ∷ [])) ≡ []
+    none : opened whole ts ≡ []
+    none_then : opened whole (ts ++ (literal l ∷ [])) ≡ []
 
   by-start : {P : Type 0} (ts : List Token) (l : ℕ) → (Closed ts l → P) → (Unclosed ts l → P) → P
-  by-start [] l closed unclosed = unclosed (record { longer = refl; none = λ place. refl; none_then = λ place. refl })
+  by-start [] l closed unclosed = unclosed (record { longer = refl; none = refl; none_then = refl })
   by-start (start ∷ ts) l closed unclosed = closed refl
   by-start (literal k ∷ ts) l closed unclosed =
       by-start ts l
       (λ e. closed (ap (λ (r : List ℕ). k ∷ r) e))
-      (λ o.
-      unclosed
-      (record {
-        longer = ap (λ (r : List ℕ). k ∷ r) o.longer;
-        none = λ place. o.none (place + width (literal k));
-        none_then = λ place. o.none_then (place + width (literal k));
-      }))
+      (λ o. unclosed (record { longer = ap (λ (r : List ℕ). k ∷ r) o.longer; none = o.none; none_then = o.none_then }))
 
-  abbrev placed_at : ℕ → A → Placed A
-  placed_at place a = record { place = place; thing = a }
-
-  literal-grows : (ts : List Token) (l place : ℕ) → Grown (openedAt whole place ts) (openedAt whole place (ts ++ (literal l ∷ [])))
-  literal-grows [] l place = same []
-  literal-grows (literal k ∷ ts) l place = literal-grows ts l (place + width (literal k))
-  literal-grows (start ∷ ts) l place =
+  literal-grows : (ts : List Token) (l : ℕ) → Grown (opened whole ts) (opened whole (ts ++ (literal l ∷ [])))
+  literal-grows [] l = same []
+  literal-grows (literal k ∷ ts) l = literal-grows ts l
+  literal-grows (start ∷ ts) l =
       by-start ts l
-      (λ closed. rw closed (behind (map (placed_at place) (whole (untilStart ts))) (literal-grows ts l (place + width start))))
-      (λ unclosed.
-      rw (unclosed.longer, unclosed.none (place + width start), unclosed.none_then (place + width start), append-nil, append-nil)
-      (parted (placed_at place) (grows (untilStart ts) l)))
+      (λ closed. rw closed (behind (whole (untilStart ts)) (literal-grows ts l)))
+      (λ unclosed. rw (unclosed.longer, unclosed.none, unclosed.none_then, append-nil, append-nil) (grows (untilStart ts) l))
 
-  start-grows : (ts : List Token) (b place : ℕ) → Grown (openedAt whole place ts) (openedAt whole place (ts ++ (start ∷ literal b ∷ [])))
-  start-grows [] b place = rw (alone b) (same [])
-  start-grows (literal k ∷ ts) b place = start-grows ts b (place + width (literal k))
-  start-grows (start ∷ ts) b place =
-      rw (untilStart-start whole ts (literal b ∷ [])) (behind (map (placed_at place) (whole (untilStart ts))) (start-grows ts b (place + width start)))
+  start-grows : (ts : List Token) (b : ℕ) → Grown (opened whole ts) (opened whole (ts ++ (start ∷ literal b ∷ [])))
+  start-grows ts b = rw (opened-start whole ts (literal b ∷ []), alone b, append-nil) (same (opened whole ts))
 
-  tokens-grow : (waiting : Bool) (ts : List Token) (b : ℕ) → Grown (openedAt whole 0 ts) (openedAt whole 0 (ts ++ tokensAt waiting b))
-  tokens-grow true ts b = split (eqb b 0x2B) (λ plus. rw plus (literal-grows ts 0x2B 0)) (λ other. rw other (start-grows ts b 0))
-  tokens-grow false ts b = split (eqb b 0x2B) (λ plus. rw (plus, append-nil) (same (openedAt whole 0 ts))) (λ other. rw other (literal-grows ts b 0))
-
-  -- with the places of what stood there before
-  placed-grows : (bs : List ℕ) (b : ℕ) → Grown (openedAt whole 0 (paired bs)) (openedAt whole 0 (paired (bs ++ (b ∷ []))))
-  placed-grows bs b = rw (paired-last bs b) (tokens-grow (waitsAfter bs) (paired bs) b)
+  tokens-grow : (waiting : Bool) (ts : List Token) (b : ℕ) → Grown (opened whole ts) (opened whole (ts ++ tokensAt waiting b))
+  tokens-grow true ts b = split (eqb b 0x2B) (λ plus. rw plus (literal-grows ts 0x2B)) (λ other. rw other (start-grows ts b))
+  tokens-grow false ts b = split (eqb b 0x2B) (λ plus. rw (plus, append-nil) (same (opened whole ts))) (λ other. rw other (literal-grows ts b))
 
   byte-grows : (bs : List ℕ) (b : ℕ) → Grown (opened whole (paired bs)) (opened whole (paired (bs ++ (b ∷ []))))
-  byte-grows bs b =
-      rw (opened-at whole 0 (paired bs), opened-at whole 0 (paired (bs ++ (b ∷ [])))) at (parted (λ (p : Placed A). p.thing) (placed-grows bs b))
+  byte-grows bs b = rw (paired-last bs b) (tokens-grow (waitsAfter bs) (paired bs) b)
 
   found-more : (bs : List ℕ) (b : ℕ) → foundBy whole bs b ≡ (byte-grows bs b).more
   found-more bs b = rw (byte-grows bs b).appended (drop-append_seam (opened whole (paired bs)) (byte-grows bs b).more)
@@ -152,11 +123,6 @@ message-grows (c ∷ ls) l =
 pub heard-grows : (bs : List ℕ) (b : ℕ) → heard (bs ++ (b ∷ [])) ≡ heard bs ++ finishedBy bs b
 unfolding heard finishedBy
 heard-grows bs b = found-appended wholeMessage message-grows message-alone bs b
-
--- and so do those with the places of their start bytes
-pub heard-at-grows : (bs : List ℕ) (b : ℕ) → Grown (heardAt bs) (heardAt (bs ++ (b ∷ [])))
-unfolding heardAt
-heard-at-grows bs b = placed-grows wholeMessage message-grows message-alone bs b
 
 pub finished-one : (bs : List ℕ) (b : ℕ) → length (finishedBy bs b) ≤ 1
 unfolding heard finishedBy

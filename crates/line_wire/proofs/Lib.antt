@@ -5,6 +5,7 @@ pub mod Machine
 pub mod Frames
 pub mod Grows
 pub mod Resync
+pub mod RightSum
 pub mod RoundTrip
 pub mod Ends
 pub mod Half

@@ -88,7 +88,7 @@ module _ {A : Type 0} (whole : List ℕ → List A) where
   opened-literals [] = refl
   opened-literals (l ∷ ls) = opened-literals ls
 
-  pub untilStart-start : (ts us : List Token) → untilStart (ts ++ start ∷ us) ≡ untilStart ts
+  untilStart-start : (ts us : List Token) → untilStart (ts ++ start ∷ us) ≡ untilStart ts
   untilStart-start [] us = refl
   untilStart-start (start ∷ ts) us = refl
   untilStart-start (literal l ∷ ts) us = ap (λ (r : List ℕ). l ∷ r) (untilStart-start ts us)

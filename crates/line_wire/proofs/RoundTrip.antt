@@ -11,7 +11,7 @@ use Rattle.document.specs.Message.{Message, wellFormed, onWire, finishedBy}
 use Rattle.document.specs.Answer.{Answer, Reading, answerOnWire, answerFinishedBy, readingRight, wholeAnswer}
 use Rattle.line_wire.proofs.Pairing.{reset}
 use Rattle.line_wire.proofs.Machine.{answer-finished-found}
-use Rattle.document.proofs.Sum.{adds-up}
+use Rattle.line_wire.proofs.RightSum.{adds-up}
 use Rattle.line_wire.proofs.Frames.{Frame, counted-whole, counted-short, found-last, found_before}
 use Rattle.line_wire.proofs.Resync.{message-last, message-before}
 

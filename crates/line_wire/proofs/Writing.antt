@@ -13,7 +13,7 @@ use Rattle.line_wire.specs.declared.doubling.Progress.{Progress}
 use Rattle.line_wire.specs.Put.{progressed, front, Put, Ended}
 use Rattle.line_wire.specs.Told.{fronted, Telling, Told}
 use Rattle.line_wire.proofs.Pairing.{framed}
-use Rattle.document.proofs.Sum.{total-append}
+use Rattle.line_wire.proofs.RightSum.{total-append}
 use Rattle.line_wire.proofs.Stuffed.{stuffed-append, stuffed-length, sets-append}
 
 -- ---- one list behind the other

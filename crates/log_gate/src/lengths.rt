@@ -8,5 +8,3 @@ pub const LOG_GATE_MEMORY: usize = memory_ranges::MEMORY_END;
 pub const LOG_GATE_ANSWER_ROOM: usize = codes_table::ANSWER_ROOM;
 
 pub const LOG_GATE_MODBUS_ROOM: usize = call_modbus::ROOM;
-
-pub const LOG_GATE_EXPORT_ROOM: usize = files_export::EXPORT_LENGTH;

@@ -1,9 +1,7 @@
 // The C boundary: what include/log_gate.h declares. A slice crosses as a pointer and a length, a state as a block of bytes. Each call
 // is one of the crates below, under the name and with the promise that it has there.
 mod application;
-mod captures;
 mod ends;
-mod files;
 mod lengths;
 mod names;
 mod panel;
@@ -11,14 +9,11 @@ mod second;
 mod target;
 
 pub use application::{log_gate_collect, log_gate_report};
-pub use captures::log_gate_capture;
 pub use ends::{
     log_gate_reader_begin, log_gate_reader_byte, log_gate_write_answer, log_gate_write_command,
 };
-pub use files::{log_gate_export, log_gate_import};
 pub use lengths::{
-    LOG_GATE_ANSWER_ROOM, LOG_GATE_EXPORT_ROOM, LOG_GATE_MEMORY, LOG_GATE_MODBUS_ROOM,
-    LOG_GATE_READER, LOG_GATE_STATE,
+    LOG_GATE_ANSWER_ROOM, LOG_GATE_MEMORY, LOG_GATE_MODBUS_ROOM, LOG_GATE_READER, LOG_GATE_STATE,
 };
 pub use names::log_gate_register;
 pub use panel::{log_gate_prepare, log_gate_start};

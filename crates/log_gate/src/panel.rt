@@ -11,8 +11,8 @@ pub extern "C" fn log_gate_prepare(state: &mut [u8], setup: &[u8]) -> Said
 }
 
 #[unsafe(no_mangle)]
-pub extern "C" fn log_gate_start(state: &mut [u8], memory: &mut [u8]) -> Said
-    ensures { StartDone state.old memory.old result state.new memory.new }
+pub extern "C" fn log_gate_start(state: &mut [u8]) -> Said
+    ensures { StartDone state.old result state.new }
 {
-    call_panel::start(state, memory)
+    call_panel::start(state)
 }

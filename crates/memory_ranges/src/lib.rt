@@ -4,8 +4,8 @@ mod stores;
 mod values;
 
 pub use ranges::{
-    BUFFER_BEGIN, BUFFER_SIZE, CALIBRATION_END, MEMORY_END, NUMBER, RECORDED_END, VARIABLES_END,
-    may_be_read, may_be_recorded, within,
+    BUFFER_BEGIN, BUFFER_SIZE, CALIBRATION_END, MEMORY_END, RECORDED_END, VARIABLES_END,
+    may_be_read, may_be_recorded, may_be_written, within,
 };
 pub use stores::copy_in;
 pub use values::{number, number_at};

@@ -1,21 +1,20 @@
 // Where a range of bytes may lie. Each question is one function, so that a rule that changes changes in one place.
 ghost use Rattle.std.specs.Prelude.{◌≡◌, ◌+◌, leb};
 ghost use Rattle.document.specs.Areas.{mayBeRead, mayBeRecorded};
+ghost use Rattle.document.specs.Gate.{Gate};
+ghost use Rattle.document.specs.Permission.{mayBeWritten};
 
 use bytes_widths::usize_of_u32;
 
 pub const VARIABLES_END: usize = 8192;
 
 // Registered tables end at or below it.
-pub const CALIBRATION_END: usize = 12286;
-
-// Where the number of sets since the start is shown, in two bytes.
-pub const NUMBER: usize = CALIBRATION_END;
+pub const CALIBRATION_END: usize = 12288;
 
 pub const BUFFER_BEGIN: usize = 12288;
 
 // Recorded variables and trigger end at or below it.
-pub const RECORDED_END: usize = CALIBRATION_END;
+pub const RECORDED_END: usize = 12288;
 
 pub const MEMORY_END: usize = 16384;
 
@@ -36,6 +35,13 @@ pub fn may_be_read(address: u32, size: usize) -> bool
     ensures { result ≡ mayBeRead address size }
 {
     within(address, size, MEMORY_END)
+}
+
+// Whatever the gate holds: the one place where code asks whether a range may be written.
+pub fn may_be_written(address: u32, size: usize) -> bool
+    ensures { (g : Gate) → result ≡ mayBeWritten g address size }
+{
+    within(address, size, VARIABLES_END)
 }
 
 pub fn may_be_recorded(address: u32, size: usize) -> bool

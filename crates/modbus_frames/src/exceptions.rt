@@ -1,10 +1,6 @@
 // The exceptions, in their order: 1, then 3, then 2.
-ghost use Rattle.std.specs.Prelude.{◌≡◌, ◌≤◌, length};
-ghost use Rattle.document.specs.Areas.{memoryEnd};
+ghost use Rattle.std.specs.Prelude.{◌≡◌, List, ℕ};
 ghost use Rattle.document.specs.Modbus.{isOther, exceptionTo};
-ghost use Rattle.tables_state.specs.State.{tables_of};
-ghost use Rattle.state_block.specs.Places.{stateLength};
-ghost use Rattle.state_block.specs.Layout.{decodedTables};
 
 use crate::addresses::is_address_wrong;
 use crate::values::is_value_wrong;
@@ -29,9 +25,8 @@ fn is_other(function: Function) -> bool
     }
 }
 
-pub fn exception_to(function: Function, frame: &[u8], state: &[u8], memory: &[u8]) -> u8
-    requires { (stateLength ≤ length state.now) × (length memory.now ≡ memoryEnd) }
-    ensures { result ≡ exceptionTo function frame.now (tables_of (decodedTables state.now)) memory.now }
+pub fn exception_to(function: Function, frame: &[u8]) -> u8
+    ensures { (memory : List ℕ) → result ≡ exceptionTo function frame.now memory }
 {
     if is_other(function) {
         return FUNCTION_NOT_SERVED;
@@ -39,7 +34,7 @@ pub fn exception_to(function: Function, frame: &[u8], state: &[u8], memory: &[u8
     if is_value_wrong(function, frame) {
         return VALUE_WRONG;
     }
-    if is_address_wrong(function, frame, state, memory) {
+    if is_address_wrong(function, frame) {
         return ADDRESS_WRONG;
     }
     DONE

@@ -6,14 +6,14 @@ use native.Mathlib.Omega.{arith}
 use borrow.Author.Tests.{leb-true, not-false}
 use lib.ListN.{length, take, drop, length-drop}
 use lib.Seq.{sets, length-take-le}
+use Rattle.document.specs.Numbers.{done}
 use Rattle.document.specs.Areas.{bytes_at, mayBeRead}
 use Rattle.document.specs.Frames.{stationIn, functionByte, firstIn, quantityIn}
 use Rattle.document.specs.Registers.{turned, registersAt}
-use Rattle.document.specs.Modbus.{functionData}
+use Rattle.document.specs.Modbus.{exceptionTo, functionData}
 use Rattle.document.specs.declared.Function.{Function}
 use Rattle.document.specs.declared.Function.TheVariants.{ReadRegisters}
 use Rattle.modbus_registers.proofs.Turns.{turned-length}
-use Rattle.modbus_frames.specs.Unexcepted.{Unexcepted}
 use Rattle.modbus_frames.proofs.Order.{accepted}
 use Rattle.modbus_functions.specs.Put.{Put}
 
@@ -31,9 +31,9 @@ pub told-as : {f g : Function} → f ≡ g → (frame memory out after : List �
 told-as same frame memory out after r p =
     subst (λ (f : Function). Put (stationIn frame ∷ functionByte frame ∷ functionData f frame memory) out r after) (sym same) p
 
-pub reads-inside : (frame memory : List ℕ) → Unexcepted ReadRegisters frame memory → 2 * firstIn frame + 2 * quantityIn frame ≤ 16384
+pub reads-inside : (frame memory : List ℕ) → exceptionTo ReadRegisters frame memory ≡ done → 2 * firstIn frame + 2 * quantityIn frame ≤ 16384
 reads-inside frame memory none =
-    let may = (accepted ReadRegisters frame none.tables memory none.none).address in
+    let may = (accepted ReadRegisters frame memory none).address in
     leb-true (2 * firstIn frame + 2 * quantityIn frame) 16384 (not-false (mayBeRead (2 * firstIn frame) (2 * quantityIn frame)) may)
 
 -- ---- registers are told

@@ -1,9 +1,9 @@
 // What a function answers, and an exception: the bytes before the check sum.
 ghost use Rattle.std.specs.Prelude.{◌≡◌, [], ◌∷◌, ◌+◌, ◌*◌, ◌<◌, ◌≤◌, length, take};
 ghost use Rattle.document.specs.Areas.{memoryEnd};
+ghost use Rattle.document.specs.Numbers.{done};
 ghost use Rattle.document.specs.Frames.{stationIn, functionByte, firstIn, quantityIn};
-ghost use Rattle.document.specs.Modbus.{modbusRoom};
-ghost use Rattle.modbus_frames.specs.Unexcepted.{Unexcepted};
+ghost use Rattle.document.specs.Modbus.{exceptionTo, modbusRoom};
 ghost use Rattle.document.specs.declared.Function.TheVariants.{ReadRegisters};
 ghost use Rattle.modbus_functions.specs.Put.{answerTo, Put};
 
@@ -61,7 +61,7 @@ fn tell_front(front: usize, frame: &[u8], out: &mut [u8]) -> usize
 }
 
 pub fn tell(function: Function, frame: &[u8], memory: &[u8], out: &mut [u8]) -> usize
-    requires { Unexcepted function frame.now memory.now × (length memory.now ≡ memoryEnd) × (modbusRoom ≤ length out.old) }
+    requires { (exceptionTo function frame.now memory.now ≡ done) × (length memory.now ≡ memoryEnd) × (modbusRoom ≤ length out.old) }
     ensures { Put (answerTo function frame.now memory.now) out.old result out.new }
 {
     match function {

@@ -142,8 +142,8 @@ pub fn carry_out(
         b'Y' => report(order.code, state, out, at),
         b'G' => register(bytes, state, memory, out, at),
         b'F' => prepare(bytes, state, out, at),
-        b'U' => frame(state, order.wide, order.room, bytes, memory, out, at),
-        b'S' => start(state, memory, out, at),
+        b'U' => frame(order.wide, order.room, bytes, memory, out, at),
+        b'S' => start(state, out, at),
         _ => put_part(order.start, order.end, memory, out, at),
     }
 }

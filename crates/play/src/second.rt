@@ -3,10 +3,9 @@ ghost use Rattle.std.specs.Prelude.{◌≤◌};
 
 use crate::lengths::LENT;
 use crate::shown::{FILLING, put_written};
-use log_gate::{LOG_GATE_MEMORY, LOG_GATE_STATE, log_gate_modbus};
+use log_gate::{LOG_GATE_MEMORY, log_gate_modbus};
 
 fn put_framing(
-    state: &[u8; LOG_GATE_STATE],
     station: u16,
     frame: &[u8],
     memory: &mut [u8; LOG_GATE_MEMORY],
@@ -14,12 +13,11 @@ fn put_framing(
     out: &mut [u8; 65536],
     at: usize,
 ) -> usize {
-    let written = log_gate_modbus(state, station, frame, memory, lent);
+    let written = log_gate_modbus(station, frame, memory, lent);
     put_written(b'U', written.refusal, written.length, lent, out, at)
 }
 
 pub fn frame(
-    state: &[u8; LOG_GATE_STATE],
     station: usize,
     room: usize,
     frame: &[u8],
@@ -30,13 +28,5 @@ pub fn frame(
     requires { (station ≤ 65535) × (room ≤ 600) }
 {
     let mut lent = [FILLING; LENT];
-    put_framing(
-        state,
-        station as u16,
-        frame,
-        memory,
-        &mut lent[0..room],
-        out,
-        at,
-    )
+    put_framing(station as u16, frame, memory, &mut lent[0..room], out, at)
 }

@@ -2,18 +2,16 @@
 -- coil at 0x8000 from the start on.
 use mathlib.Core.Path.{◌≡◌, refl}
 use mathlib.Core.Bool.{true, false}
-use mathlib.Core.List.{List, [], ◌∷◌, ◌++◌}
+use mathlib.Core.List.{List, [], ◌∷◌}
 use Prim.Native.Nat.{ℕ}
 use native.Mathlib.Omega.{arith}
-use lib.ListN.{replicate}
-use Rattle.document.specs.Values.{littleEndian}
+use lib.ListN.{replicate, set}
 use Rattle.document.specs.Plan.{Plan}
 use Rattle.document.specs.Trigger.{fires, isBeyond}
 use Rattle.document.specs.Run.{startIndex, ranTick, memoryAfterTick}
 use Rattle.document.specs.Sets.{setsTaken, readRound}
-use Rattle.recorder_history.specs.History.{PlanFits, Event, Recording, begun, after, AllLeaveBuffer, memoriesLeft}
-use Rattle.recorder_history.specs.History.Event.{tick, others, stop}
-use Rattle.recorder_history.specs.Number.{shownIn, number_in, AllLeaveNumber}
+use Rattle.recorder_history.specs.History.{PlanFits, Event, begun, after, AllLeaveBuffer, memoriesLeft}
+use Rattle.recorder_history.specs.History.Event.{tick, others}
 
 abbrev plan : Plan
 plan =
@@ -28,18 +26,14 @@ plan =
 abbrev zeros : List ℕ
 zeros = replicate 16384 0
 
--- bytes 0 and 8, and from byte 12,286 on the number and the buffer as the recorder left them
-abbrev left : ℕ → ℕ → List ℕ → List ℕ
-left first ninth behind = first ∷ replicate 7 0 ++ (ninth ∷ replicate 12277 0 ++ behind)
-
--- byte 0 is 3 at the first set, 4 at the second and 7 from then on
+-- byte 0 is 3 at the first set, 4 at the second and 7 from then on; the buffer as the recorder left it
 abbrev events : List Event
 events =
-    others (left 3 1 (replicate 4098 0))
+    others (set (set zeros 0 3) 8 1)
     ∷ tick ∷ tick
-    ∷ others (left 4 2 (1 ∷ 0 ∷ 3 ∷ 1 ∷ replicate 4094 0))
+    ∷ others (set (set (set (set zeros 0 4) 8 2) 12288 3) 12289 1)
     ∷ tick ∷ tick
-    ∷ others (left 7 9 (2 ∷ 0 ∷ 3 ∷ 1 ∷ 4 ∷ 2 ∷ replicate 4092 0))
+    ∷ others (set (set (set (set (set (set zeros 0 7) 8 9) 12288 3) 12289 1) 12290 4) 12291 2)
     ∷ tick ∷ tick ∷ tick ∷ tick ∷ tick
     ∷ []
 
@@ -63,34 +57,6 @@ stops_then = refl
 pub buffer-left : AllLeaveBuffer plan (begun zeros) events
 unfolding ranTick memoryAfterTick fires isBeyond
 buffer-left = ((refl, refl), (tt, (tt, ((refl, refl), (tt, (tt, ((refl, refl), (tt, (tt, (tt, (tt, (tt, tt))))))))))))
-
--- and so are those of the number (2026-08): the start showed 0, and each of these leaves the two bytes
-pub none-shown : shownIn zeros ≡ littleEndian 2 0
-none-shown = refl
-
-pub number-left : AllLeaveNumber plan (begun zeros) events
-unfolding ranTick memoryAfterTick fires isBeyond
-number-left = ((refl, refl), (tt, (tt, ((refl, refl), (tt, (tt, ((refl, refl), (tt, (tt, (tt, (tt, (tt, tt))))))))))))
-
-pub four-shown : shownIn (after plan (begun zeros) events).memory ≡ 4 ∷ 0 ∷ []
-unfolding ranTick memoryAfterTick fires isBeyond
-four-shown = refl
-
--- ---- a trace stopped early, over the last log's sets: the two bytes say that one place is new
-
-abbrev lastLog : List ℕ
-lastLog = replicate 12288 0 ++ (0xE1 ∷ 0xE2 ∷ 0xE3 ∷ 0xE4 ∷ [])
-
-abbrev stoppedEarly : Recording
-stoppedEarly = after plan (begun lastLog) (tick ∷ tick ∷ stop ∷ tick ∷ [])
-
-pub both-places : readRound plan stoppedEarly.memory (startIndex stoppedEarly.run) 2 ≡ (0 ∷ 0 ∷ []) ∷ (0xE3 ∷ 0xE4 ∷ []) ∷ []
-unfolding ranTick memoryAfterTick fires isBeyond
-both-places = refl
-
-pub one-real : number_in stoppedEarly.memory ≡ 1
-unfolding ranTick memoryAfterTick fires isBeyond
-one-real = refl
 
 -- ---- a rising trigger of 2 bytes with threshold 0x7000, and 0x8000 under it at every tick: "fires with sign 0, not with sign 1", at
 -- the first set (2026-02)

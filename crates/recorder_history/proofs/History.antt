@@ -8,7 +8,7 @@ use lib.ListN.{length}
 use Rattle.document.specs.Areas.{memoryEnd}
 use Rattle.document.specs.Stores.{stored}
 use Rattle.document.specs.Plan.{Plan}
-use Rattle.document.specs.Run.{startIndex, placeBegins, setOf, numberAfter, numberShown, memoryAfterTick}
+use Rattle.document.specs.Run.{startIndex, placeBegins, setOf, memoryAfterTick}
 use Rattle.document.specs.Sets.{setsTaken, readRound, last_of}
 use Rattle.recorder_history.specs.History.{PlanFits, Event, begun, after, taken, memoriesLeft, memoriesFound, AllLeaveBuffer}
 use Rattle.recorder_history.proofs.RingHolds.{RingHolds, held_start, held_after, held-read}
@@ -42,10 +42,9 @@ module _ (p : Plan) (m : List ℕ) (es : List Event) (f : PlanFits p) (l : lengt
   -- "bytes copied in the order of the definitions"
   pub next-set : (after p (begun m) es).run.running ≡ true → (after p (begun m) es).run.wait ≡ 0
       → memoryAfterTick p (after p (begun m) es).run (after p (begun m) es).memory
-      ≡ numberShown (numberAfter (after p (begun m) es).run.number)
-      (stored (after p (begun m) es).memory (placeBegins p (length (setsTaken p (memoriesLeft m es)) % p.samples)) (setOf p (after p (begun m) es).memory))
+      ≡ stored (after p (begun m) es).memory (placeBegins p (length (setsTaken p (memoriesLeft m es)) % p.samples)) (setOf p (after p (begun m) es).memory)
   next-set t z =
       takes_memory p (after p (begun m) es).run (after p (begun m) es).memory t z
       ∙ ap
-      (λ (i : ℕ). numberShown (numberAfter (after p (begun m) es).run.number) (stored (after p (begun m) es).memory (placeBegins p i) (setOf p (after p (begun m) es).memory)))
+      (λ (i : ℕ). stored (after p (begun m) es).memory (placeBegins p i) (setOf p (after p (begun m) es).memory))
       next_place

@@ -14,8 +14,7 @@ use Rattle.recorder_history.proofs.Ticks.{stopped-run, stopped-memory}
 module _ (p : Plan) where
   -- a stop of it changes nothing
   stopped-same : (r : Run) → r.running ≡ false → stopped r ≡ r
-  stopped-same r e =
-      λ i. record { running = sym e i; wait = r.wait; place = r.place; full = r.full; watch = r.watch; number = r.number }
+  stopped-same r e = λ i. record { running = sym e i; wait = r.wait; place = r.place; full = r.full; watch = r.watch }
 
   still-run : (g : Recording) (e : Event) → g.run.running ≡ false → (stepped p g e).run ≡ g.run
   still-run g tick s = stopped-run p g.run g.memory s

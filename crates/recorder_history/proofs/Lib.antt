@@ -1,13 +1,11 @@
 -- The laws and theorems, lowest first.
 pub mod Places
 pub mod Sources
-pub mod Shown
 pub mod Ticks
 pub mod Counts
 pub mod RingHolds
 pub mod Sets
 pub mod History
-pub mod Number
 pub mod Stop
 pub mod Untriggered
 pub mod Beyond

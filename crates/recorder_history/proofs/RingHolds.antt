@@ -14,7 +14,7 @@ use borrow.Author.Tests.{eqb-true, eqb-false, leb-true, leb-false, lt-leb}
 use Rattle.document.specs.Areas.{bytes_at, bufferBegin, memoryEnd}
 use Rattle.document.specs.Variables.{setSize}
 use Rattle.document.specs.Plan.{Plan}
-use Rattle.document.specs.Run.{Run, placeBegins, placeAfter, fullAfter, setOf, numberAfter, ranTick, memoryAfterTick}
+use Rattle.document.specs.Run.{Run, placeBegins, placeAfter, fullAfter, setOf, ranTick, memoryAfterTick}
 use Rattle.document.specs.Sets.{readRound, last_of}
 use Rattle.recorder_history.specs.History.{PlanFits, Event, Recording, stepped, after, takenAt, taken, LeavesBuffer, AllLeaveBuffer}
 use Rattle.recorder_history.specs.History.Event.{tick, others, stop}
@@ -22,7 +22,6 @@ use Rattle.document.proofs.Cases.{split}
 use Rattle.memory_ranges.proofs.Stored.{bytes-stored}
 use Rattle.recorder_history.proofs.Places.{place-next, full-next, place-room, places-apart, other_place}
 use Rattle.recorder_history.proofs.Sources.{set-length}
-use Rattle.recorder_history.proofs.Shown.{shown-length, shown-behind}
 use Rattle.recorder_history.proofs.Ticks.{by-case, stopped-run, stopped-memory, stopped-taken, waits-run, waits-memory, waits-taken, takes_run, takes_memory, takes-taken}
 
 -- the bytes of a place
@@ -109,16 +108,7 @@ module _ (p : Plan) (f : PlanFits p) where
       (λ e. rw (stopped-run p r m e, stopped-memory p r m e, stopped-taken p r m e, append-nil) k)
       (λ e z. rw (waits-run p r m e z, waits-memory p r m e z, waits-taken p r m e z, append-nil) k)
       (λ e z. rw (takes_run p r m e z, takes_memory p r m e z, takes-taken p r m e z)
-      (held-others _ _ copied _ _ set (shown-length number copied ∙ set.sized) (shown-behind number copied bufferBegin (omega arith))))
-    where
-      number : ℕ
-      number = numberAfter r.number
-
-      copied : List ℕ
-      copied = sets m (placeBegins p r.place) (setOf p m)
-
-      set : RingHolds p (placeAfter p.samples r.place) (fullAfter p.samples r.place r.full) copied (h ++ (setOf p m ∷ []))
-      set = held-set r.place r.full m (setOf p m) h k (set-length p f m k.sized)
+      (held-set r.place r.full m (setOf p m) h k (set-length p f m k.sized)))
 
   held-step : (g : Recording) (h : List (List ℕ)) (e : Event) → LeavesBuffer g e → RingHolds p g.run.place g.run.full g.memory h
       → RingHolds p (stepped p g e).run.place (stepped p g e).run.full (stepped p g e).memory (h ++ takenAt p g e)

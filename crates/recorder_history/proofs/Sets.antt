@@ -12,15 +12,16 @@ use borrow.Author.Tests.{ltb-true, ltb-false}
 use Rattle.document.specs.Areas.{recordedEnd}
 use Rattle.document.specs.Plan.{Plan}
 use Rattle.document.specs.Trigger.{triggerValue, fires, isBeyond}
-use Rattle.document.specs.Run.{Watch, Run, setOf, lookedAt, watched, goesOn, setTaken}
+use Rattle.document.specs.Run.{Watch, Run, placeBegins, setOf, lookedAt, watched, goesOn, setTaken, memoryAfterTick}
 use Rattle.document.specs.Run.Watch.{unprimed, previous, triggered}
 use Rattle.document.specs.Sets.{every, untilStop, fromFirst, setsTaken}
 use Rattle.recorder_history.specs.History.{PlanFits, CountsFit, Event, Recording, begun, stepped, taken, memoriesLeft, memoriesFound}
 use Rattle.recorder_history.specs.History.Event.{tick, others, stop}
 use Rattle.document.proofs.Cases.{split}
+use Rattle.memory_ranges.proofs.Stored.{take-sets}
 use Rattle.recorder_history.proofs.Sources.{set_agrees, value-agrees}
 use Rattle.recorder_history.proofs.Counts.{started-fits, tick-fits}
-use Rattle.recorder_history.proofs.Ticks.{by-case, tick-before, stopped-run, stopped-taken, waits-run, waits-taken, takes_run, takes-taken}
+use Rattle.recorder_history.proofs.Ticks.{by-case, stopped-run, stopped-memory, stopped-taken, waits-run, waits-memory, waits-taken, takes_run, takes_memory, takes-taken}
 
 -- as many as are left, none when none is
 cut : (n : ℕ) (ms : List (List ℕ)) → take n ms ≡ cond (ltb 0 n) (take n ms) []
@@ -29,6 +30,15 @@ cut n ms = split (ltb 0 n) (λ t. rw t) (λ f. let z : n ≡ 0 = omega (arith, l
 -- a wait passes one tick
 every-waits : (d w : ℕ) (m : List ℕ) (ms : List (List ℕ)) → 0 < w → every d w (m ∷ ms) ≡ every d (w - 1) ms
 every-waits d w m ms h = let e : w ≡ suc (w - 1) = omega arith in ap (λ (k : ℕ). every d k (m ∷ ms)) e
+
+-- what a tick leaves below the buffer
+below-kept : (p : Plan) (r : Run) (m : List ℕ) → take recordedEnd (memoryAfterTick p r m) ≡ take recordedEnd m
+below-kept p r m =
+    by-case r
+    (λ e. ap (take recordedEnd) (stopped-memory p r m e))
+    (λ e h. ap (take recordedEnd) (waits-memory p r m e h))
+    (λ e h. ap (take recordedEnd) (takes_memory p r m e h)
+    ∙ take-sets (setOf p m) m (placeBegins p r.place) recordedEnd (omega arith))
 
 module _ (p : Plan) where
   -- of the memories at which sets are due, those of which sets are taken, by how far the trigger has come
@@ -99,7 +109,7 @@ module _ (p : Plan) where
   left-agree : (es : List Event) (g : Recording) (m : List ℕ) → take recordedEnd g.memory ≡ take recordedEnd m
       → Agree g es (memoriesLeft m es)
   left-agree [] g m a = refl
-  left-agree (tick ∷ es) g m a = (a, left-agree es (stepped p g tick) m (tick-before p g.run g.memory ∙ a))
+  left-agree (tick ∷ es) g m a = (a, left-agree es (stepped p g tick) m (below-kept p g.run g.memory ∙ a))
   left-agree (others n ∷ es) g m a = left-agree es (stepped p g (others n)) n refl
   left-agree (stop ∷ es) g m a = refl
 

@@ -1,24 +1,23 @@
--- What a tick does, case by case, and that "A tick changes only that place" and the two bytes that show the number (2026-08).
+-- What a tick does, case by case, and that "A tick changes only that place."
 use mathlib.Core.Path.{◌≡◌, refl, sym, ap, ◌∙◌}
 use mathlib.Core.Bool.{Bool, true, false, cond}
 use mathlib.Core.List.{List, [], ◌∷◌}
-use Prim.Native.Nat.{ℕ, ◌+◌, ◌*◌, ◌<◌, ◌≤◌}
+use Prim.Native.Nat.{ℕ, ◌+◌, ◌<◌, ◌≤◌}
 use native.Mathlib.Omega.{arith}
 use lib.Dec.{eqb}
 use lib.ListN.{length, take, drop}
 use lib.Seq.{sets, length-sets}
 use borrow.Author.Tests.{eq-eqb, ne_eqb, eqb-true, eqb-false}
-use Rattle.document.specs.Areas.{numberPlace, bufferBegin, memoryEnd, bytes_at}
+use Rattle.document.specs.Areas.{bufferBegin, memoryEnd}
 use Rattle.document.specs.Variables.{setSize}
 use Rattle.document.specs.Plan.{Plan}
-use Rattle.document.specs.Run.{Run, placeBegins, setOf, numberAfter, setTaken, setCopied, waited, ranTick, memoryAfterTick}
+use Rattle.document.specs.Run.{Run, placeBegins, setOf, setTaken, waited, ranTick, memoryAfterTick}
 use Rattle.recorder_history.specs.History.{PlanFits, takesNext, takenAt}
 use Rattle.recorder_history.specs.History.Event.{tick}
 use Rattle.document.proofs.Cases.{split, neither}
-use Rattle.memory_ranges.proofs.Stored.{take-sets, drop-sets, bytes-before}
+use Rattle.memory_ranges.proofs.Stored.{take-sets, drop-sets}
 use Rattle.recorder_history.proofs.Places.{place-room}
 use Rattle.recorder_history.proofs.Sources.{set-length}
-use Rattle.recorder_history.proofs.Shown.{shown-length, shown-before, shown-behind}
 
 -- by the case that a tick finds: stopped, waiting, a set due
 pub by-case : {P : Type 0} (r : Run) → (r.running ≡ false → P) → (r.running ≡ true → 0 < r.wait → P)
@@ -47,7 +46,7 @@ module _ (p : Plan) (r : Run) (m : List ℕ) where
 
   pub stopped-memory : r.running ≡ false → memoryAfterTick p r m ≡ m
   unfolding memoryAfterTick
-  stopped-memory e = picked (setCopied p r m) m m false (eqb r.wait 0) e refl
+  stopped-memory e = picked (sets m (placeBegins p r.place) (setOf p m)) m m false (eqb r.wait 0) e refl
 
   pub stopped-taken : r.running ≡ false → takenAt p (record { run = r; memory = m }) tick ≡ []
   stopped-taken e = rw e
@@ -58,7 +57,7 @@ module _ (p : Plan) (r : Run) (m : List ℕ) where
 
   pub waits-memory : r.running ≡ true → 0 < r.wait → memoryAfterTick p r m ≡ m
   unfolding memoryAfterTick
-  waits-memory e h = picked (setCopied p r m) m m true false e (waiting h)
+  waits-memory e h = picked (sets m (placeBegins p r.place) (setOf p m)) m m true false e (waiting h)
 
   pub waits-taken : r.running ≡ true → 0 < r.wait → takenAt p (record { run = r; memory = m }) tick ≡ []
   waits-taken e h = rw (e, waiting h)
@@ -67,13 +66,9 @@ module _ (p : Plan) (r : Run) (m : List ℕ) where
   unfolding ranTick
   takes_run e h = picked (setTaken p r m) (waited r) r true true e (eq-eqb r.wait 0 h)
 
-  pub takes_memory : r.running ≡ true → r.wait ≡ 0 → memoryAfterTick p r m ≡ setCopied p r m
+  pub takes_memory : r.running ≡ true → r.wait ≡ 0 → memoryAfterTick p r m ≡ sets m (placeBegins p r.place) (setOf p m)
   unfolding memoryAfterTick
-  takes_memory e h = picked (setCopied p r m) m m true true e (eq-eqb r.wait 0 h)
-
-  -- the set as it is copied, before its number is shown
-  abbrev pub copied : List ℕ
-  copied = sets m (placeBegins p r.place) (setOf p m)
+  takes_memory e h = picked (sets m (placeBegins p r.place) (setOf p m)) m m true true e (eq-eqb r.wait 0 h)
 
   pub takes-taken : r.running ≡ true → r.wait ≡ 0 → takenAt p (record { run = r; memory = m }) tick ≡ setOf p m ∷ []
   takes-taken e h = rw (e, eq-eqb r.wait 0 h)
@@ -92,28 +87,16 @@ module _ (p : Plan) (r : Run) (m : List ℕ) where
       by-case r
       (λ e. ap length (stopped-memory e))
       (λ e h. ap length (waits-memory e h))
-      (λ e h. ap length (takes_memory e h) ∙ shown-length (numberAfter r.number) copied ∙ length-sets m (placeBegins p r.place) (setOf p m))
+      (λ e h. ap length (takes_memory e h) ∙ length-sets m (placeBegins p r.place) (setOf p m))
 
-  -- all before the number stays
-  pub tick-before : take numberPlace (memoryAfterTick p r m) ≡ take numberPlace m
+  -- all before its place stays
+  pub tick-before : take (placeBegins p r.place) (memoryAfterTick p r m) ≡ take (placeBegins p r.place) m
   tick-before =
+      let a = placeBegins p r.place in
       by-case r
-      (λ e. ap (take numberPlace) (stopped-memory e))
-      (λ e h. ap (take numberPlace) (waits-memory e h))
-      (λ e h. ap (take numberPlace) (takes_memory e h)
-      ∙ shown-before (numberAfter r.number) copied numberPlace (omega arith)
-      ∙ take-sets (setOf p m) m (placeBegins p r.place) numberPlace (omega arith))
-
-  -- and what stands in the buffer before its place
-  pub tick-between : bytes_at (memoryAfterTick p r m) bufferBegin (r.place * setSize p.variables) ≡ bytes_at m bufferBegin (r.place * setSize p.variables)
-  tick-between =
-      let n = r.place * setSize p.variables in
-      by-case r
-      (λ e. ap (λ (l : List ℕ). bytes_at l bufferBegin n) (stopped-memory e))
-      (λ e h. ap (λ (l : List ℕ). bytes_at l bufferBegin n) (waits-memory e h))
-      (λ e h. ap (λ (l : List ℕ). bytes_at l bufferBegin n) (takes_memory e h)
-      ∙ ap (take n) (shown-behind (numberAfter r.number) copied bufferBegin (omega arith))
-      ∙ bytes-before (setOf p m) m (placeBegins p r.place) bufferBegin n (omega arith))
+      (λ e. ap (take a) (stopped-memory e))
+      (λ e h. ap (take a) (waits-memory e h))
+      (λ e h. ap (take a) (takes_memory e h) ∙ take-sets (setOf p m) m a a (omega arith))
 
   -- all behind its place stays
   pub tick-behind : PlanFits p → length m ≡ memoryEnd
@@ -125,9 +108,7 @@ module _ (p : Plan) (r : Run) (m : List ℕ) where
       by-case r
       (λ e. ap (drop b) (stopped-memory e))
       (λ e h. ap (drop b) (waits-memory e h))
-      (λ e h. ap (drop b) (takes_memory e h)
-      ∙ shown-behind (numberAfter r.number) copied b (omega arith)
-      ∙ drop-sets (setOf p m) m a b (omega (arith, set-length p f m l)))
+      (λ e h. ap (drop b) (takes_memory e h) ∙ drop-sets (setOf p m) m a b (omega (arith, set-length p f m l)))
 
   -- its place lies within the buffer: at or above byte 12,288 and below byte 16,384
   pub place-in-buffer : PlanFits p → r.place < p.samples

@@ -7,8 +7,8 @@ use Rattle.document.specs.Trigger.{triggerValue, isBeyond}
 use Rattle.document.specs.Run.{Watch, Run, started, stopped, setOf, placeAfter, comes, goesOn, ranTick, memoryAfterTick}
 use Rattle.document.specs.Run.Watch.{unprimed, previous, triggered}
 
--- what an accepted setup grants: not "0 samples; samples times set size above 4,096", and "Recorded variables, the trigger
--- variable .. must end at or below 12,286." (2026-08)
+-- what an accepted setup grants: not "0 samples; samples times set size above 4,096", and "Recorded variables and trigger
+-- must end at or below 12,288."
 pub record PlanFits (p : Plan) : Type 0 where
   pub samples : 1 ≤ p.samples
   pub room : p.samples * setSize p.variables ≤ 4096

@@ -1,4 +1,3 @@
 -- The words of the theorems about a recorder.
 pub mod History
 pub mod Trace
-pub mod Number

@@ -26,12 +26,4 @@ watch-read (previous value) = refl
 watch-read (triggered left) = refl
 
 pub run-read : (r : Run) → run_of (runKept r) ≡ r
-run-read r =
-    λ i. record {
-      running = flag-read r.running i;
-      wait = r.wait;
-      place = r.place;
-      full = flag-read r.full i;
-      watch = watch-read r.watch i;
-      number = r.number;
-    }
+run-read r = λ i. record { running = flag-read r.running i; wait = r.wait; place = r.place; full = flag-read r.full i; watch = watch-read r.watch i }

@@ -4,14 +4,13 @@ use mathlib.Core.Bool.{Bool, true, false}
 use mathlib.Core.List.{List}
 use Prim.Native.Nat.{ℕ, ◌*◌, ◌^◌, ◌<◌, ◌≤◌}
 use native.Mathlib.Omega.{arith}
-use lib.Dec.{ltb, leb}
-use borrow.Author.Tests.{lt-ltb, ltb-true, le-leb, eqb-true}
+use lib.Dec.{leb}
+use borrow.Author.Tests.{lt-ltb, le-leb, eqb-true}
 use Rattle.document.specs.Plan.{Plan}
 use Rattle.document.specs.Trigger.{triggerValue, fires, isBeyond}
 use Rattle.document.specs.Run.{Watch, Run, started, stopped, prepared, lookedAt, watched, goesOn, ranTick}
 use Rattle.document.specs.Run.Watch.{unprimed, previous, triggered}
 use Rattle.recorder_history.specs.History.{CountsFit, setsLeft}
-use Rattle.document.proofs.Cases.{split}
 use Rattle.recorder_history.proofs.Ticks.{by-case, stopped-run, waits-run, takes_run}
 use Rattle.recorder_history.proofs.Counts.{started-fits, stopped-fits, tick-fits}
 use Rattle.recorder_plans.specs.declared.plan.Plan.{Plan as PlanState}
@@ -115,12 +114,3 @@ ticked-run-sound p r m s h =
     (λ e z. rw (waits-run (plan_of p) (run_of r) m e z) (run_value p r s))
     (λ e z. rw (takes_run (plan_of p) (run_of r) m e z)
     (value-watched (plan_of p) p.size (watchOf r.watch r.value) (triggerValue (triggerOf p) m) (h e z) (run_value p r s))))
-
--- "staying at 65,535 once there"
-pub ticked-number-fits : (p : Plan) (r : Run) (m : List ℕ) → r.number < 256 ^ 2 → (ranTick p r m).number < 256 ^ 2
-ticked-number-fits p r m few =
-    by-case r
-    (λ e. rw (stopped-run p r m e) few)
-    (λ e h. rw (waits-run p r m e h) few)
-    (λ e h. rw (takes_run p r m e h)
-    (split (ltb r.number 65535) (λ more. rw more (omega (arith, ltb-true r.number 65535 more))) (λ stays. rw stays few)))

@@ -40,14 +40,14 @@ module _ (size post running watch value : ℕ) (s : watchSound size post running
 module _ (p : PlanState) (r : RunState) (s : runSound p r ≡ true) where
   -- whatever its flag and its wait
   kept-as : (running : Bool) (wait : ℕ)
-      → runKept (record { running = running; wait = wait; place = r.place; full = is_set r.full; watch = watchOf r.watch r.value; number = r.number })
+      → runKept (record { running = running; wait = wait; place = r.place; full = is_set r.full; watch = watchOf r.watch r.value })
       ≡ withWatch (withWait r wait) (flagOf running) r.watch r.value
   kept-as running wait =
       let b = run-bounds p r s in
       let f = flag-again r.full b.full in
       let w = watch-again p.size p.post_trigger r.running r.watch r.value b.watch in
       let v = value-again p.size p.post_trigger r.running r.watch r.value b.watch in
-      λ i. record { running = flagOf running; full = f i; watch = w i; wait = wait; place = r.place; value = v i; number = r.number }
+      λ i. record { running = flagOf running; full = f i; watch = w i; wait = wait; place = r.place; value = v i }
 
   flag_same : (wait : ℕ) → withWatch (withWait r wait) (flagOf (is_set r.running)) r.watch r.value ≡ withWait r wait
   flag_same wait =

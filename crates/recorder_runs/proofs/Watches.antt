@@ -8,13 +8,13 @@ use lib.Dec.{eqb}
 use borrow.Author.Tests.{eq-eqb, eqb-false}
 use Rattle.document.specs.Plan.{Plan, Trigger}
 use Rattle.document.specs.Trigger.{triggerValue, fires, isBeyond}
-use Rattle.document.specs.Run.{Watch, comes, lookedAt, watched, placeAfter, fullAfter, numberAfter, setTaken}
+use Rattle.document.specs.Run.{Watch, comes, lookedAt, watched, placeAfter, fullAfter, setTaken}
 use Rattle.document.specs.Run.Watch.{unprimed, previous, triggered}
 use Rattle.document.proofs.Cases.{split}
 use Rattle.recorder_plans.specs.declared.plan.Plan.{Plan as PlanState}
 use Rattle.recorder_runs.specs.declared.run.Run.{Run as RunState}
 use Rattle.recorder_plans.specs.State.{triggerOf, plan_of}
-use Rattle.recorder_runs.specs.State.{is_set, flagOf, watchOf, run_of, runKept, withWait, with_number, withPlace, withWatch, watching}
+use Rattle.recorder_runs.specs.State.{is_set, flagOf, watchOf, run_of, runKept, withWait, withPlace, withWatch, watching}
 
 -- a run that goes on keeps its flag
 pub still-running : (r : RunState) (watch value : ℕ) → r.running ≡ 1 → withWatch r r.running watch value ≡ withWatch r 1 watch value
@@ -56,16 +56,14 @@ module _ (p : Plan) (r : RunState) (x : ℕ) where
       → watching r (lookedAt p b x) ≡ after (watchOf r.watch r.value)
   looked-set b h f = looked (watchOf r.watch r.value) b (awaited r.watch r.value h) f
 
--- the state after a set, from its place, its wait, its watch and its number
-module _ (p : PlanState) (r q : RunState) (n x : ℕ) (m : List ℕ) where
+-- the state after a set, from its place, its wait and its watch
+module _ (p : PlanState) (r q : RunState) (x : ℕ) (m : List ℕ) where
   -- its wait begun anew, and its place gone on
-  abbrev placed : ℕ → RunState
-  placed number =
-      withPlace (with_number (withWait r p.divider) number) (flagOf (fullAfter p.samples r.place (is_set r.full)))
-      (placeAfter p.samples r.place)
+  abbrev placed : RunState
+  placed = withPlace (withWait r p.divider) (flagOf (fullAfter p.samples r.place (is_set r.full))) (placeAfter p.samples r.place)
 
-  pub set-kept : q ≡ placed n → n ≡ numberAfter r.number → x ≡ triggerValue (triggerOf p) m
+  pub set-kept : q ≡ placed → x ≡ triggerValue (triggerOf p) m
       → watching q (watched (plan_of p) (watchOf q.watch q.value) x) ≡ runKept (setTaken (plan_of p) (run_of r) m)
-  set-kept e more v =
-      ap (λ (s : RunState). watching s (watched (plan_of p) (watchOf s.watch s.value) x)) (e ∙ ap placed more)
-      ∙ ap (λ (y : ℕ). watching (placed (numberAfter r.number)) (watched (plan_of p) (watchOf r.watch r.value) y)) v
+  set-kept e v =
+      ap (λ (s : RunState). watching s (watched (plan_of p) (watchOf s.watch s.value) x)) e
+      ∙ ap (λ (y : ℕ). watching placed (watched (plan_of p) (watchOf r.watch r.value) y)) v

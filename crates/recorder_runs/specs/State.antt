@@ -25,7 +25,6 @@ run_of r =
       place = r.place;
       full = is_set r.full;
       watch = watchOf r.watch r.value;
-      number = r.number;
     }
 
 -- ---- how a run is kept in the struct
@@ -49,28 +48,20 @@ runKept r =
       wait = r.wait;
       place = r.place;
       value = watchValue r.watch;
-      number = r.number;
     }
 
 -- ---- what changes one part names the others once
 
 abbrev pub withWait : RunState → ℕ → RunState
-withWait r wait =
-    record { running = r.running; full = r.full; watch = r.watch; wait = wait; place = r.place; value = r.value; number = r.number }
-
-abbrev pub with_number : RunState → ℕ → RunState
-with_number r number =
-    record { running = r.running; full = r.full; watch = r.watch; wait = r.wait; place = r.place; value = r.value; number = number }
+withWait r wait = record { running = r.running; full = r.full; watch = r.watch; wait = wait; place = r.place; value = r.value }
 
 -- where the ring goes on
 abbrev pub withPlace : RunState → ℕ → ℕ → RunState
-withPlace r full place =
-    record { running = r.running; full = full; watch = r.watch; wait = r.wait; place = place; value = r.value; number = r.number }
+withPlace r full place = record { running = r.running; full = full; watch = r.watch; wait = r.wait; place = place; value = r.value }
 
 -- the watch for the trigger, and whether the run goes on
 abbrev pub withWatch : RunState → ℕ → ℕ → ℕ → RunState
-withWatch r running watch value =
-    record { running = running; full = r.full; watch = watch; wait = r.wait; place = r.place; value = value; number = r.number }
+withWatch r running watch value = record { running = running; full = r.full; watch = watch; wait = r.wait; place = r.place; value = value }
 
 -- a watch alone says whether the run goes on
 abbrev pub watching : RunState → Watch → RunState

@@ -23,8 +23,6 @@ pub struct Run {
     pub place: u16,
     // the trigger variable at the previous set, or the sets that are left
     pub value: u32,
-    // the number of sets taken since the start, staying at 65,535
-    pub number: u16,
 }
 
 impl Run {
@@ -38,7 +36,6 @@ impl Run {
         self.wait = 0;
         self.place = 0;
         self.value = 0;
-        self.number = 0;
         self
     }
 

@@ -1,7 +1,7 @@
-// What a set changes of a run: its place, its wait, its watch for the trigger and its number of sets.
+// What a set changes of a run: its place, its wait and its watch for the trigger.
 ghost use Rattle.std.specs.Prelude.{◌≡◌, true, List, ℕ, ◌*◌, ◌^◌, ◌≤◌, ◌<◌, ltb};
 ghost use Rattle.document.specs.Trigger.{triggerValue};
-ghost use Rattle.document.specs.Run.{placeAfter, fullAfter, numberAfter, comes, watched, setTaken};
+ghost use Rattle.document.specs.Run.{placeAfter, fullAfter, comes, watched, setTaken};
 ghost use Rattle.recorder_plans.specs.State.{triggerOf, plan_of};
 ghost use Rattle.recorder_runs.specs.State.{is_set, flagOf, watchOf, withPlace, withWatch, watching, run_of, runKept};
 ghost use Rattle.recorder_plans.specs.Bounds.{planSound};
@@ -11,18 +11,6 @@ use crate::run::{PREVIOUS, Run, TRIGGERED, UNPRIMED};
 use bytes_widths::{u32_of_u16, usize_of_u8};
 use recorder_plans::Plan;
 use recorder_triggers::{comes, is_beyond};
-
-// Where it stays, whatever further sets are taken.
-const MOST_SETS: u16 = 65535;
-
-fn next_number(number: u16) -> u16
-    ensures { result ≡ numberAfter number }
-{
-    if number < MOST_SETS {
-        return number + 1;
-    }
-    number
-}
 
 impl Run {
     fn next_place(mut self, samples: u16) -> Run
@@ -100,7 +88,6 @@ impl Run {
         ensures { (memory : List ℕ) → value ≡ triggerValue (triggerOf plan) memory → result ≡ runKept (setTaken (plan_of plan) (run_of self) memory) }
     {
         self.wait = plan.divider;
-        self.number = next_number(self.number);
         let placed = self.next_place(plan.samples);
         placed.watch_on(plan, value)
     }

@@ -14,7 +14,7 @@ use Rattle.recorder_state.specs.State.{recorderOf}
 -- a run with these flags
 abbrev pub flagged : Bool → Bool → RunState → Run
 flagged running full r =
-    record { running = running; wait = r.wait; place = r.place; full = full; watch = watchOf r.watch r.value; number = r.number }
+    record { running = running; wait = r.wait; place = r.place; full = full; watch = watchOf r.watch r.value }
 
 module _ {A : Type 0} (f : Recorder → A) (r : RecorderState) where
   pub at-absent : r.ready ≡ 0 → f (recorderOf r) ≡ f absent

@@ -5,7 +5,8 @@ use mathlib.Core.List.{List}
 use Prim.Native.Nat.{ℕ, ◌-◌, ◌<◌}
 use native.Mathlib.Omega.{arith}
 use borrow.Author.Tests.{eq-eqb, ne_eqb}
-use Rattle.document.specs.Run.{Run, setTaken, setCopied, ranTick, memoryAfterTick}
+use Rattle.document.specs.Stores.{stored}
+use Rattle.document.specs.Run.{Run, placeBegins, setOf, setTaken, ranTick, memoryAfterTick}
 use Rattle.document.specs.Recorder.{Recorder, tickedMemory}
 use Rattle.recorder_history.proofs.Ticks.{stopped-run, stopped-memory, waits-run, waits-memory, takes_run, takes_memory}
 use Rattle.recorder_plans.specs.State.{plan_of}
@@ -75,7 +76,7 @@ module _ (r : RecorderState) (m : List ℕ) where
       pub due-leaves : r.run.wait ≡ 0
           → Leaves
           (with_run r (setTaken (plan_of r.plan) (run_of r.run) m))
-          (setCopied (plan_of r.plan) (run_of r.run) m)
+          (stored m (placeBegins (plan_of r.plan) r.run.place) (setOf (plan_of r.plan) m))
       due-leaves z = (
         with-run _ _ refl (takes_run (plan_of r.plan) (run_of r.run) m set-flag z),
         planned-memory ∙ takes_memory (plan_of r.plan) (run_of r.run) m set-flag z,

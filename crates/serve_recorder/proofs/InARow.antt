@@ -8,7 +8,6 @@ use lib.ListN.{length, get_or, length-append}
 use lib.Seq.{sets}
 use Rattle.document.specs.Numbers.{done}
 use Rattle.document.specs.Bytes.{AllBytes}
-use Rattle.document.specs.Run.{numberShown}
 use Rattle.document.specs.Commands.{served}
 use Rattle.document.specs.declared.Service.{Service}
 use Rattle.document.specs.declared.Operation.TheVariants.{Start}
@@ -47,15 +46,11 @@ module _ (block : List ℕ) (long : stateLength ≤ length block) (small : (i : 
       let eight = (prepared-fit ex body all).plan.variables.eight in
       simp length-append (omega (arith, recorder-length (preparedState ex body) eight, recorder-length (startedState (preparedState ex body)) eight))
 
-  module _ (memory : List ℕ) (s : Service) (any : List ℕ) (status : ℕ) (after left : List ℕ)
-      (did : Settles (served (gateOf (decodedInstruments between) memory) (knownAs Start s) any) (instrumentsAfter Start (decodedInstruments between) s any) between status after left) where
+  module _ (memory : List ℕ) (s : Service) (any : List ℕ) (status : ℕ) (after : List ℕ)
+      (did : Settles (served (gateOf (decodedInstruments between) memory) (knownAs Start s) any) (instrumentsAfter Start (decodedInstruments between) s any) between status after memory) where
     pub started-done : statusAlone status ≡ statusAlone done
     unfolding served
     started-done = did.answer ∙ ap (λ (k : Instruments). (served (gateOf k memory) (knownAs Start s) any).answer) there
-
-    pub started-shown : left ≡ numberShown 0 memory
-    unfolding served
-    started-shown = did.memory ∙ ap (λ (k : Instruments). (served (gateOf k memory) (knownAs Start s) any).gate.memory) there
 
     pub started-stored : after ≡ sets block scopePlace (encodedInstruments last)
     started-stored =

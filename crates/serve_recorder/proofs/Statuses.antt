@@ -1,16 +1,13 @@
 -- What is said of the recorder: its own statuses, alone or with the data that they give.
-use mathlib.Core.Path.{◌≡◌, refl, sym, ap, ◌∙◌}
-use mathlib.Core.Bool.{cond}
+use mathlib.Core.Path.{◌≡◌, refl, sym, ap}
 use mathlib.Core.List.{List, ◌++◌}
 use Prim.Native.Nat.{ℕ}
 use native.Mathlib.Omega.{arith}
-use lib.Dec.{eqb}
 use Rattle.document.specs.Numbers.{done}
 use Rattle.document.specs.Areas.{bufferBegin}
 use Rattle.document.specs.Values.{littleEndian}
 use Rattle.document.specs.Variables.{addressWidth}
-use Rattle.document.specs.Run.{numberShown}
-use Rattle.document.specs.Recorder.{Recorder, recorderAbsent, isRunning, startedMemory, bufferAnswer}
+use Rattle.document.specs.Recorder.{Recorder, recorderAbsent, isRunning, bufferAnswer}
 use Rattle.document.specs.Recorder.Recorder.{absent, planned}
 use Rattle.document.specs.Gate.{Gate, Outcome, says}
 use Rattle.document.specs.Refusals.{recorderSetUpLines, queryLines}
@@ -29,33 +26,9 @@ module _ (g : Gate) (s : Service) (body : List ℕ) where
   unfolding served prepareStatus
   recorder-prepared = sym (unless-alone g (recorderSetUpLines g s.ex body) (prepareAndStart g s.ex body) refl)
 
-  -- refused it writes nothing, else it shows that no set is taken
-  pub prepare-refused : (prepareStatus (isRunning g.recorder) s.ex body ≡ done → ⊥) → g.memory ≡ (served g (knownAs PrepareAndStart s) body).gate.memory
-  unfolding served prepareStatus
-  prepare-refused wrong =
-      sym (ap (λ (o : Outcome). o.gate.memory) (unless-refused g (recorderSetUpLines g s.ex body) (prepareAndStart g s.ex body) wrong))
-
-  pub prepare-shown : prepareStatus (isRunning g.recorder) s.ex body ≡ done → numberShown 0 g.memory ≡ (served g (knownAs PrepareAndStart s) body).gate.memory
-  unfolding served prepareStatus
-  prepare-shown right =
-      sym (ap (λ (o : Outcome). o.gate.memory) (unless-none g (recorderSetUpLines g s.ex body) (prepareAndStart g s.ex body) right))
-
   pub recorder-started : statusAlone (startStatus g.recorder) ≡ (served g (knownAs Start s) body).answer
   unfolding served
   recorder-started = split (recorderAbsent g.recorder) (λ none. rw none refl) (λ some. rw some refl)
-
-  -- what starts shows that no set is taken, and nothing else is written
-  pub start-shown : cond (eqb (startStatus g.recorder) done) (numberShown 0 g.memory) g.memory ≡ (served g (knownAs Start s) body).gate.memory
-  unfolding served
-  start-shown = shown g.recorder ∙ sym (left g.recorder refl)
-    where
-      shown : (r : Recorder) → cond (eqb (startStatus r) done) (numberShown 0 g.memory) g.memory ≡ startedMemory r g.memory
-      shown absent = refl
-      shown (planned p r) = split r.running (λ runs. rw runs refl) (λ still. rw still refl)
-
-      left : (r : Recorder) → g.recorder ≡ r → (served g (knownAs Start s) body).gate.memory ≡ startedMemory r g.memory
-      left absent e = rw e refl
-      left (planned p r) e = rw e refl
 
   pub recorder-stopped : statusAlone (stopStatus g.recorder) ≡ (served g (knownAs Stop s) body).answer
   unfolding served

@@ -1,11 +1,10 @@
 // The recorder's commands.
 ghost use Rattle.std.specs.Prelude.{◌≡◌, cond, List, ◌++◌, ℕ, ◌≤◌, eqb, length};
 ghost use Rattle.std.proofs.lemmas.List.Edits.{sets};
-ghost use Rattle.document.specs.Areas.{bufferBegin, memoryEnd};
+ghost use Rattle.document.specs.Areas.{bufferBegin};
 ghost use Rattle.document.specs.Numbers.{answerRoom, done};
 ghost use Rattle.document.specs.Values.{littleEndian};
 ghost use Rattle.document.specs.Variables.{addressWidth};
-ghost use Rattle.document.specs.Run.{numberShown};
 ghost use Rattle.document.specs.Recorder.{isRunning};
 ghost use Rattle.document.specs.Commands.{served};
 ghost use Rattle.document.specs.declared.Operation.TheVariants.{PrepareAndStart, Start, Stop, Status, QueryBuffer};
@@ -20,10 +19,9 @@ ghost use Rattle.state_block.specs.Places.{bodyPlace, scopePlace, stateLength};
 ghost use Rattle.state_block.specs.Layout.{dataTo, decodedRecorder, decodedInstruments, encodedInstruments};
 ghost use Rattle.serve_recorder.specs.Operates.{statusAlone, Settles};
 
-use bytes_fields::put_word;
 use codes_table::DONE;
 use document::Service;
-use memory_ranges::{BUFFER_BEGIN, NUMBER};
+use memory_ranges::BUFFER_BEGIN;
 use recorder_state::prepare_status;
 use serve_answers::{done_three_words, done_two_words, status_alone};
 use state_block::{BODY, put_run, recorder_in, recorder_runs};
@@ -43,36 +41,25 @@ fn prepare(state: &mut [u8], ex: bool, to: usize) -> u8
 }
 
 // The two in a row.
-pub fn prepare_and_start(state: &mut [u8], service: Service, to: usize, memory: &mut [u8]) -> u8
-    requires { (stateLength ≤ length state.old) × (bodyPlace ≤ to) × (to ≤ scopePlace) × (length memory.old ≡ memoryEnd) }
-    ensures { Settles (served (gateOf (decodedInstruments state.old) memory.old) (knownAs PrepareAndStart service) (dataTo state.old to)) (instrumentsAfter PrepareAndStart (decodedInstruments state.old) service (dataTo state.old to)) state.old result state.new memory.new }
+pub fn prepare_and_start(state: &mut [u8], service: Service, to: usize) -> u8
+    requires { (stateLength ≤ length state.old) × (bodyPlace ≤ to) × (to ≤ scopePlace) }
+    ensures { (memory : List ℕ) → Settles (served (gateOf (decodedInstruments state.old) memory) (knownAs PrepareAndStart service) (dataTo state.old to)) (instrumentsAfter PrepareAndStart (decodedInstruments state.old) service (dataTo state.old to)) state.old result state.new memory }
 {
     let status = prepare(state, service.ex, to);
     if status != DONE {
         return status;
     }
-    start(state, memory)
-}
-
-// A start shows that no set is taken; what starts nothing shows nothing.
-fn show_start(status: u8, memory: &mut [u8])
-    requires { length memory.old ≡ memoryEnd }
-    ensures { memory.new ≡ cond (eqb status done) (numberShown 0 memory.old) memory.old }
-{
-    if status == DONE {
-        put_word(memory, NUMBER, 0);
-    }
+    start(state)
 }
 
 // A start and a stop leave the plan as it is.
-pub fn start(state: &mut [u8], memory: &mut [u8]) -> u8
-    requires { (stateLength ≤ length state.old) × (length memory.old ≡ memoryEnd) }
-    ensures { (s : Service) (body : List ℕ) → Settles (served (gateOf (decodedInstruments state.old) memory.old) (knownAs Start s) body) (instrumentsAfter Start (decodedInstruments state.old) s body) state.old result state.new memory.new }
+pub fn start(state: &mut [u8]) -> u8
+    requires { stateLength ≤ length state.old }
+    ensures { (memory : List ℕ) (s : Service) (body : List ℕ) → Settles (served (gateOf (decodedInstruments state.old) memory) (knownAs Start s) body) (instrumentsAfter Start (decodedInstruments state.old) s body) state.old result state.new memory }
 {
     let started = recorder_in(state).start();
     let next = started.next;
     put_run(state, next.run);
-    show_start(started.status, memory);
     started.status
 }
 

@@ -8,12 +8,12 @@ use lib.ListN.{length, take, drop}
 use Rattle.document.specs.Numbers.{done}
 use Rattle.document.specs.Areas.{variablesEnd}
 use Rattle.document.specs.Fields.{sizeField, addressField, dataField, maskField}
-use Rattle.document.specs.Gate.{Gate, Outcome}
+use Rattle.document.specs.Gate.{Gate, Outcome, fresh}
 use Rattle.document.specs.Refusals.{first_of, writeLines}
 use Rattle.document.specs.Commands.{unless}
 use Rattle.document.specs.declared.Service.{Service}
 use Rattle.document_outcomes.proofs.Firsts.{none-applies, unless-refused, unless-none}
-use Rattle.document.proofs.Permission.{written-variables}
+use Rattle.document_outcomes.proofs.Permitted.{written-variables}
 use Rattle.serve_fields.specs.declared.Fields.{Fields}
 use Rattle.serve_fields.specs.Found.{AreFields}
 use Rattle.serve_writes.specs.WriteStatus.{permissionLines, writeStatus}
@@ -35,29 +35,29 @@ module _ (s : Service) (body : List ℕ) (n : ℕ) (b : Fields) (found : AreFiel
 
 -- ---- the status
 
-module _ (s : Service) (body : List ℕ) (n : ℕ) (b : Fields) (found : AreFields s body n b) (status : ℕ) (g : Gate) (said : status ≡ writeStatus g b) where
-  first : status ≡ first_of (writeLines g s body n)
-  first = said ∙ first-behind s body n b found (permissionLines g)
+module _ (s : Service) (body : List ℕ) (n : ℕ) (b : Fields) (found : AreFields s body n b) (status : ℕ) (said : (g : Gate) → status ≡ writeStatus g b) where
+  first : (g : Gate) → status ≡ first_of (writeLines g s body n)
+  first g = said g ∙ first-behind s body n b found (permissionLines g)
 
-  pub wrote-refused : (o : Outcome) (memory : List ℕ) → g.memory ≡ memory → (status ≡ done → ⊥) → Wrote (unless g (writeLines g s body n) o) status memory
-  wrote-refused o memory same wrong =
-      let says = unless-refused g (writeLines g s body n) o (λ e. wrong (first ∙ e)) in
+  pub wrote-refused : (g : Gate) (o : Outcome) (memory : List ℕ) → g.memory ≡ memory → (status ≡ done → ⊥) → Wrote (unless g (writeLines g s body n) o) status memory
+  wrote-refused g o memory same wrong =
+      let says = unless-refused g (writeLines g s body n) o (λ e. wrong (first g ∙ e)) in
       record {
-        answer = ap (λ (q : Outcome). q.answer) says ∙ (λ i. record { status = sym first i; body = [] });
+        answer = ap (λ (q : Outcome). q.answer) says ∙ (λ i. record { status = sym (first g) i; body = [] });
         memory = sym same ∙ sym (ap (λ (q : Outcome). q.gate.memory) says);
       }
 
   module _ (right : status ≡ done) where
-    none : first_of (writeLines g s body n) ≡ done
-    none = sym first ∙ right
+    none : (g : Gate) → first_of (writeLines g s body n) ≡ done
+    none g = sym (first g) ∙ right
 
     own : b.status ≡ done
-    own = own-right b.status _ (sym said ∙ right)
+    own = own-right b.status _ (sym (said (fresh [])) ∙ right)
 
-    pub wrote-done : (o : Outcome) (after : List ℕ) → o.answer ≡ record { status = done; body = [] } → after ≡ o.gate.memory
+    pub wrote-done : (g : Gate) (o : Outcome) (after : List ℕ) → o.answer ≡ record { status = done; body = [] } → after ≡ o.gate.memory
         → Wrote (unless g (writeLines g s body n) o) status after
-    wrote-done o after silent left =
-        let carried = unless-none g (writeLines g s body n) o none in
+    wrote-done g o after silent left =
+        let carried = unless-none g (writeLines g s body n) o (none g) in
         record {
           answer = ap (λ (q : Outcome). q.answer) carried ∙ silent ∙ (λ i. record { status = sym right i; body = [] });
           memory = left ∙ sym (ap (λ (q : Outcome). q.gate.memory) carried);
@@ -66,8 +66,8 @@ module _ (s : Service) (body : List ℕ) (n : ℕ) (b : Fields) (found : AreFiel
     -- the range may be written, and data and mask lie within the message
     pub written-inside : b.address + b.size ≤ variablesEnd
     written-inside =
-        let may = (none-applies (writeLines g s body n) (refl, refl, (refl, refl, (refl, refl, tt))) none).1.1.0 in
-        omega (arith, found.address own, found.size, written-variables g (addressField s body) (sizeField s body) (not-false _ may))
+        let may = (none-applies (writeLines (fresh []) s body n) (refl, refl, (refl, refl, (refl, refl, tt))) (none (fresh []))).1.1.0 in
+        omega (arith, found.address own, found.size, written-variables (fresh []) (addressField s body) (sizeField s body) (not-false _ may))
 
     pub parts-inside : b.place + n ≤ length body
     parts-inside = omega (arith, found.place, found.fits own)

@@ -1,32 +1,79 @@
-// Writes over the line, plain and masked. The message's data stand in the block, up to a place, as the list of the registered tables does.
-mod data;
-
-ghost use Rattle.std.specs.Prelude.{◌≡◌, ◌≤◌, length};
+// Writes, plain and masked. Payload and mask are handed on as parts of the message's data.
+ghost use Rattle.std.specs.Prelude.{◌≡◌, ◌+◌, ◌≤◌, length};
 ghost use Rattle.document.specs.Areas.{memoryEnd};
+ghost use Rattle.document.specs.Stores.{maskStored};
 ghost use Rattle.document.specs.Commands.{served};
 ghost use Rattle.document.specs.Gate.{Gate};
 ghost use Rattle.document.specs.declared.Operation.TheVariants.{Write, WriteMasked};
 ghost use Rattle.document_outcomes.specs.Known.{knownAs};
-ghost use Rattle.tables_state.specs.State.{tables_of};
-ghost use Rattle.state_block.specs.Places.{bodyPlace, scopePlace, stateLength};
-ghost use Rattle.state_block.specs.Layout.{dataTo, decodedTables};
 ghost use Rattle.serve_fields.specs.Found.{OwnFits};
+ghost use Rattle.serve_writes.specs.WriteStatus.{writeStatus};
 ghost use Rattle.serve_writes.specs.Wrote.{Wrote};
 
-use data::{write_data, write_data_masked};
+use bytes_fields::word_at;
+use bytes_widths::usize_of_u32;
+use codes_table::{DONE, RANGE_WRONG};
 use document::Service;
-use state_block::BODY;
+use memory_masks::{store_masked, store_masked_word};
+use memory_ranges::{copy_in, may_be_written};
+use serve_fields::{Fields, block_in};
 
-pub fn write(service: Service, state: &[u8], to: usize, memory: &mut [u8]) -> u8
-    requires { OwnFits service 1 (dataTo state.now to) × (bodyPlace ≤ to) × (to ≤ scopePlace) × (stateLength ≤ length state.now) × (length memory.old ≡ memoryEnd) }
-    ensures { (g : Gate) → g.tables ≡ tables_of (decodedTables state.now) → g.memory ≡ memory.old → Wrote (served g (knownAs Write service) (dataTo state.now to)) result memory.new }
+// The one place where a write asks for permission; the stores behind it ask nothing.
+fn write_status(block: Fields) -> u8
+    ensures { (g : Gate) → result ≡ writeStatus g block }
 {
-    write_data(service, &state[BODY..to], state, memory)
+    if block.status != DONE {
+        return block.status;
+    }
+    if !may_be_written(block.address, block.size) {
+        return RANGE_WRONG;
+    }
+    DONE
 }
 
-pub fn write_masked(service: Service, state: &[u8], to: usize, memory: &mut [u8]) -> u8
-    requires { OwnFits service 2 (dataTo state.now to) × (bodyPlace ≤ to) × (to ≤ scopePlace) × (stateLength ≤ length state.now) × (length memory.old ≡ memoryEnd) }
-    ensures { (g : Gate) → g.tables ≡ tables_of (decodedTables state.now) → g.memory ≡ memory.old → Wrote (served g (knownAs WriteMasked service) (dataTo state.now to)) result memory.new }
+pub fn write(service: Service, body: &[u8], memory: &mut [u8]) -> u8
+    requires { OwnFits service 1 body.now × (length memory.old ≡ memoryEnd) }
+    ensures { (g : Gate) → g.memory ≡ memory.old → Wrote (served g (knownAs Write service) body.now) result memory.new }
 {
-    write_data_masked(service, &state[BODY..to], state, memory)
+    let block = block_in(service, body, 1);
+    let status = write_status(block);
+    if status != DONE {
+        return status;
+    }
+    let at = usize_of_u32(block.address);
+    let from = block.place;
+    let to = from + block.size;
+    copy_in(memory, at, &body[from..to]);
+    status
+}
+
+// A word has its own form; everything else goes byte by byte.
+fn mix(memory: &mut [u8], at: usize, values: &[u8], masks: &[u8])
+    requires { (at + length values.now ≤ length memory.old) × (length masks.now ≡ length values.now) }
+    ensures { memory.new ≡ maskStored memory.old at values.now masks.now }
+{
+    if values.len() == 2 {
+        let value = word_at(values, 0);
+        let mask = word_at(masks, 0);
+        store_masked_word(memory, at, value, mask);
+    } else {
+        store_masked(memory, at, values, masks);
+    }
+}
+
+pub fn write_masked(service: Service, body: &[u8], memory: &mut [u8]) -> u8
+    requires { OwnFits service 2 body.now × (length memory.old ≡ memoryEnd) }
+    ensures { (g : Gate) → g.memory ≡ memory.old → Wrote (served g (knownAs WriteMasked service) body.now) result memory.new }
+{
+    let block = block_in(service, body, 2);
+    let status = write_status(block);
+    if status != DONE {
+        return status;
+    }
+    let at = usize_of_u32(block.address);
+    let from = block.place;
+    let to = from + block.size;
+    let end = to + block.size;
+    mix(memory, at, &body[from..to], &body[to..end]);
+    status
 }

@@ -82,7 +82,6 @@ module _ (l rest : List ℕ) (r : Run) (e : drop runPlace l ≡ encodedRun r ++ 
         wait = number-of-run 3 2 r.wait (number-back 2 r.wait fits.wait) i;
         place = number-of-run 5 2 r.place (number-back 2 r.place fits.place) i;
         value = number-of-run 7 4 r.value (number-back 4 r.value fits.value) i;
-        number = number-of-run 11 2 r.number (number-back 2 r.number fits.number) i;
       }
 
 module _ (l rest : List ℕ) (r : Recorder) (e : drop recorderPlace l ≡ encodedRecorder r ++ rest) where

@@ -9,7 +9,7 @@ use Rattle.document.specs.Areas.{bytes_at}
 use Rattle.recorder_runs.specs.declared.run.Run.{Run}
 use Rattle.tables_state.specs.State.{listLength}
 use Rattle.state_block.specs.Layout.{decodedReceiver, decodedDefinitions, decodedVariables, decodedScope, decodedPlan, decodedRecorder, decodedApplication, decodedTables, decodedInstruments, decoded, encodedReceiver, encodedVariables, encodedScope, encodedNumbers, encodedRun, encodedRecorder, encodedApplication, encodedTables, encodedInstruments, encoded}
-use Rattle.state_block.specs.Places.{receiverLength, definitionsLength, variablesLength, numbersLength, planLength, runLength, recorderLength, applicationLength, tablesLength, instrumentsLength, bodyPlace, scopePlace, recorderPlace, planPlace, samplesPlace, postTriggerPlace, dividerPlace, triggerAddressPlace, triggerSizePlace, signPlace, thresholdPlace, recordedPlace, runPlace, fullPlace, watchPlace, waitPlace, placePlace, valuePlace, setsPlace, applicationPlace, commandPlace, tablesPlace, listPlace, stateLength}
+use Rattle.state_block.specs.Places.{receiverLength, definitionsLength, variablesLength, numbersLength, planLength, runLength, recorderLength, applicationLength, tablesLength, instrumentsLength, bodyPlace, scopePlace, recorderPlace, planPlace, samplesPlace, postTriggerPlace, dividerPlace, triggerAddressPlace, triggerSizePlace, signPlace, thresholdPlace, recordedPlace, runPlace, fullPlace, watchPlace, waitPlace, placePlace, valuePlace, applicationPlace, commandPlace, tablesPlace, listPlace, stateLength}
 use Rattle.bytes_fields.proofs.Ranges.{bytes-cons, bytes-append}
 use Rattle.bytes_fields.proofs.Numbers.{number-kept}
 use Rattle.state_block.proofs.Definitions.{definitions-kept}
@@ -73,13 +73,11 @@ module _ (l : List ℕ) (small : (i : ℕ) → get_or l i 0 < 256) where
         (λ i.
         (get_or l runPlace 0 ∷ get_or l fullPlace 0 ∷ get_or l watchPlace 0 ∷ number-kept l small waitPlace 2 (omega arith) i)
         ++ number-kept l small placePlace 2 (omega arith) i
-        ++ number-kept l small valuePlace 4 (omega arith) i
-        ++ number-kept l small setsPlace 2 (omega arith) i)
-        ∙ (λ i. each-bytes 3 l runPlace (omega arith) i ++ bytes_at l waitPlace 2 ++ bytes_at l placePlace 2 ++ bytes_at l valuePlace 4 ++ bytes_at l setsPlace 2)
-        ∙ (λ i. bytes-append l runPlace 3 2 i ++ bytes_at l placePlace 2 ++ bytes_at l valuePlace 4 ++ bytes_at l setsPlace 2)
-        ∙ (λ i. bytes-append l runPlace 5 2 i ++ bytes_at l valuePlace 4 ++ bytes_at l setsPlace 2)
-        ∙ (λ i. bytes-append l runPlace 7 4 i ++ bytes_at l setsPlace 2)
-        ∙ bytes-append l runPlace 11 2
+        ++ number-kept l small valuePlace 4 (omega arith) i)
+        ∙ (λ i. each-bytes 3 l runPlace (omega arith) i ++ bytes_at l waitPlace 2 ++ bytes_at l placePlace 2 ++ bytes_at l valuePlace 4)
+        ∙ (λ i. bytes-append l runPlace 3 2 i ++ bytes_at l placePlace 2 ++ bytes_at l valuePlace 4)
+        ∙ (λ i. bytes-append l runPlace 5 2 i ++ bytes_at l valuePlace 4)
+        ∙ bytes-append l runPlace 7 4
 
     pub same-recorder-kept : encodedRecorder (decodedRecorder l) ≡ bytes_at l recorderPlace recorderLength
     same-recorder-kept =

@@ -19,7 +19,7 @@ use Rattle.state_parts.specs.Within.{MemoryWithin, Within}
 use Rattle.state_parts.proofs.ByteLaws.{all_drop, all-range}
 use Rattle.state_parts.proofs.Fits.{range-below}
 use Rattle.state_parts.proofs.Parts.{parts-of}
-use Rattle.state_block.specs.Places.{bodyPlace, scopePlace, samplesPlace, postTriggerPlace, dividerPlace, triggerAddressPlace, thresholdPlace, recordedPlace, waitPlace, placePlace, valuePlace, setsPlace, commandPlace, listPlace, stateLength}
+use Rattle.state_block.specs.Places.{bodyPlace, scopePlace, samplesPlace, postTriggerPlace, dividerPlace, triggerAddressPlace, thresholdPlace, recordedPlace, waitPlace, placePlace, valuePlace, commandPlace, listPlace, stateLength}
 use Rattle.state_block.specs.Layout.{decodedReceiver, decodedBody, decodedDefinitions, decodedVariables, decodedScope, decodedRecorder, decodedApplication, decodedTables, decodedInstruments, decoded, encodedInstruments}
 use Rattle.state_block.proofs.Back.{stored-decoded}
 use Rattle.state_block.proofs.Stored.{instruments-stored}
@@ -63,13 +63,7 @@ module _ (block : List ℕ) (long : stateLength ≤ length block) (small : (i : 
                     threshold = range-below block thresholdPlace 4 all;
                     variables = variables-fit recordedPlace;
                   };
-              run =
-                  record {
-                    wait = range-below block waitPlace 2 all;
-                    place = range-below block placePlace 2 all;
-                    value = range-below block valuePlace 4 all;
-                    number = range-below block setsPlace 2 all;
-                  };
+              run = record { wait = range-below block waitPlace 2 all; place = range-below block placePlace 2 all; value = range-below block valuePlace 4 all };
             };
         application = bytes-length block commandPlace mostData (omega (arith, long));
         tables = bytes-length block listPlace listLength (omega (arith, long));

@@ -14,7 +14,7 @@ use Rattle.recorder_state.specs.declared.state.Recorder.{Recorder}
 use Rattle.application_state.specs.State.{Command}
 use Rattle.tables_state.specs.State.{Registered, listLength}
 use Rattle.state_parts.specs.State.{Instruments, Target}
-use Rattle.state_block.specs.Places.{bodyPlace, scopePlace, recorderPlace, planPlace, samplesPlace, postTriggerPlace, dividerPlace, triggerAddressPlace, triggerSizePlace, signPlace, thresholdPlace, recordedPlace, runPlace, fullPlace, watchPlace, waitPlace, placePlace, valuePlace, setsPlace, applicationPlace, commandPlace, tablesPlace, listPlace}
+use Rattle.state_block.specs.Places.{bodyPlace, scopePlace, recorderPlace, planPlace, samplesPlace, postTriggerPlace, dividerPlace, triggerAddressPlace, triggerSizePlace, signPlace, thresholdPlace, recordedPlace, runPlace, fullPlace, watchPlace, waitPlace, placePlace, valuePlace, applicationPlace, commandPlace, tablesPlace, listPlace}
 
 -- ---- from a block to the state that it is
 
@@ -70,7 +70,6 @@ decodedRun block =
       wait = number (bytes_at block waitPlace 2);
       place = number (bytes_at block placePlace 2);
       value = number (bytes_at block valuePlace 4);
-      number = number (bytes_at block setsPlace 2);
     }
 
 unfoldable pub decodedRecorder : List ℕ → Recorder
@@ -126,7 +125,7 @@ abbrev pub encodedFlags : Run → List ℕ
 encodedFlags r = r.running ∷ r.full ∷ r.watch ∷ []
 
 abbrev pub encodedCounts : Run → List ℕ
-encodedCounts r = littleEndian 2 r.wait ++ littleEndian 2 r.place ++ littleEndian 4 r.value ++ littleEndian 2 r.number
+encodedCounts r = littleEndian 2 r.wait ++ littleEndian 2 r.place ++ littleEndian 4 r.value
 
 unfoldable pub encodedRun : Run → List ℕ
 encodedRun r = encodedFlags r ++ encodedCounts r

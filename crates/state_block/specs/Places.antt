@@ -25,7 +25,7 @@ abbrev pub planLength : ℕ
 planLength = numbersLength + variablesLength
 
 abbrev pub runLength : ℕ
-runLength = 13
+runLength = 11
 
 -- whether it is ready, its plan and its run
 abbrev pub recorderLength : ℕ
@@ -116,7 +116,3 @@ placePlace = waitPlace + 2
 
 abbrev pub valuePlace : ℕ
 valuePlace = placePlace + 2
-
--- the number of sets since the start (2026-08)
-abbrev pub setsPlace : ℕ
-setsPlace = valuePlace + 4

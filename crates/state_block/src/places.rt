@@ -52,11 +52,8 @@ pub const PLACE: usize = WAIT + 2;
 
 pub const VALUE: usize = PLACE + 2;
 
-// The number of sets since the start.
-pub const SETS: usize = VALUE + 4;
-
 // The application command: its phase, how many bytes it has, its result, and 64 bytes.
-pub const APPLICATION: usize = SETS + 2;
+pub const APPLICATION: usize = VALUE + 4;
 
 pub const COUNT: usize = APPLICATION + 1;
 

@@ -7,7 +7,7 @@ ghost use Rattle.state_block.specs.Layout.{decodedReceiver, decodedDefinitions, 
 ghost use Rattle.state_block.specs.Places.{definitionsLength, variablesLength, stateLength};
 
 use crate::places::{
-    DIVIDER, FULL, MODE, PLACE, POST_TRIGGER, READY, RECORDED, RUNNING, SAMPLES, SETS, SIGN,
+    DIVIDER, FULL, MODE, PLACE, POST_TRIGGER, READY, RECORDED, RUNNING, SAMPLES, SIGN,
     STATE_LENGTH, THRESHOLD, TRIGGER_ADDRESS, TRIGGER_SIZE, VALUE, WAIT, WATCH,
 };
 use bytes_fields::{DEFINITION_WIDTH, long_at, word_at};
@@ -101,7 +101,6 @@ pub fn run_in(block: &[u8]) -> recorder_runs::Run
         wait: word_at(block, WAIT),
         place: word_at(block, PLACE),
         value: long_at(block, VALUE),
-        number: word_at(block, SETS),
     }
 }
 

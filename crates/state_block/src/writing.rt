@@ -6,8 +6,8 @@ ghost use Rattle.state_block.specs.Layout.{encodedReceiver, encodedRing, encoded
 ghost use Rattle.state_block.specs.Places.{receiverLength, planPlace, triggerAddressPlace, runPlace, waitPlace, stateLength};
 
 use crate::places::{
-    DIVIDER, FULL, MODE, PLACE, POST_TRIGGER, RUNNING, SAMPLES, SETS, SIGN, STATE_LENGTH,
-    THRESHOLD, TRIGGER_ADDRESS, TRIGGER_SIZE, VALUE, WAIT, WATCH,
+    DIVIDER, FULL, MODE, PLACE, POST_TRIGGER, RUNNING, SAMPLES, SIGN, STATE_LENGTH, THRESHOLD,
+    TRIGGER_ADDRESS, TRIGGER_SIZE, VALUE, WAIT, WATCH,
 };
 use bytes_fields::{clear, put_byte, put_head, put_long, put_word};
 
@@ -65,7 +65,6 @@ fn put_counts(block: &mut [u8], run: recorder_runs::Run)
     put_word(block, WAIT, run.wait);
     put_word(block, PLACE, run.place);
     put_long(block, VALUE, run.value);
-    put_word(block, SETS, run.number);
 }
 
 // What a tick changes.

@@ -15,8 +15,7 @@ use Rattle.document.specs.declared.Service.{Service}
 use Rattle.scope_state.specs.Setup as scope
 use Rattle.scope_state.specs.State.{scope_of}
 use Rattle.scope_state.proofs.Accepted.{set-up-scope, next-refused}
-use Rattle.document.specs.Run.{numberShown}
-use Rattle.document.specs.Recorder.{isRunning, startedMemory}
+use Rattle.document.specs.Recorder.{isRunning}
 use Rattle.recorder_state.specs.Preparing.{prepareStatus, bothNext}
 use Rattle.recorder_state.specs.State.{recorderOf}
 use Rattle.recorder_state.proofs.Answers.{both-mean}
@@ -31,7 +30,7 @@ use Rattle.state_parts.specs.State.{Instruments, gateOf, withScope, withApplicat
 use Rattle.state_byte.specs.After.{instrumentsChanged, instrumentsAfter}
 use Rattle.state_parts.specs.Within.{ScopeWithin, RecorderWithin, CommandWithin, MemoryWithin}
 use Rattle.state_parts.proofs.ByteLaws.{all-range, all-masked}
-use Rattle.state_parts.proofs.Keeps.{scope-set-up, recorder-both, recorder-started, recorder-halted, memory-stored, memory-shown, command-sent}
+use Rattle.state_parts.proofs.Keeps.{scope-set-up, recorder-both, recorder-started, recorder-halted, memory-stored, command-sent}
 
 module _ (i : Instruments) (memory : List ℕ) (s : Service) (body : List ℕ) where
   abbrev g : Gate
@@ -56,9 +55,9 @@ module _ (i : Instruments) (memory : List ℕ) (s : Service) (body : List ℕ) w
   accepted-kept scopeSetUp a =
       λ j. record { memory = memory; scope = set-up-scope s.ex body i.scope a j; recorder = recorderOf i.recorder; application = applicationOf i.application; tables = tables_of i.tables }
   accepted-kept recorderPrepareAndStart a =
-      λ j. record { memory = numberShown 0 memory; scope = scope_of i.scope; recorder = both-mean i.recorder s.ex body a j; application = applicationOf i.application; tables = tables_of i.tables }
+      λ j. record { memory = memory; scope = scope_of i.scope; recorder = both-mean i.recorder s.ex body a j; application = applicationOf i.application; tables = tables_of i.tables }
   accepted-kept recorderStart a =
-      λ j. record { memory = startedMemory (recorderOf i.recorder) memory; scope = scope_of i.scope; recorder = started-means i.recorder j; application = applicationOf i.application; tables = tables_of i.tables }
+      λ j. record { memory = memory; scope = scope_of i.scope; recorder = started-means i.recorder j; application = applicationOf i.application; tables = tables_of i.tables }
   accepted-kept recorderStop a =
       λ j. record { memory = memory; scope = scope_of i.scope; recorder = halted-means i.recorder j; application = applicationOf i.application; tables = tables_of i.tables }
   accepted-kept commandSent a =
@@ -124,4 +123,3 @@ memory-served g s body all w =
     served-memory g s body MemoryWithin w
     (λ may. memory-stored g.memory at values w (all-range body (dataPlace s) (sizeField s body) all))
     (λ may. memory-stored g.memory at (maskedBytes old values masks) w (all-masked old values masks))
-    (memory-shown 0 g.memory w)

@@ -1,12 +1,12 @@
 -- Lists of bytes stay lists of bytes, whatever is stored from one into another; and n bytes hold a number below 2 to the 8n.
 use mathlib.Core.Path.{◌≡◌, subst}
 use mathlib.Core.List.{List, [], ◌∷◌, ◌++◌}
-use Prim.Native.Nat.{ℕ, zero, suc, ◌+◌, ◌*◌, ◌/◌, ◌^◌, ◌<◌, ◌≤◌}
-use native.Mathlib.Nat.{pow-suc, mod-lt}
+use Prim.Native.Nat.{ℕ, zero, suc, ◌+◌, ◌*◌, ◌^◌, ◌<◌, ◌≤◌}
+use native.Mathlib.Nat.{pow-suc}
 use native.Mathlib.Omega.{arith}
 use lib.ListN.{length, take, replicate}
 use Rattle.document.specs.Areas.{bytes_at}
-use Rattle.document.specs.Values.{number, littleEndian}
+use Rattle.document.specs.Values.{number}
 use Rattle.document.specs.Stores.{maskedBytes}
 use Rattle.document.specs.declared.Variable.{Variable}
 use Rattle.document.specs.Variables.{values_of}
@@ -26,11 +26,6 @@ all-behind (x ∷ xs) ys p = all-behind xs ys p.1
 pub all-zeros : (n : ℕ) → AllBytes (replicate n 0)
 all-zeros zero = tt
 all-zeros (suc n) = (omega arith, all-zeros n)
-
--- the bytes of a number
-pub all-little : (n x : ℕ) → AllBytes (littleEndian n x)
-all-little zero x = tt
-all-little (suc n) x = (mod-lt x {m = 256} (omega arith), all-little n (x / 256))
 
 pub all-values : (m : List ℕ) (vs : List Variable) → AllBytes m → AllBytes (values_of m vs)
 all-values m [] p = tt

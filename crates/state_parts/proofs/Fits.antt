@@ -1,5 +1,5 @@
 -- The numbers of every state since reset fit the widths that a block has for them.
-use mathlib.Core.Path.{◌≡◌, sym, ap, subst, ◌∙◌}
+use mathlib.Core.Path.{◌≡◌, refl, sym, ap, subst, ◌∙◌}
 use mathlib.Core.Bool.{Bool, true, false, cond}
 use mathlib.Core.List.{List, [], ◌∷◌}
 use Prim.Native.Nat.{ℕ, zero, suc, ◌+◌, ◌^◌, ◌<◌, ◌≤◌}
@@ -36,7 +36,6 @@ use Rattle.recorder_state.specs.Calls.{startStatus, stopStatus, startedState, ha
 use Rattle.recorder_taking.specs.Tick.{tickedState}
 use Rattle.recorder_runs.proofs.Granted.{run-bounds, previous-fits, left-fits-post}
 use Rattle.recorder_runs.proofs.Kept.{by-watch}
-use Rattle.recorder_runs.proofs.Keeps.{ticked-number-fits}
 use Rattle.recorder_state.proofs.Keeps.{sound-parts}
 use Rattle.document.specs.Bytes.{AllBytes}
 use Rattle.state_parts.specs.Widths.{VariablesFit, PlanFits, RunFits, RecorderFits}
@@ -116,9 +115,9 @@ plan-fit ex body all =
           (all_drop 1 (variablesPart ex body) (all_drop (headWidth ex) body all)));
     }
 
--- ---- a run within bounds, of which the number is not looked at
-run-fit : (p : PlanState) (r : RunState) → PlanFits p → planSound p ≡ true → runSound p r ≡ true → r.number < 256 ^ 2 → RunFits r
-run-fit p r fits ps rs few =
+-- ---- a run within bounds
+run-fit : (p : PlanState) (r : RunState) → PlanFits p → planSound p ≡ true → runSound p r ≡ true → RunFits r
+run-fit p r fits ps rs =
     let b = run-bounds p r rs in
     let size : p.size ≤ 4 = (plan-bounds p ps).trigger.small in
     record {
@@ -129,15 +128,14 @@ run-fit p r fits ps rs few =
           (λ e zero-value. omega (arith, zero-value))
           (λ e. omega (arith, previous-fits p.size p.post_trigger r.running r.watch r.value b.watch e, four_bytes p.size size))
           (λ n0 n1 e. omega (arith, left-fits-post p.size p.post_trigger r.running r.watch r.value b.watch n0 n1, fits.after));
-      number = few;
     }
 
 halted-run-fit : (r : RunState) → RunFits r → RunFits (haltedRun r)
-halted-run-fit r fits = record { wait = fits.wait; place = fits.place; value = fits.value; number = fits.number }
+halted-run-fit r fits = record { wait = fits.wait; place = fits.place; value = fits.value }
 
 -- a run as a start leaves it, or a preparing
 started-run-fit : RunFits (runKept started)
-started-run-fit = record { wait = omega arith; place = omega arith; value = omega arith; number = omega arith }
+started-run-fit = record { wait = omega arith; place = omega arith; value = omega arith }
 
 prepared-run-fit : RunFits (runKept prepared)
 prepared-run-fit = halted-run-fit (runKept started) started-run-fit
@@ -175,10 +173,7 @@ ticked-fit r m s fits =
     let same : tickedState r m ≡ next = ap (λ (b : Bool). cond b r next) f in
     let parts = sound-parts next (ap sound (sym same) ∙ s) f in
     subst (λ (q : RecorderState). RecorderFits q) (sym same)
-    (record {
-      plan = fits.plan;
-      run = run-fit r.plan next.run fits.plan parts.plan parts.run (ticked-number-fits (plan_of r.plan) (run_of r.run) m fits.run.number);
-    }))
+    (record { plan = fits.plan; run = run-fit r.plan next.run fits.plan parts.plan parts.run }))
 
 pub no-recorder-fit : RecorderFits noRecorder
 no-recorder-fit =

@@ -8,15 +8,14 @@ use borrow.Author.Tests.{eqb-true}
 use lib.Dec.{eqb}
 use lib.ListN.{length, take, drop, length-append, length-drop}
 use Rattle.document.specs.Numbers.{mostData, done}
-use Rattle.document.specs.Areas.{numberPlace, bytes_at}
+use Rattle.document.specs.Areas.{bytes_at}
 use Rattle.document.specs.Bytes.{AllBytes}
-use Rattle.document.specs.Values.{littleEndian}
 use Rattle.document.specs.Stores.{stored}
 use Rattle.document.specs.Variables.{addressWidth}
 use Rattle.document.specs.Plan.{modeField, triggerSizeField, planIn}
 use Rattle.document.specs.Trigger.{triggerValue}
-use Rattle.document.specs.Run.{setOf, placeBegins, numberAfter, numberShown, memoryAfterTick}
-use Rattle.document.specs.Recorder.{Recorder, isRunning, startedMemory, tickedMemory}
+use Rattle.document.specs.Run.{setOf, placeBegins, memoryAfterTick}
+use Rattle.document.specs.Recorder.{Recorder, isRunning, tickedMemory}
 use Rattle.document.specs.Recorder.Recorder.{absent, planned}
 use Rattle.document.proofs.Cases.{split}
 use Rattle.memory_ranges.proofs.Copies.{stored-length}
@@ -43,7 +42,7 @@ use Rattle.state_parts.specs.Bounds.{sound, freshWith}
 use Rattle.state_parts.specs.Widths.{TargetFits}
 use Rattle.state_parts.specs.Within.{ScopeWithin, RecorderWithin, CommandWithin, TablesWithin, MemoryWithin, Within}
 use Rattle.state_parts.proofs.Parts.{whole_of}
-use Rattle.state_parts.proofs.ByteLaws.{take_short, all-sets, all_take, all-range, all-values, all-zeros, all-little, number-below, all_append, all_drop}
+use Rattle.state_parts.proofs.ByteLaws.{take_short, all-sets, all_take, all-range, all-values, all-zeros, number-below, all_append, all_drop}
 use Rattle.state_parts.proofs.Fits.{scope-fit, prepared-fit, started-fit, halted-fit, ticked-fit, kept-fit, no-recorder-fit}
 
 -- ---- the numbers that bytes of the memory or a message hold
@@ -103,23 +102,13 @@ pub memory-stored : (m : List ℕ) (a : ℕ) (vs : List ℕ) → MemoryWithin m 
 memory-stored m a vs good all =
     record { size = stored-length m (stored m a vs) vs a refl ∙ good.size; bytes = all-sets vs m a good.bytes all }
 
--- the number of sets shown
-pub memory-shown : (number : ℕ) (m : List ℕ) → MemoryWithin m → MemoryWithin (numberShown number m)
-memory-shown number m good = memory-stored m numberPlace (littleEndian 2 number) good (all-little 2 number)
-
-pub memory-started : (r : Recorder) (m : List ℕ) → MemoryWithin m → MemoryWithin (startedMemory r m)
-memory-started absent m good = good
-memory-started (planned p r) m good = split r.running (λ runs. rw runs good) (λ still. rw still (memory-shown 0 m good))
-
 pub memory-ticked : (r : Recorder) (m : List ℕ) → MemoryWithin m → MemoryWithin (tickedMemory r m)
 unfolding memoryAfterTick
 memory-ticked absent m good = good
 memory-ticked (planned p r) m good =
     split r.running
     (λ runs. split (eqb r.wait 0)
-    (λ due. rw (runs, due)
-    (memory-shown (numberAfter r.number) (stored m (placeBegins p r.place) (setOf p m))
-    (memory-stored m (placeBegins p r.place) (setOf p m) good (all-values m p.variables good.bytes))))
+    (λ due. rw (runs, due) (memory-stored m (placeBegins p r.place) (setOf p m) good (all-values m p.variables good.bytes)))
     (λ waits. rw (runs, waits) good))
     (λ still. rw still good)
 

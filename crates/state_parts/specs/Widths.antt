@@ -24,7 +24,6 @@ pub record RunFits (r : Run) : Type 0 where
   pub wait : r.wait < 256 ^ 2
   pub place : r.place < 256 ^ 2
   pub value : r.value < 256 ^ 4
-  pub number : r.number < 256 ^ 2
 
 pub record RecorderFits (r : Recorder) : Type 0 where
   pub plan : PlanFits r.plan

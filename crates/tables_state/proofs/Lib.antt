@@ -1,4 +1,2 @@
--- A list by its pairs, an entry by its fields, and what a technician is told of a list.
-pub mod Entries
-pub mod Pairs
+-- What a technician is told of a list.
 pub mod Told

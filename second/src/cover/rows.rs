@@ -3,10 +3,8 @@
 use std::fmt::Display;
 
 use crate::message::fast_length;
-use crate::met::{Asker, Meeting};
 use crate::modbus::Silence;
-use crate::reachable::{self, BLOCKS, LIMITS, PANEL, READERS, SILENCES, WRITERS, WRITES};
-use crate::shown::{Limited, Writer};
+use crate::reachable::{self, BLOCKS, PANEL, SILENCES};
 use crate::watch::{End, Panel, Standing};
 
 /// The commands that are not served, with a length byte and without.
@@ -118,35 +116,6 @@ pub fn silences() -> Vec<Row> {
     SILENCES.iter().map(row).collect()
 }
 
-/// What wrote the number of sets, then how the recorder stood when it was read.
-pub fn number() -> Vec<Row> {
-    let written = WRITERS.iter().map(|(writer, held)| {
-        let held: Vec<u8> = held.iter().map(|held| *held as u8).collect();
-        Row::new(writer_name(*writer), &held)
-    });
-    let read = READERS.iter().map(|(standing, ports)| {
-        let ports: Vec<u8> = ports.iter().map(|port| *port as u8).collect();
-        Row::new(reader_name(*standing), &ports)
-    });
-    written.chain(read).collect()
-}
-
-pub fn limits() -> Vec<Row> {
-    let row = |(last, end, results): &(Limited, u64, &'static [u8])| {
-        Row::new(limit_name(*last, *end), results)
-    };
-    LIMITS.iter().map(row).collect()
-}
-
-/// How writes met read-only variables.
-pub fn writes() -> Vec<Row> {
-    let row = |(asker, meetings): &(Asker, &[Meeting])| {
-        let meetings: Vec<u8> = meetings.iter().map(|meeting| *meeting as u8).collect();
-        Row::new(asker_name(*asker), &meetings)
-    };
-    WRITES.iter().map(row).collect()
-}
-
 /// The name of the row of its own that a number has, or of one with others.
 fn own_name(rows: &[Row], number: u8, others: &str) -> String {
     let own = format!("{number:02X}");
@@ -174,17 +143,14 @@ pub fn end_name(end: End) -> &'static str {
 }
 
 pub fn panel_name(panel: Panel, standing: Standing) -> String {
-    format!("{}, {}", panel.letter(), standing_name(standing))
-}
-
-fn standing_name(standing: Standing) -> &'static str {
-    match standing {
+    let standing = match standing {
         Standing::NotSetUp => "not set up",
         Standing::Fresh => "no set",
         Standing::Runs => "runs",
         Standing::Stopped => "stopped",
         Standing::Full => "full",
-    }
+    };
+    format!("{}, {standing}", panel.letter())
 }
 
 /// By the letter of the panel's line.
@@ -194,36 +160,6 @@ pub fn in_message_name(letter: impl Display) -> String {
 
 pub fn function_name(rows: &[Row], function: u8) -> String {
     own_name(rows, function, OTHER)
-}
-
-pub fn writer_name(writer: Writer) -> String {
-    match writer {
-        Writer::Command(command) => format!("start {command:02X}"),
-        Writer::Panel => "start S".to_string(),
-        Writer::SetsBelow => "below 65,535".to_string(),
-        Writer::SetsTo => "set 65,535".to_string(),
-        Writer::SetsPast => "past 65,535".to_string(),
-    }
-}
-
-pub fn reader_name(standing: Standing) -> String {
-    format!("read, {}", standing_name(standing))
-}
-
-pub fn limit_name(last: Limited, end: u64) -> String {
-    let last = match last {
-        Limited::Variable => "variable",
-        Limited::Trigger => "trigger",
-        Limited::Table => "table",
-    };
-    format!("{last} {end}")
-}
-
-pub fn asker_name(asker: Asker) -> String {
-    match asker {
-        Asker::Command(command) => format!("write {command:02X}"),
-        Asker::Function(function) => format!("function {function}"),
-    }
 }
 
 pub fn silence_name(silence: Silence) -> &'static str {

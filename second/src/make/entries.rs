@@ -18,25 +18,17 @@ pub struct Type {
 }
 
 /// An entry's name, type, address and info.
-pub type Entry = [u16; 4];
+type Entry = [u16; 4];
 
 /// A table with its entries, and the size that the list gives it.
 #[derive(Clone)]
 pub struct Planned {
     pub address: usize,
     pub size: usize,
-    pub entries: Vec<Entry>,
+    entries: Vec<Entry>,
 }
 
 impl Planned {
-    fn of(address: usize, entries: Vec<Entry>) -> Planned {
-        Planned {
-            address,
-            size: 8 * entries.len(),
-            entries,
-        }
-    }
-
     fn bytes(&self) -> Vec<u8> {
         let words = self.entries.iter().flatten();
         words.flat_map(|word| word.to_le_bytes()).collect()
@@ -127,47 +119,25 @@ impl Maker {
 
 /// Tables that can be registered.
 impl Maker {
-    /// So many, of some entries each.
+    /// So many, one behind the other from the beginning of the area or up to its
+    /// end, at any alignment.
     pub fn planned(&mut self, count: usize, types: &[Type]) -> Vec<Planned> {
-        let some = (0..count).map(|_| *self.rng.pick(&[1, 1, 1, 2, 3, 6]));
-        let counts: Vec<usize> = some.collect();
-        let tables = counts.into_iter().map(|count| self.entries(count, types));
-        let tables = tables.collect();
-        self.laid_out(tables)
-    }
-
-    /// One behind the other from the beginning of the area or up to where they
-    /// must end, or a byte before, at any alignment.
-    pub fn laid_out(&mut self, tables: Vec<Vec<Entry>>) -> Vec<Planned> {
         let mut at = 8_192 + self.rng.below(3) as usize;
         let mut planned = Vec::new();
-        for entries in tables {
-            let table = Planned::of(at, entries);
-            at += table.size + *self.rng.pick(&[0, 0, 0, 1, 8]);
-            planned.push(table);
+        for _ in 0..count {
+            let entries = *self.rng.pick(&[1, 1, 1, 2, 3, 6]);
+            planned.push(self.table(at, entries, types));
+            at += 8 * entries + *self.rng.pick(&[0, 0, 0, 1, 8]);
         }
         if let (Some(last), true) = (planned.last(), self.rng.once_in(3)) {
-            let end = *self.rng.pick(&[12_286, 12_286, 12_285]);
-            let up = end - (last.address + last.size);
+            let up = 12_288 - (last.address + last.size);
             planned.iter_mut().for_each(|table| table.address += up);
         }
         planned
     }
 
-    /// The longest table there is, from where the area begins or up to where it
-    /// must end.
-    pub fn longest(&mut self, types: &[Type]) -> Planned {
-        let at = *self.rng.pick(&[8_192, 12_286 - 8 * 511]);
-        self.long_table(at, 511, types)
-    }
-
-    /// A table of good entries that fills the area, and so ends too far.
+    /// The longest table there is; no type of it may stand in it.
     pub fn whole_area(&mut self, types: &[Type]) -> Planned {
-        self.long_table(8_192, 512, types)
-    }
-
-    /// No type of it may stand in it.
-    fn long_table(&mut self, at: usize, count: usize, types: &[Type]) -> Planned {
         let beside = |t: &&Type| !(8_192..12_288).contains(&t.address);
         let mut types: Vec<Type> = types.iter().filter(beside).copied().collect();
         types.push(Type {
@@ -176,11 +146,15 @@ impl Maker {
         });
         // An empty string, whatever the area begins with.
         self.poke(8_191, &[0]);
-        Planned::of(at, self.entries(count, &types))
+        self.table(8_192, 512, &types)
     }
 
-    fn entries(&mut self, count: usize, types: &[Type]) -> Vec<Entry> {
-        (0..count).map(|_| self.entry(types)).collect()
+    fn table(&mut self, address: usize, count: usize, types: &[Type]) -> Planned {
+        Planned {
+            address,
+            size: 8 * count,
+            entries: (0..count).map(|_| self.entry(types)).collect(),
+        }
     }
 
     /// Any name and address, a type among these, and the size it asks for.
@@ -189,14 +163,6 @@ impl Maker {
         let any = *self.rng.pick(&[0, 1, 2, 3, 4, 8, 9, 100, 16_383]);
         let info = self.info(kind.size.unwrap_or(any));
         [self.any_word(), kind.address, self.any_word(), info]
-    }
-
-    /// Any name, and a type that such a size fits.
-    pub fn entry_of(&mut self, types: &[Type], address: u16, size: u16, kind: u16) -> Entry {
-        let fits = |t: &&Type| t.size.is_none_or(|own| own == size);
-        let fitting: Vec<u16> = types.iter().filter(fits).map(|t| t.address).collect();
-        let type_address = *self.rng.pick(&fitting);
-        [self.any_word(), type_address, address, 4 * size + kind]
     }
 
     /// A size, and any access rights.
@@ -238,15 +204,14 @@ impl Maker {
     /// and far from it; or a size with which the end wraps at 65,536.
     pub fn out_of_area(&mut self, table: &mut Planned) {
         let size = table.size;
-        match self.rng.below(8) {
+        match self.rng.below(7) {
             0 => table.address = *self.rng.pick(&[8_184, 8_191, 8_191]),
             1 => table.address = 8_192 - size,
-            // Into the two bytes that show the number of sets, and through them.
-            2 | 3 => table.address = *self.rng.pick(&[12_287, 12_287, 12_288, 12_289]) - size,
-            4 => table.address = *self.rng.pick(&[12_294, 12_296]) - size,
-            5 => table.address = *self.rng.pick(&[0, 100, 4_096, 12_286, 12_288]),
-            6 => table.address = *self.rng.pick(&[16_384 - size, 16_384, 65_528]),
-            _ => table.size = *self.rng.pick(&[0x1000, 0x1008, 0xE000, 0xFFF8]),
+            2 => table.address = 12_289 - size,
+            3 => table.address = 12_296 - size,
+            4 => table.address = *self.rng.pick(&[0, 100, 4_096, 12_288]),
+            5 => table.address = *self.rng.pick(&[16_384 - size, 16_384, 65_528]),
+            _ => table.size = *self.rng.pick(&[0x1008, 0xE000, 0xFFF8]),
         }
     }
 

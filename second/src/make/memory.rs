@@ -22,7 +22,7 @@ impl Maker {
             0..=3 => self.rng.below(64) as u32,
             4 => self.rng.below(16_384) as u32,
             5 => {
-                let edges = [0, 43, 0x2B2B, 8_191, 8_192, 12_286, 12_287, 12_288, 16_383];
+                let edges = [0, 43, 0x2B2B, 8_191, 8_192, 12_287, 12_288, 16_383];
                 *self.rng.pick(&edges)
             }
             6 => *self.rng.pick(&[16_384, 16_385, 65_534, 65_535, 32_768]),

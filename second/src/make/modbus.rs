@@ -91,7 +91,7 @@ impl Maker {
         }
     }
 
-    pub fn write_request(&mut self, from: u16, quantity: u16) -> Vec<u8> {
+    fn write_request(&mut self, from: u16, quantity: u16) -> Vec<u8> {
         let mut request = words(16, &[from, quantity]);
         request.push((2 * quantity) as u8);
         request.extend(self.rng.bytes(2 * usize::from(quantity)));
@@ -247,7 +247,7 @@ impl Maker {
         self.frame_into(station, room, &frame);
     }
 
-    pub fn read_frame(&mut self, from: u16, quantity: u16) {
+    fn read_frame(&mut self, from: u16, quantity: u16) {
         self.for_some_station(&words(3, &[from, quantity]));
     }
 
@@ -255,7 +255,7 @@ impl Maker {
         self.for_some_station(&words(6, &[at, value]));
     }
 
-    pub fn for_some_station(&mut self, request: &[u8]) {
+    fn for_some_station(&mut self, request: &[u8]) {
         let station = *self.rng.pick(&STATIONS);
         self.frame_line(station, &framed(station as u8, request));
     }
@@ -278,7 +278,7 @@ impl Maker {
         (*self.rng.pick(&[0, low, low, low, any, last, last, across])).min(last)
     }
 
-    pub fn some_word(&mut self) -> u16 {
+    fn some_word(&mut self) -> u16 {
         let any = self.rng.next() as u16;
         *self
             .rng
@@ -287,7 +287,7 @@ impl Maker {
 }
 
 /// A request of a function and numbers, "high byte first".
-pub fn words(function: u8, numbers: &[u16]) -> Vec<u8> {
+fn words(function: u8, numbers: &[u16]) -> Vec<u8> {
     let bytes = numbers.iter().flat_map(|number| number.to_be_bytes());
     [function].into_iter().chain(bytes).collect()
 }

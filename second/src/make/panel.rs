@@ -88,17 +88,8 @@ impl Maker {
         self.bytes(&wire[cut..]);
     }
 
-    pub fn start(&mut self) {
+    fn start(&mut self) {
         self.lines.push("S".to_string());
-    }
-
-    /// The same setup as the panel gives it.
-    pub fn prepare_narrow(&mut self, plan: &Plan) {
-        let narrow = Plan {
-            wide: false,
-            ..plan.clone()
-        };
-        self.prepare(&narrow);
     }
 
     fn prepare(&mut self, plan: &Plan) {

@@ -101,12 +101,11 @@ impl Maker {
         plan
     }
 
-    /// An address with which the range ends at or below 12,286, at times just
-    /// there or a byte before.
+    /// An address below 12,288, at times just so that the range ends there.
     fn recordable(&mut self, size: u8) -> u32 {
-        let last = 12_286 - u32::from(size);
+        let last = 12_288 - u32::from(size);
         match self.rng.below(8) {
-            0 => *self.rng.pick(&[last, last, last - 1]),
+            0 => last,
             1 => *self.rng.pick(&[8_188, 8_190, 8_191, 8_192, 43]),
             2 => self.rng.below(u64::from(last) + 1) as u32,
             _ => self.rng.below(48) as u32,
@@ -164,7 +163,7 @@ impl Maker {
         if self.rng.once_in(2) {
             plan.size = self.size();
             plan.sign = self.rng.byte();
-            plan.address = *self.rng.pick(&[12_285, 12_288, 16_384, 65_535]);
+            plan.address = *self.rng.pick(&[12_288, 16_384, 65_535]);
         }
     }
 
@@ -203,8 +202,6 @@ impl Maker {
         let most = (4_096 / plan.set_size().max(1)) as u16;
         let some = self.rng.below(plan.variables.len().max(1) as u64) as usize;
         let high = *self.rng.pick(&[0x1_0000, 0x8000_0000, 0xFFFF_0000]);
-        // Into the two bytes that show the number of sets, or through them.
-        let end = *self.rng.pick(&[12_287, 12_287, 12_288, 12_288, 12_289]);
         match self.rng.below(14) {
             0 => plan.mode = *self.rng.pick(&[3, 4, 43, 255]),
             1 => plan.sign = *self.rng.pick(&[2, 43, 255]),
@@ -212,18 +209,18 @@ impl Maker {
             3 => plan.samples = most + 1,
             4 => plan.samples = *self.rng.pick(&[4_096, 4_097, 32_768, 65_535]),
             5 => plan.size = *self.rng.pick(&[0, 3, 3, 3, 5, 8, 255]),
-            6 => plan.address = end - u32::from(plan.size.min(4)),
-            7 => plan.address = *self.rng.pick(&[12_286, 12_288, 16_383, 65_535]),
+            6 => plan.address = 12_288 + 1 - u32::from(plan.size.min(4)),
+            7 => plan.address = *self.rng.pick(&[12_288, 16_383, 65_535]),
             8 => plan.variables.clear(),
             9 => plan.variables = vec![(1, 16); 9],
             10 => plan.variables = vec![(0, 16)],
             11 if some < plan.variables.len() => plan.variables[some].0 = 0,
             12 if some < plan.variables.len() => {
                 let size = u32::from(plan.variables[some].0);
-                plan.variables[some].1 = end - size;
+                plan.variables[some].1 = 12_288 + 1 - size;
             }
             _ if plan.wide => plan.address |= high,
-            _ => plan.variables.push((255, end - 255)),
+            _ => plan.variables.push((255, 12_288 - 254)),
         }
     }
 }

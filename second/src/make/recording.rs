@@ -110,7 +110,7 @@ impl Maker {
     }
 
     fn poke_trigger(&mut self, plan: &Plan, value: u32) {
-        let address = plan.address.min(12_285) as usize;
+        let address = plan.address.min(12_287) as usize;
         let size = usize::from(plan.size.clamp(1, 4));
         self.poke(address, &value.to_le_bytes()[..size]);
     }
@@ -170,14 +170,10 @@ impl Maker {
         }
     }
 
-    /// The buffer query, mostly behind a stop, and reads of the number of sets
-    /// and of the buffer.
+    /// The buffer query, mostly behind a stop, and reads of the buffer.
     pub fn read_back(&mut self, plan: &Plan) {
         if !self.rng.once_in(5) {
             self.send(0xC2, &[]);
-        }
-        if self.rng.once_in(2) {
-            self.read_number();
         }
         let query = *self.rng.pick(&[0xC4, 0xC9]);
         self.send(query, &[]);

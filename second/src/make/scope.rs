@@ -10,7 +10,7 @@ impl Maker {
             data.push(*size);
             if inside {
                 let most = 16_384 - u64::from(*size);
-                let addresses = [0, 16, 43, 8_190, 12_286, 12_288, most, most];
+                let addresses = [0, 16, 43, 8_190, 12_288, most, most];
                 let address = *self.rng.pick(&addresses) as u32;
                 data.extend_from_slice(&address.to_le_bytes()[..width]);
             } else {

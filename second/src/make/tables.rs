@@ -11,7 +11,7 @@ impl Maker {
         let types = self.put_types();
         let count = *self.rng.pick(&[0, 1, 1, 2, 2, 3, 5, 15, 16, 16]);
         let mut planned = match self.rng.below(20) {
-            0 => vec![self.longest(&types)],
+            0 => vec![self.whole_area(&types)],
             _ => self.planned(count, &types),
         };
         if let (Some(first), true) = (planned.first().cloned(), self.rng.once_in(4)) {
@@ -34,7 +34,6 @@ impl Maker {
         let mut planned = self.planned(count, &types);
         let which = self.one_of(planned.len());
         match self.rng.below(8) {
-            0 if self.rng.once_in(3) => planned = vec![self.whole_area(&types)],
             0 => self.too_many(&mut planned),
             1 => self.broken_entries(&mut planned[which]),
             2 | 3 => self.out_of_area(&mut planned[which]),
@@ -74,11 +73,11 @@ impl Maker {
             0 => self.register(&[]),
             1 => self.register(&[(8_192, 8); 17]),
             2 => self.register(&[(8_192, 8), (8_200, 9)]),
-            _ => self.register(&[(12_280, 8)]),
+            _ => self.register(&[(12_288, 8)]),
         }
     }
 
-    pub fn register(&mut self, list: &[(usize, usize)]) {
+    fn register(&mut self, list: &[(usize, usize)]) {
         let table = |(address, size): &(usize, usize)| format!(" {address} {size}");
         let words: String = list.iter().map(table).collect();
         self.lines.push(format!("G{words}"));

@@ -1,9 +1,8 @@
 -- The head is written, and the command's bytes stay.
 use mathlib.Core.Path.{ap, ◌∙◌}
 use mathlib.Core.List.{List}
-use Prim.Native.Nat.{ℕ, ◌+◌}
+use Prim.Native.Nat.{ℕ}
 use lib.ListN.{set}
-use Rattle.state_block.specs.Places.{applicationPlace}
 use Rattle.state_block.proofs.Stored.{ended-stored}
 use borrow.Author.Rules.{rules}
 use Rattle.application_block.proofs.report.Statement.{statement}
@@ -30,7 +29,7 @@ returns c =
     let s = known.before in
     let block = s.args.state.now in
     third.put-byte3.ensures
-    ∙ ap (λ (l : List ℕ). set l (applicationPlace + 2) s.args.res) (second.put-byte2.ensures ∙ ap (λ (l : List ℕ). set l (applicationPlace + 1) 0) first.put_byte.ensures)
+    ∙ ap (λ (l : List ℕ). set l 183 s.args.res) (second.put-byte2.ensures ∙ ap (λ (l : List ℕ). set l 182 0) first.put_byte.ensures)
     ∙ ended-stored block s.requires (λ i. (known.slice-known.given i).fits) s.args.res
 
 pub report-spec : {M : Type 1} → statement M

@@ -1,7 +1,7 @@
 -- Head and bytes, one behind the other.
 use mathlib.Core.Path.{◌≡◌, refl, sym, ap, ◌∙◌}
 use mathlib.Core.List.{List, [], ◌∷◌}
-use Prim.Native.Nat.{ℕ, ◌+◌, ◌-◌, ◌≤◌}
+use Prim.Native.Nat.{ℕ, ◌-◌, ◌≤◌}
 use native.Mathlib.Omega.{arith}
 use lib.ListN.{length, set}
 use lib.Seq.{sets}
@@ -52,7 +52,7 @@ returns c =
     let headed = sets block applicationPlace (1 ∷ count ∷ 0 ∷ []) in
     let head : third.put-byte3.new.0 ≡ sets block applicationPlace (1 ∷ count ∷ 0 ∷ []) =
     third.put-byte3.ensures
-    ∙ ap (λ (l : List ℕ). set l (applicationPlace + 2) 0) (second.put-byte2.ensures ∙ ap (λ (l : List ℕ). set l (applicationPlace + 1) count) first.put_byte.ensures) in
+    ∙ ap (λ (l : List ℕ). set l 183 0) (second.put-byte2.ensures ∙ ap (λ (l : List ℕ). set l 182 count) first.put_byte.ensures) in
     copied.copy-down.ensures
     ∙ ap (λ (l : List ℕ). sets l commandPlace (bytes_at l bodyPlace count)) head
     ∙ ap (sets headed commandPlace) (bytes-before (1 ∷ count ∷ 0 ∷ []) block applicationPlace bodyPlace count (omega (arith, few)))

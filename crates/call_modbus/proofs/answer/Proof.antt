@@ -6,9 +6,7 @@ use Prim.Native.Nat.{ℕ}
 use native.Mathlib.Omega.{arith}
 use borrow.Author.Rules.{rules}
 use Rattle.document.specs.Frames.{isSilenced}
-use Rattle.call_modbus.specs.Promises.{tablesIn}
-use Rattle.call_modbus.proofs.Refusals.{Right, lent-right}
-use Rattle.call_modbus.proofs.Answers.{refused, silent, answered}
+use Rattle.call_modbus.proofs.Answers.{Right, lent-right, refused, silent, answered}
 use Rattle.call_modbus.proofs.Responses.{room-left}
 use Rattle.modbus_frames.proofs.Silenced.{heard}
 use Rattle.call_modbus.proofs.answer.Statement.{statement}
@@ -24,22 +22,19 @@ same-length-2 : tie.Need-same-length-2
 same-length-2 c = search rules
 
 abbrev begun : tie.After-refusal-of → tie.Start
-begun n = n.before.before.before.before.before.before.before
+begun n = n.before.before.before.before.before.before
 
 returns : tie.Need-returns
 returns c =
     let n = c.before in
     let a = (begun n).args in
-    refused a.state.now a.station a.frame.now a.memory.now a.out.now n.refusal-of.result n.refusal-of.ensures c.if1.true
+    refused a.station a.frame.now a.memory.now a.out.now n.refusal-of.result n.refusal-of.ensures c.if1.true
 
 -- ---- not refused
 
 module _ (e : tie.Else1) where
   abbrev start : tie.Start
   start = begun e.before
-
-  abbrev block : List ℕ
-  block = start.args.state.now
 
   abbrev station : ℕ
   station = start.args.station
@@ -53,8 +48,8 @@ module _ (e : tie.Else1) where
   abbrev out : List ℕ
   out = start.args.out.now
 
-  right : Right block station memory out
-  right = lent-right block station memory out (sym e.before.refusal-of.ensures ∙ e.if1.left)
+  right : Right station memory out
+  right = lent-right station memory out (sym e.before.refusal-of.ensures ∙ e.if1.left)
 
 cast-own : tie.Need-overflow-cast-own
 cast-own c = omega (arith, (right c).last)
@@ -71,7 +66,7 @@ same-length-4 c = search rules
 returns-2 : tie.Need-returns-2
 returns-2 c =
     let e = c.before.before in
-    silent (block e) (station e) (frame e) (memory e) (out e) _ e.before.refusal-of.ensures e.if1.false (sym c.before.is-silenced.ensures ∙ c.if2.true)
+    silent (station e) (frame e) (memory e) (out e) _ e.before.refusal-of.ensures e.if1.false (sym c.before.is-silenced.ensures ∙ c.if2.true)
 
 -- ---- nor silenced
 
@@ -87,13 +82,13 @@ respond-requires c κs =
     let e = c.before.before in
     let k = kept e in
     let h = heard (station k) (frame k) (loud e) in
-    (h.long, h.function, (right k).long, (right k).memory-length, (right k).room)
+    (h.long, h.function, (right k).memory-length, (right k).room)
 
 seal-requires : tie.Need-seal-requires
 seal-requires c κs =
     let r = c.before.before.before.before.before in
     let k = kept r.before.before.before in
-    room-left (frame k) (tablesIn (block k)) (memory k) (out k) _ _ _ (right k).room r.respond.ensures
+    room-left (frame k) (memory k) (out k) _ _ _ (right k).room r.respond.ensures
 
 same-length-5 : tie.Need-same-length-5
 same-length-5 c = search rules
@@ -107,7 +102,7 @@ returns-3 c =
     let r = w.before.before.before.before.before.before in
     let e = r.before.before.before in
     let k = kept e in
-    answered (block k) (station k) (frame k) (memory k) (out k) _ k.before.refusal-of.ensures k.if1.left (loud e) (right k).room _ _ _ _ _ r.respond.ensures w.seal.ensures.0 w.seal.ensures.1
+    answered (station k) (frame k) (memory k) (out k) _ k.before.refusal-of.ensures k.if1.left (loud e) (right k).room _ _ _ _ _ r.respond.ensures w.seal.ensures.0 w.seal.ensures.1
 
 pub answer-spec : {M : Type 1} → statement M
 answer-spec =

@@ -1,10 +1,8 @@
 -- An exception is told alone; else the answer, and then what is to be done.
-use mathlib.Core.Path.{sym, ◌∙◌}
-use mathlib.Core.List.{List}
+use mathlib.Core.Path.{◌≡◌, sym, ◌∙◌}
 use borrow.Author.Rules.{rules}
-use Rattle.document.specs.Tables.{Table}
-use Rattle.modbus_frames.specs.Unexcepted.{Unexcepted}
-use Rattle.call_modbus.specs.Promises.{tablesIn}
+use Rattle.document.specs.Numbers.{done}
+use Rattle.document.specs.Modbus.{exceptionTo}
 use Rattle.call_modbus.proofs.Responses.{excepted, served}
 use Rattle.call_modbus.proofs.respond.Statement.{statement}
 use Rattle.call_modbus.proofs.respond.Tie as tie
@@ -24,44 +22,38 @@ tell-exception-requires c κs = search rules
 same_length : tie.Need-same-length
 same_length c = search rules
 
-same-length-2 : tie.Need-same-length-2
-same-length-2 c = search rules
-
 abbrev begun : tie.After-exception-to → tie.Start
-begun x = x.before.before.before.before.before.before.before.before
-
-abbrev tables : tie.After-exception-to → List Table
-tables x = tablesIn (begun x).args.state.now
+begun x = x.before.before.before.before.before.before
 
 returns : tie.Need-returns
 returns c =
     let w = c.before.before in
     let x = w.before.before.before in
-    let f = x.before.before in
+    let f = x.before in
     let a = (begun x).args in
-    excepted a.frame.now (tables x) a.memory.now a.out.now f.Function-of.ensures x.exception-to.result _ x.exception-to.ensures _ w.before.before.if1.true w.tell-exception.ensures
+    excepted a.frame.now a.memory.now a.out.now f.Function-of.ensures x.exception-to.result _ (x.exception-to.ensures a.memory.now) _ w.before.before.if1.true w.tell-exception.ensures
 
 -- ---- there is none
 
-no-exception : (e : tie.Else1) → Unexcepted e.before.before.before.Function-of.result (begun e.before).args.frame.now (begun e.before).args.memory.now
-no-exception e = record { tables = tables e.before; none = sym e.before.exception-to.ensures ∙ e.if1.false }
+no-exception : (e : tie.Else1) → exceptionTo e.before.before.Function-of.result (begun e.before).args.frame.now (begun e.before).args.memory.now ≡ done
+no-exception e = sym (e.before.exception-to.ensures (begun e.before).args.memory.now) ∙ e.if1.false
 
 tell-requires : tie.Need-tell-requires
 tell-requires c κs =
     let e = c.before.before in
     let s = begun e.before in
-    (no-exception e, s.pre.3, s.pre.4)
+    (no-exception e, s.pre.2, s.pre.3)
 
 carry-out-requires : tie.Need-carry-out-requires
 carry-out-requires c κs =
     let e = c.before.before.before.before.before.before in
-    (no-exception e, (begun e.before).requires.3)
+    (no-exception e, (begun e.before).requires.2)
+
+same-length-2 : tie.Need-same-length-2
+same-length-2 c = search rules
 
 same-length-3 : tie.Need-same-length-3
 same-length-3 c = search rules
-
-same-length-4 : tie.Need-same-length-4
-same-length-4 c = search rules
 
 returns-2 : tie.Need-returns-2
 returns-2 c =
@@ -70,7 +62,7 @@ returns-2 c =
     let e = t.before.before.before in
     let x = e.before in
     let a = (begun x).args in
-    served a.frame.now (tables x) a.memory.now a.out.now x.before.before.Function-of.ensures x.exception-to.result _ x.exception-to.ensures _ _ e.if1.false t.tell.ensures w.carry-out.ensures
+    served a.frame.now a.memory.now a.out.now x.before.Function-of.ensures x.exception-to.result _ (x.exception-to.ensures a.memory.now) _ _ e.if1.false t.tell.ensures w.carry-out.ensures
 
 pub respond-spec : {M : Type 1} → statement M
 respond-spec =
@@ -81,10 +73,9 @@ respond-spec =
     exception-to-requires
     tell-exception-requires
     same_length
-    same-length-2
     returns
     tell-requires
     carry-out-requires
+    same-length-2
     same-length-3
-    same-length-4
     returns-2)

@@ -25,14 +25,14 @@ module _ (p : tie.After-put-all) where
   abbrev start : tie.Start
   start = begun.before.before.before.before
 
-  telling : Telling start.args.status start.args.body.now start.args.out.now p.put-all.result p.put-all.last.1.1.0
-  telling = put-append _ _ _ [] start.args.body.now _ _ _ begun.begin.ensures p.put-all.ensures
+  telling : Telling start.args.status start.args.body.now start.args.out.now p.put_all_lem.result p.put_all_lem.last.1.1.0
+  telling = put-append _ _ _ [] start.args.body.now _ _ _ begun.begin.ensures p.put_all_lem.ensures
 
 put-sum-requires : tie.Need-put-sum-requires
 put-sum-requires c κs =
     let p = c.before.before.before in
     let s = start p in
-    telling-room s.args.status s.args.body.now s.args.out.now p.put-all.result _ (telling p) s.pre.1 (sumByteOf (p.put-all.result.sum ∷ []) ∷ []) (omega (arith, s.pre.0))
+    telling-room s.args.status s.args.body.now s.args.out.now p.put_all_lem.result _ (telling p) s.pre.1 (sumByteOf (p.put_all_lem.result.sum ∷ []) ∷ []) (omega (arith, s.pre.0))
 
 same_length : tie.Need-same-length
 same_length c = search rules
@@ -42,7 +42,7 @@ returns c =
     let q = c.before.before in
     let p = q.before.before.before.before in
     let s = start p in
-    told-in-parts s.args.status s.args.body.now s.args.out.now p.put-all.result _ (telling p) q.put-sum.result _ q.put-sum.ensures
+    told-in-parts s.args.status s.args.body.now s.args.out.now p.put_all_lem.result _ (telling p) q.put-sum.result _ q.put-sum.ensures
 
 pub tell-spec : {M : Type 1} → statement M
 tell-spec = tie.close (tie.spec begin-requires put-all-requires put-sum-requires same_length returns)

@@ -119,20 +119,38 @@ returns-3 c =
 enum-told-5 : tie.Need-enum-told-5
 enum-told-5 c = search rules
 
+sub-write : tie.Need-overflow-sub-write
+sub-write c = search rules
+
+part-write-start : tie.Need-slice-bounds-write-start
+part-write-start c = search rules
+
+part-write-end : tie.Need-slice-bounds-write-end
+part-write-end c = search rules
+
 write-requires : tie.Need-write-requires
 write-requires c κs =
-    let t = c.before.before in
+    let t = c.before.before.before in
     let s = begun t.before.before in
-    (framed t.before.before Write t.enum-told5.given.1, s.pre.least, s.pre.most, s.pre.long, s.pre.memory-whole)
+    (framed t.before.before Write t.enum-told5.given.1, s.pre.memory-whole)
 
 enum-told-6 : tie.Need-enum-told-6
 enum-told-6 c = search rules
 
+sub-write-masked : tie.Need-overflow-sub-write-masked
+sub-write-masked c = search rules
+
+part-write-masked-start : tie.Need-slice-bounds-write-masked-start
+part-write-masked-start c = search rules
+
+part-write-masked-end : tie.Need-slice-bounds-write-masked-end
+part-write-masked-end c = search rules
+
 write-masked-requires : tie.Need-write-masked-requires
 write-masked-requires c κs =
-    let t = c.before.before in
+    let t = c.before.before.before in
     let s = begun t.before.before in
-    (framed t.before.before WriteMasked t.enum-told6.given.1, s.pre.least, s.pre.most, s.pre.long, s.pre.memory-whole)
+    (framed t.before.before WriteMasked t.enum-told6.given.1, s.pre.memory-whole)
 
 enum-told-7 : tie.Need-enum-told-7
 enum-told-7 c = search rules
@@ -288,11 +306,11 @@ module _ (m : tie.At-match-branch) where
   settled : Settles (served (gateOf (decodedInstruments q.block) q.memory) q.service q.body) (instrumentsAfter q.service.operation (decodedInstruments q.block) q.service q.body) q.block m.match.status m.match.state m.match.memory
   settled =
       ⊎_elim (λ w. met q w.4 w.2 w.3 (says q Unserved w.1.given.1 refl notServed (unserved-says _ q.service q.body)))
-      (⊎_elim (λ w. met q w.9 w.7 w.8 (wrote q Write w.1.given.1 refl w.4.result _ (w.4.ensures _ refl refl)))
-      (⊎_elim (λ w. met q w.9 w.7 w.8 (wrote q WriteMasked w.1.given.1 refl w.4.result _ (w.4.ensures _ refl refl)))
+      (⊎_elim (λ w. met q w.10 w.8 w.9 (wrote q Write w.1.given.1 refl w.5.result _ (w.5.ensures _ refl)))
+      (⊎_elim (λ w. met q w.10 w.8 w.9 (wrote q WriteMasked w.1.given.1 refl w.5.result _ (w.5.ensures _ refl)))
       (⊎_elim (λ w. met q w.8 w.6 w.7 (settles q SetUpScope w.1.given.1 w.3.result _ _ (w.3.ensures _)))
-      (⊎_elim (λ w. met q w.11 w.9 w.10 (settles q PrepareAndStart w.1.given.1 w.4.result _ _ w.4.ensures))
-      (⊎_elim (λ w. met q w.11 w.9 w.10 (settles q Start w.1.given.1 w.4.result _ _ (w.4.ensures q.service _)))
+      (⊎_elim (λ w. met q w.8 w.6 w.7 (settles q PrepareAndStart w.1.given.1 w.3.result _ _ (w.3.ensures _)))
+      (⊎_elim (λ w. met q w.8 w.6 w.7 (settles q Start w.1.given.1 w.3.result _ _ (w.3.ensures _ q.service _)))
       (⊎_elim (λ w. met q w.8 w.6 w.7 (settles q Stop w.1.given.1 w.3.result _ _ (w.3.ensures _ q.service _)))
       (⊎_elim (λ w. met q w.6 w.4 w.5 (says q Status w.1.given.1 refl w.3.result (w.3.ensures _ q.service _))) (λ w. met q w.8 w.6 w.7 (settles q SendCommand w.1.given.1 w.3.result _ _ (w.3.ensures _ q.service))))))))))
       m.match.came
@@ -302,15 +320,15 @@ module _ (m : tie.At-match-branch) where
       ap length settled.kept
       ∙ length-sets q.block scopePlace (encodedInstruments (instrumentsAfter q.service.operation (decodedInstruments q.block) q.service q.body))
 
-  -- a write and a start change the memory, and no length
+  -- only a write changes the memory, and no length
   memory-long : length m.match.memory ≡ length q.memory
   memory-long =
       ⊎_elim (λ w. ap length w.3)
-      (⊎_elim (λ w. ap length w.8 ∙ w.4.kept.1.1.1.0)
-      (⊎_elim (λ w. ap length w.8 ∙ w.4.kept.1.1.1.0)
+      (⊎_elim (λ w. ap length w.9 ∙ w.5.kept.1.1.0)
+      (⊎_elim (λ w. ap length w.9 ∙ w.5.kept.1.1.0)
       (⊎_elim (λ w. ap length w.7)
-      (⊎_elim (λ w. ap length w.10 ∙ w.4.kept.1.1.1.0)
-      (⊎_elim (λ w. ap length w.10 ∙ w.4.kept.1.0)
+      (⊎_elim (λ w. ap length w.7)
+      (⊎_elim (λ w. ap length w.7)
       (⊎_elim (λ w. ap length w.7)
       (⊎_elim (λ w. ap length w.5) (λ w. ap length w.7))))))))
       m.match.came
@@ -356,8 +374,14 @@ serve-spec =
     same-length-5
     returns-3
     enum-told-5
+    sub-write
+    part-write-start
+    part-write-end
     write-requires
     enum-told-6
+    sub-write-masked
+    part-write-masked-start
+    part-write-masked-end
     write-masked-requires
     enum-told-7
     set-up-scope-requires

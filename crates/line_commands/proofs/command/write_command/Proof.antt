@@ -89,11 +89,11 @@ put-sum-requires c κs =
     let q = c.before.before.before in
     let p = q.before.before.before.before in
     let a = (asked p.before.before).args in
-    let kept : length q.put-all.new.1.1.0 ≡ length a.out.now = q.put-all.auto.1.1.0 ∙ p.put-length.auto.1.1.1.0 ∙ simp length-set in
+    let kept : length q.put_all_lem.new.1.1.0 ≡ length a.out.now = q.put_all_lem.auto.1.1.0 ∙ p.put-length.auto.1.1.1.0 ∙ simp length-set in
     let before : p.put-length.result.at ≡ 2 + length (stuffed (lengthPart a.command a.body.now)) = ap (λ (t : Progress). t.at) p.put-length.ensures.progress in
-    let behind : q.put-all.result.at ≡ p.put-length.result.at + length (stuffed a.body.now) = ap (λ (t : Progress). t.at) q.put-all.ensures.progress in
+    let behind : q.put_all_lem.result.at ≡ p.put-length.result.at + length (stuffed a.body.now) = ap (λ (t : Progress). t.at) q.put_all_lem.ensures.progress in
     rw
-    (behind_sum a.command a.body.now p.put-length.result q.put-all.result p.put-length.ensures.progress q.put-all.ensures.progress)
+    (behind_sum a.command a.body.now p.put-length.result q.put_all_lem.result p.put-length.ensures.progress q.put_all_lem.ensures.progress)
     (omega (arith, parts p.before.before))
 
 same_length : tie.Need-same-length
@@ -101,7 +101,7 @@ same_length c =
     let r = c.before.before in
     let q = r.before.before.before.before in
     let p = q.before.before.before.before in
-    r.put-sum.auto.1.0 ∙ q.put-all.auto.1.1.0 ∙ p.put-length.auto.1.1.1.0 ∙ simp length-set
+    r.put-sum.auto.1.0 ∙ q.put_all_lem.auto.1.1.0 ∙ p.put-length.auto.1.1.1.0 ∙ simp length-set
 
 returns-3 : tie.Need-returns-3
 returns-3 c =
@@ -111,9 +111,9 @@ returns-3 c =
     let e = p.before.before in
     let a = (asked e).args in
     let ls = between a.command a.body.now in
-    let put = put-append (front a.command) p.put-length.result q.put-all.result (lengthPart a.command a.body.now) a.body.now _ p.put-length.new.1.1.1.0 q.put-all.new.1.1.0 p.put-length.ensures q.put-all.ensures in
-    let length-is = written-length a.command ls a.out.now q.put-all.new.1.1.0 r.new.1.0 q.put-all.result r.result put r.ensures in
-    let buffer-is = written-buffer a.command ls a.out.now q.put-all.new.1.1.0 r.new.1.0 q.put-all.result r.result put r.ensures in
+    let put = put-append (front a.command) p.put-length.result q.put_all_lem.result (lengthPart a.command a.body.now) a.body.now _ p.put-length.new.1.1.1.0 q.put_all_lem.new.1.1.0 p.put-length.ensures q.put_all_lem.ensures in
+    let length-is = written-length a.command ls a.out.now q.put_all_lem.new.1.1.0 r.new.1.0 q.put_all_lem.result r.result put r.ensures in
+    let buffer-is = written-buffer a.command ls a.out.now q.put_all_lem.new.1.1.0 r.new.1.0 q.put_all_lem.result r.result put r.ensures in
     let taken_is = command-taken a.command a.body.now a.out.now (formed e.before.before) (room e) in
     let written_is = command-written a.command a.body.now a.out.now (formed e.before.before) (room e) in
     let left_is = command-buffer a.command a.body.now a.out.now (formed e.before.before) (room e) in

@@ -1,8 +1,6 @@
 -- In their order; a frame without exception 3 is long enough for its fields.
 use mathlib.Core.Path.{sym, ◌∙◌}
 use borrow.Author.Rules.{rules}
-use Rattle.tables_state.specs.State.{tables_of}
-use Rattle.state_block.specs.Layout.{decodedTables}
 use Rattle.modbus_frames.proofs.WrongValues.{long-enough}
 use Rattle.modbus_frames.proofs.Order.{not-served, value-wrong, address-wrong, no-exception}
 use Rattle.modbus_frames.proofs.exceptions.exception_to.Statement.{statement}
@@ -12,45 +10,44 @@ is-other-requires : tie.Need-is-other-requires
 is-other-requires c κs = search rules
 
 returns : tie.Need-returns
-returns c =
-    let a = c.before.before.before.before.before.args in
-    not-served a.function a.frame.now (tables_of (decodedTables a.state.now)) a.memory.now (sym c.before.is-other.ensures ∙ c.if1.true)
+returns c memory =
+    let a = c.before.before.before.args in
+    not-served a.function a.frame.now memory (sym c.before.is-other.ensures ∙ c.if1.true)
 
 is-value-wrong-requires : tie.Need-is-value-wrong-requires
 is-value-wrong-requires c κs = search rules
 
 returns-2 : tie.Need-returns-2
-returns-2 c =
+returns-2 c memory =
     let v = c.before in
     let o = v.before.before in
-    let a = o.before.before.before.before.args in
-    value-wrong a.function a.frame.now (tables_of (decodedTables a.state.now)) a.memory.now (sym o.is-other.ensures ∙ v.before.if1.false) (sym v.is-value-wrong.ensures ∙ c.if2.true)
+    let a = o.before.before.args in
+    value-wrong a.function a.frame.now memory (sym o.is-other.ensures ∙ v.before.if1.false) (sym v.is-value-wrong.ensures ∙ c.if2.true)
 
 is-address-wrong-requires : tie.Need-is-address-wrong-requires
 is-address-wrong-requires c κs =
     let v = c.before in
     let o = v.before.before in
-    let s = o.before.before.before.before in
-    let a = s.args in
-    (long-enough a.function a.frame.now (sym o.is-other.ensures ∙ v.before.if1.false) (sym v.is-value-wrong.ensures ∙ c.if2.false), s.requires.0, s.requires.1)
+    let a = o.before.before.args in
+    long-enough a.function a.frame.now (sym o.is-other.ensures ∙ v.before.if1.false) (sym v.is-value-wrong.ensures ∙ c.if2.false)
 
 returns-3 : tie.Need-returns-3
-returns-3 c =
+returns-3 c memory =
     let d = c.before in
     let v = d.before.before in
     let o = v.before.before in
-    let a = o.before.before.before.before.args in
-    address-wrong a.function a.frame.now (tables_of (decodedTables a.state.now)) a.memory.now (sym o.is-other.ensures ∙ v.before.if1.false) (sym v.is-value-wrong.ensures ∙ d.before.if2.false)
-    (sym d.is-address-wrong.ensures ∙ c.if3.true)
+    let a = o.before.before.args in
+    address-wrong a.function a.frame.now memory (sym o.is-other.ensures ∙ v.before.if1.false) (sym v.is-value-wrong.ensures ∙ d.before.if2.false)
+    (sym (d.is-address-wrong.ensures memory) ∙ c.if3.true)
 
 returns-4 : tie.Need-returns-4
-returns-4 c =
+returns-4 c memory =
     let d = c.before in
     let v = d.before.before in
     let o = v.before.before in
-    let a = o.before.before.before.before.args in
-    no-exception a.function a.frame.now (tables_of (decodedTables a.state.now)) a.memory.now (sym o.is-other.ensures ∙ v.before.if1.false) (sym v.is-value-wrong.ensures ∙ d.before.if2.false)
-    (sym d.is-address-wrong.ensures ∙ c.if3.false)
+    let a = o.before.before.args in
+    no-exception a.function a.frame.now memory (sym o.is-other.ensures ∙ v.before.if1.false) (sym v.is-value-wrong.ensures ∙ d.before.if2.false)
+    (sym (d.is-address-wrong.ensures memory) ∙ c.if3.false)
 
 pub exception-to-spec : {M : Type 1} → statement M
 exception-to-spec =

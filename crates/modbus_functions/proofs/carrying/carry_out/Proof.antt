@@ -25,7 +25,7 @@ module _ (s : tie.Start) where
   memory = s.args.memory.now
 
   long : 8 ≤ length frame
-  long = accepted-long s.args.function frame s.pre.0.tables memory s.pre.0.none
+  long = accepted-long s.args.function frame memory s.pre.0
 
 -- ---- the first register is read
 

@@ -12,7 +12,7 @@ use Rattle.modbus_functions.proofs.telling.tell.Statement.{statement}
 use Rattle.modbus_functions.proofs.telling.tell.Tie as tie
 
 long : (s : tie.Start) → 8 ≤ length s.args.frame.now
-long s = accepted-long s.args.function s.args.frame.now s.requires.0.tables s.args.memory.now s.requires.0.none
+long s = accepted-long s.args.function s.args.frame.now s.args.memory.now s.requires.0
 
 enum_told : tie.Need-enum-told
 enum_told c = search rules
@@ -24,7 +24,7 @@ tell-registers-requires c κs =
     let frame = s.args.frame.now in
     let memory = s.args.memory.now in
     let none = none-as e.enum_told.given.1 frame memory s.requires.0 in
-    let right = reading-right frame (accepted ReadRegisters frame none.tables memory none.none).value in
+    let right = reading-right frame (accepted ReadRegisters frame memory none).value in
     ((omega (arith, right.0), right.1, s.requires.2), omega (arith, reads-inside frame memory none, s.requires.1))
 
 enum-told-2 : tie.Need-enum-told-2

@@ -8,7 +8,6 @@ use lib.ListN.{get_or}
 use lib.Seq.{sets}
 use Rattle.document.specs.Numbers.{done}
 use Rattle.document.specs.Bytes.{AllBytes}
-use Rattle.document.specs.Gate.{Gate}
 use Rattle.document.specs.Commands.{served}
 use Rattle.document.specs.declared.Service.{Service}
 use Rattle.document.specs.declared.Operation.TheVariants.{PrepareAndStart, Start}
@@ -21,9 +20,9 @@ use Rattle.state_byte.specs.After.{instrumentsAfter}
 use Rattle.state_block.specs.Places.{bodyPlace, scopePlace}
 use Rattle.state_block.specs.Layout.{dataTo, decodedRecorder, decodedInstruments, encodedInstruments}
 use Rattle.serve_recorder.specs.Operates.{statusAlone, Settles}
-use Rattle.serve_recorder.proofs.Statuses.{recorder-prepared, prepare-refused, prepare-shown}
-use Rattle.serve_recorder.proofs.Changing.{same_block}
-use Rattle.serve_recorder.proofs.InARow.{between, started-done, started-shown, started-stored}
+use Rattle.serve_recorder.proofs.Statuses.{recorder-prepared}
+use Rattle.serve_recorder.proofs.Changing.{settles, same_block}
+use Rattle.serve_recorder.proofs.InARow.{between, started-done, started-stored}
 use Rattle.serve_recorder.proofs.recording.prepare_and_start.Statement.{statement}
 use Rattle.serve_recorder.proofs.recording.prepare_and_start.Tie as tie
 
@@ -32,7 +31,7 @@ prepare-requires c κs = search rules
 
 module _ (p : tie.After-prepare) where
   abbrev begun : tie.Start
-  begun = p.before.before.before.before
+  begun = p.before.before.before
 
   abbrev service : Service
   service = begun.args.service
@@ -45,17 +44,10 @@ module _ (p : tie.After-prepare) where
   told = dataTo block begun.args.to
 
   small : (i : ℕ) → get_or block i 0 < 256
-  small i = (p.before.before.before.slice-known.given i).fits
+  small i = (p.before.before.slice-known.given i).fits
 
-  abbrev lent : List ℕ
-  lent = begun.args.memory.now
-
-  -- the gate that is lent
-  abbrev gate : Gate
-  gate = gateOf (decodedInstruments block) lent
-
-  answer : statusAlone p.prepare.result ≡ (served gate (knownAs PrepareAndStart service) told).answer
-  answer = ap statusAlone p.prepare.ensures.0 ∙ recorder-prepared gate service told
+  answer : (memory : List ℕ) → statusAlone p.prepare.result ≡ (served (gateOf (decodedInstruments block) memory) (knownAs PrepareAndStart service) told).answer
+  answer memory = ap statusAlone p.prepare.ensures.0 ∙ recorder-prepared (gateOf (decodedInstruments block) memory) service told
 
   all : AllBytes told
   all = all-range block bodyPlace (begun.args.to - bodyPlace) (all-of-bytes block small)
@@ -73,11 +65,8 @@ same_length c = search rules
 returns : tie.Need-returns
 returns c =
     let p = c.before.before.before in
-    record {
-      answer = answer p;
-      memory = prepare-refused (gate p) (service p) (told p) (λ e. c.if1.true (p.prepare.ensures.0 ∙ e));
-      kept = kept p c.if1.true;
-    }
+    λ memory.
+    settles PrepareAndStart refl (block p) memory (service p) (told p) p.prepare.result _ (answer p memory) (kept p c.if1.true)
 
 start-requires : tie.Need-start-requires
 start-requires c κs = search rules
@@ -85,37 +74,26 @@ start-requires c κs = search rules
 same-length-2 : tie.Need-same-length-2
 same-length-2 c = search rules
 
-same-length-3 : tie.Need-same-length-3
-same-length-3 c = search rules
-
 returns-2 : tie.Need-returns-2
 returns-2 c =
-    let st = c.before.before.before.before in
-    let right = st.before.before.before in
+    let st = c.before.before in
+    let right = st.before.before in
     let p = right.before.before.before in
     let s = begun p in
     let ex = (service p).ex in
     let here : p.prepare.new.0 ≡ between (block p) s.pre.0 (small p) ex (told p) (all p) =
     rw (eq-eqb p.prepare.result done right.if1.false) at p.prepare.ensures.1 in
-    let accepted = sym p.prepare.ensures.0 ∙ right.if1.false in
-    let next = sym (both-taken (decodedRecorder (block p)) ex (told p) accepted) in
+    let next = sym (both-taken (decodedRecorder (block p)) ex (told p) (sym p.prepare.ensures.0 ∙ right.if1.false)) in
+    λ memory.
     let did =
-    subst (λ (l : List ℕ). Settles (served (gateOf (decodedInstruments l) (lent p)) (knownAs Start (service p)) []) (instrumentsAfter Start (decodedInstruments l) (service p) []) l st.start.result st.start.new.0 st.start.new.1.0)
-    here (st.start.ensures (service p) []) in
-    record {
-      answer =
-          started-done (block p) s.pre.0 (small p) ex (told p) (all p) (lent p) (service p) [] st.start.result _ _ did
-          ∙ ap statusAlone (sym right.if1.false)
-          ∙ answer p;
-      memory =
-          started-shown (block p) s.pre.0 (small p) ex (told p) (all p) (lent p) (service p) [] st.start.result _ _ did
-          ∙ prepare-shown (gate p) (service p) (told p) accepted;
-      kept =
-          started-stored (block p) s.pre.0 (small p) ex (told p) (all p) (lent p) (service p) [] st.start.result _ _ did
-          ∙ (λ i. sets (block p) scopePlace (encodedInstruments (withRecorder (decodedInstruments (block p)) (next i))));
-    }
+    subst (λ (l : List ℕ). Settles (served (gateOf (decodedInstruments l) memory) (knownAs Start (service p)) []) (instrumentsAfter Start (decodedInstruments l) (service p) []) l st.start.result st.start.new.0 memory)
+    here (st.start.ensures memory (service p) []) in
+    settles PrepareAndStart refl (block p) memory (service p) (told p) st.start.result _
+    (started-done (block p) s.pre.0 (small p) ex (told p) (all p) memory (service p) [] st.start.result _ did ∙ ap statusAlone (sym right.if1.false) ∙ answer p memory)
+    (started-stored (block p) s.pre.0 (small p) ex (told p) (all p) memory (service p) [] st.start.result _ did
+    ∙ (λ i. sets (block p) scopePlace (encodedInstruments (withRecorder (decodedInstruments (block p)) (next i)))))
 
 pub prepare-and-start-spec : {M : Type 1} → statement M
 prepare-and-start-spec =
     tie.close
-    (tie.spec prepare-requires same_length returns start-requires same-length-2 same-length-3 returns-2)
+    (tie.spec prepare-requires same_length returns start-requires same-length-2 returns-2)

@@ -153,15 +153,15 @@ loop-again c =
     let l = w.before.before.before.before.before.loop in
     let here = bytes_at (memory w) (address w) (size w) in
     let rest = values_of (memory w) (left_at (block w) (left w - 1) (place w + 5)) in
-    let done : Put l.progress (bytes_at (memory w) (address w) (size w)) l.out put.put-all.result put.put-all.new.1.1.0 =
-    subst (λ (bs : List ℕ). Put l.progress bs l.out put.put-all.result put.put-all.new.1.1.0) (part w) put.put-all.ensures in (
+    let done : Put l.progress (bytes_at (memory w) (address w) (size w)) l.out put.put_all_lem.result put.put_all_lem.new.1.1.0 =
+    subst (λ (bs : List ℕ). Put l.progress bs l.out put.put_all_lem.result put.put_all_lem.new.1.1.0) (part w) put.put_all_lem.ensures in (
       omega arith,
       omega (arith, some w),
-      put.put-all.auto.1.1.0 ∙ l.invariant.2,
+      put.put_all_lem.auto.1.1.0 ∙ l.invariant.2,
       omega arith,
       (may w).1,
-      put-progress l.progress put.put-all.result here rest _ _ done ∙ ap (progressed l.progress) (sym (values w)) ∙ l.invariant.5,
-      put-buffer l.progress put.put-all.result here rest _ _ done ∙ ap (λ (bs : List ℕ). sets l.out l.progress.at (stuffed bs)) (sym (values w)) ∙ l.invariant.6,
+      put-progress l.progress put.put_all_lem.result here rest _ _ done ∙ ap (progressed l.progress) (sym (values w)) ∙ l.invariant.5,
+      put-buffer l.progress put.put_all_lem.result here rest _ _ done ∙ ap (λ (bs : List ℕ). sets l.out l.progress.at (stuffed bs)) (sym (values w)) ∙ l.invariant.6,
     )
 
 same_length : tie.Need-same-length invariant-loop decreases-loop

@@ -23,25 +23,10 @@ word-at-requires-2 c κs = search rules
 long-at-requires : tie.Need-long-at-requires
 long-at-requires c κs = search rules
 
-word-at-requires-3 : tie.Need-word-at-requires-3
-word-at-requires-3 c κs = search rules
-
 returns : tie.Need-returns
 returns c =
-    let counted = c.before in
-    let placed = counted.before in
-    let waits = placed.before in
-    let args = waits.before.before.before.before.before.args in
-    let l = args.block.now in
-    λ i. record {
-      running = get_or l runPlace 0;
-      full = get_or l fullPlace 0;
-      watch = get_or l watchPlace 0;
-      wait = waits.word_at.ensures i;
-      place = placed.word-at2.ensures i;
-      value = counted.long-at.ensures i;
-      number = c.word-at3.ensures i;
-    }
+    let args = c.before.before.before.before.before.before.before.args in
+    let l = args.block.now in λ i. record { running = get_or l runPlace 0; full = get_or l fullPlace 0; watch = get_or l watchPlace 0; wait = c.before.before.word_at.ensures i; place = c.before.word-at2.ensures i; value = c.long-at.ensures i }
 
 pub run-in-spec : {M : Type 1} → statement M
 run-in-spec =
@@ -53,5 +38,4 @@ run-in-spec =
     word-at-requires
     word-at-requires-2
     long-at-requires
-    word-at-requires-3
     returns)

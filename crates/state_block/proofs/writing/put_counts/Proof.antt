@@ -13,21 +13,17 @@ put-word-requires-2 c κs = search rules
 put-long-requires : tie.Need-put-long-requires
 put-long-requires c κs = search rules
 
-put-word-requires-3 : tie.Need-put-word-requires-3
-put-word-requires-3 c κs = search rules
-
 same_length : tie.Need-same-length
 same_length c = search rules
 
 returns : tie.Need-returns
 returns c =
-    let four = c.before.before in
-    let three = four.before.before.before.before in
+    let three = c.before.before in
     let two = three.before.before.before.before in
     let one = two.before.before.before.before in
-    rw (four.put-word3.ensures, three.put-long.ensures, two.put-word2.ensures, one.put_word.ensures) refl
+    rw (three.put-long.ensures, two.put-word2.ensures, one.put_word.ensures) refl
 
 pub put-counts-spec : {M : Type 1} → statement M
 put-counts-spec =
     tie.close
-    (tie.spec put-word-requires put-word-requires-2 put-long-requires put-word-requires-3 same_length returns)
+    (tie.spec put-word-requires put-word-requires-2 put-long-requires same_length returns)

@@ -1,25 +1,20 @@
--- The wait begins anew, number and place go on, and the watch looks at the value.
+-- The wait begins anew, the place goes on, and the watch looks at the value.
 use mathlib.Core.Path.{ap, ◌∙◌}
 use Rattle.recorder_runs.specs.declared.run.Run.{Run}
 use Rattle.recorder_runs.specs.Bounds.{watchSound}
 use Rattle.recorder_runs.proofs.Granted.{run-bounds}
 use Rattle.recorder_runs.proofs.Watches.{set-kept}
-use borrow.Author.Rules.{rules}
 use Rattle.recorder_runs.proofs.run.Run.after_set.Statement.{statement}
 use Rattle.recorder_runs.proofs.run.Run.after_set.Tie as tie
 
-next-number-requires : tie.Need-next-number-requires
-next-number-requires c κs = search rules
-
 next-place-requires : tie.Need-next-place-requires
 next-place-requires c κs =
-    let s = c.before in
-    let b = run-bounds s.args.plan s.args.self s.requires.1 in
+    let b = run-bounds c.args.plan c.args.self c.requires.1 in
     (b.place, b.full)
 
 watch-on-requires : tie.Need-watch-on-requires
 watch-on-requires c κs =
-    let s = c.before.before in
+    let s = c.before in
     let b = run-bounds s.args.plan s.args.self s.requires.1 in
     let e = c.next_place.ensures in (
       record {
@@ -32,12 +27,8 @@ watch-on-requires c κs =
 
 returns : tie.Need-returns
 returns c memory v =
-    let placed = c.before in
-    let counted = placed.before in
-    let s = counted.before in
-    c.watch-on.ensures
-    ∙ set-kept s.args.plan s.args.self placed.next_place.result counted.next-number.result s.args.value memory
-    placed.next_place.ensures counted.next-number.ensures v
+    let s = c.before.before in
+    c.watch-on.ensures ∙ set-kept s.args.plan s.args.self c.before.next_place.result s.args.value memory c.before.next_place.ensures v
 
 pub after-set-spec : {M : Type 1} → statement M
-after-set-spec = tie.close (tie.spec next-number-requires next-place-requires watch-on-requires returns)
+after-set-spec = tie.close (tie.spec next-place-requires watch-on-requires returns)

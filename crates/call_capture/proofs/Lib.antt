@@ -1,3 +1,0 @@
--- The laws, lowest first.
-pub mod Shortest
-pub mod Outcomes

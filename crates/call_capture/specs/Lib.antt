@@ -1,2 +1,0 @@
--- What the capture call promises.
-pub mod Promises

@@ -1,8 +1,0 @@
--- The capture call's promise: its result and the whole lent list, refused or not.
-use Rattle.std.specs.Prelude.{◌≡◌, List, ℕ}
-use Rattle.document_captures.specs.Captures.{captureRefusal, captureCount, captureList}
-use Rattle.call_capture.specs.declared.Listed.{Listed}
-
-pub record CaptureDone (bytes before : List ℕ) (r : Listed) (after : List ℕ) : Type 0 where
-  pub result : r ≡ record { refusal = captureRefusal bytes before; count = captureCount bytes before }
-  pub list : after ≡ captureList bytes before

@@ -1,2 +1,0 @@
--- Export and import, number by number.
-pub mod Files

@@ -1,2 +1,0 @@
--- What export and import promise.
-pub mod Promises

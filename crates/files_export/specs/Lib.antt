@@ -1,2 +1,0 @@
--- What a writer of a calibration file has done.
-pub mod Put

@@ -1,2 +1,0 @@
--- A text line by line, for the proofs of this crate.
-pub mod Turns

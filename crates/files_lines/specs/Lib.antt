@@ -1,3 +1,0 @@
--- What is known of a line and of where it ends.
-pub mod Right
-pub mod Split

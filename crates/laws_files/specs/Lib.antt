@@ -1,2 +1,0 @@
--- Which bytes the records of a calibration file name.
-pub mod Names

@@ -1,1 +1,0 @@
-// What follows from the definition of calibration files; there is no code in it.

@@ -1,2 +1,0 @@
--- A frame without an exception.
-pub mod Unexcepted

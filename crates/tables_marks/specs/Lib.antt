@@ -1,2 +1,0 @@
--- How many entries a table has.
-pub mod Counted
