@@ -1,12 +1,12 @@
 // The application command where it lies in the block: stored by a 0x10, collected and answered by the gate's own program.
 ghost use Rattle.std.specs.Prelude.{◌≡◌, true, ◌+◌, ◌≤◌, length};
 ghost use Rattle.std.proofs.lemmas.List.Edits.{sets};
-ghost use Rattle.document.specs.Numbers.{mostData};
+ghost use Rattle.document.specs.Numbers.{most_data};
 ghost use Rattle.document.specs.Areas.{bytes_at};
-ghost use Rattle.document.specs.Application.{isPending, isCollected};
-ghost use Rattle.application_state.specs.State.{applicationOf, sound, endedCommand, sentCommand};
-ghost use Rattle.state_block.specs.Places.{bodyPlace, commandPlace, scopePlace, stateLength};
-ghost use Rattle.state_block.specs.Layout.{dataTo, decodedApplication};
+ghost use Rattle.document.specs.Application.{is_pending, is_collected};
+ghost use Rattle.application_state.specs.State.{application_of, sound, ended_command, sent_command};
+ghost use Rattle.state_block.specs.Places.{body_place, command_place, scope_place, state_length};
+ghost use Rattle.state_block.specs.Layout.{data_to, decoded_application};
 ghost use Rattle.application_block.specs.Stored.{Stored, Collects};
 
 use application_state::{COLLECTED, ENDED, WAITING};
@@ -16,24 +16,24 @@ use memory_ranges::copy_in;
 use state_block::{APPLICATION, BODY, COMMAND, COUNT, RESULT};
 
 pub fn is_pending(state: &[u8]) -> bool
-    requires { stateLength ≤ length state.now }
-    ensures { result ≡ isPending (applicationOf (decodedApplication state.now)) }
+    requires { state_length ≤ length state.now }
+    ensures { result ≡ is_pending (application_of (decoded_application state.now)) }
 {
     let phase = state[APPLICATION];
     phase == WAITING || phase == COLLECTED
 }
 
 pub fn is_collected(state: &[u8]) -> bool
-    requires { stateLength ≤ length state.now }
-    ensures { result ≡ isCollected (applicationOf (decodedApplication state.now)) }
+    requires { state_length ≤ length state.now }
+    ensures { result ≡ is_collected (application_of (decoded_application state.now)) }
 {
     state[APPLICATION] == COLLECTED
 }
 
 // The message's data to the command's place, byte by byte: both are parts of one block.
 fn copy_down(state: &mut [u8], count: usize)
-    requires { (stateLength ≤ length state.old) × (count ≤ mostData) }
-    ensures { state.new ≡ sets state.old commandPlace (bytes_at state.old bodyPlace count) }
+    requires { (state_length ≤ length state.old) × (count ≤ most_data) }
+    ensures { state.new ≡ sets state.old command_place (bytes_at state.old body_place count) }
 {
     let mut i = 0;
     while i < count {
@@ -44,8 +44,8 @@ fn copy_down(state: &mut [u8], count: usize)
 
 // The data of a message stand in the block up to a place.
 pub fn send(state: &mut [u8], to: usize)
-    requires { (stateLength ≤ length state.old) × (bodyPlace ≤ to) × (to ≤ scopePlace) }
-    ensures { Stored state.old (sentCommand (dataTo state.old to) (decodedApplication state.old)) state.new }
+    requires { (state_length ≤ length state.old) × (body_place ≤ to) × (to ≤ scope_place) }
+    ensures { Stored state.old (sent_command (data_to state.old to) (decoded_application state.old)) state.new }
 {
     let count = to - BODY;
     put_byte(state, APPLICATION, WAITING);
@@ -56,7 +56,7 @@ pub fn send(state: &mut [u8], to: usize)
 
 // How many bytes the command has; none where nothing is new.
 pub fn collect(state: &mut [u8], out: &mut [u8]) -> usize
-    requires { (stateLength ≤ length state.old) × (sound (decodedApplication state.old) ≡ true) × (mostData ≤ length out.old) }
+    requires { (state_length ≤ length state.old) × (sound (decoded_application state.old) ≡ true) × (most_data ≤ length out.old) }
     ensures { Collects state.old out.old result state.new out.new }
 {
     if state[APPLICATION] != WAITING {
@@ -70,8 +70,8 @@ pub fn collect(state: &mut [u8], out: &mut [u8]) -> usize
 }
 
 pub fn report(state: &mut [u8], res: u8)
-    requires { stateLength ≤ length state.old }
-    ensures { Stored state.old (endedCommand res (decodedApplication state.old)) state.new }
+    requires { state_length ≤ length state.old }
+    ensures { Stored state.old (ended_command res (decoded_application state.old)) state.new }
 {
     put_byte(state, APPLICATION, ENDED);
     put_byte(state, COUNT, 0);

@@ -10,48 +10,48 @@ use Rattle.document.specs.Areas.{bytes_at}
 
 module _ (l : List ℕ) where
   -- a byte and those behind it
-  pub bytes-cons : (i n : ℕ) → i < length l → get_or l i 0 ∷ bytes_at l (suc i) n ≡ bytes_at l i (suc n)
-  bytes-cons i n h = ap (take (suc n)) (sym (drop-cons l i 0 h))
+  pub bytes_cons : (i n : ℕ) → i < length l → get_or l i 0 ∷ bytes_at l (suc i) n ≡ bytes_at l i (suc n)
+  bytes_cons i n h = ap (take (suc n)) (sym (drop-cons l i 0 h))
 
   -- two ranges that meet
-  pub bytes-append : (i n m : ℕ) → bytes_at l i n ++ bytes_at l (i + n) m ≡ bytes_at l i (n + m)
-  bytes-append i n m = sym (take-add n m (drop i l) ∙ ap (λ (k : List ℕ). bytes_at l i n ++ take m k) (drop-drop n i l))
+  pub bytes_append : (i n m : ℕ) → bytes_at l i n ++ bytes_at l (i + n) m ≡ bytes_at l i (n + m)
+  bytes_append i n m = sym (take-add n m (drop i l) ∙ ap (λ (k : List ℕ). bytes_at l i n ++ take m k) (drop-drop n i l))
 
-  pub bytes-length : (i n : ℕ) → i + n ≤ length l → length (bytes_at l i n) ≡ n
-  bytes-length i n h = simp (length-take, length-drop) (omega arith)
+  pub bytes_length : (i n : ℕ) → i + n ≤ length l → length (bytes_at l i n) ≡ n
+  bytes_length i n h = simp (length-take, length-drop) (omega arith)
 
 -- a store of what is there
 pub sets_same : (n : ℕ) (l : List ℕ) (i : ℕ) → i + n ≤ length l → sets l i (bytes_at l i n) ≡ l
 sets_same zero l i h = refl
 sets_same (suc n) l i h =
-    ap (sets l i) (sym (bytes-cons l i n (omega arith)))
+    ap (sets l i) (sym (bytes_cons l i n (omega arith)))
     ∙ ap (λ (k : List ℕ). sets k (suc i) (bytes_at l (suc i) n)) (set-get_or l i 0)
     ∙ sets_same n l (suc i) (omega arith)
 
 -- stores of single bytes, one behind the other
 module _ (l : List ℕ) (at : ℕ) where
-  pub two-set : (a b : ℕ) → set (set l at a) (at + 1) b ≡ sets l at (a ∷ b ∷ [])
-  two-set a b = let e : at + 1 ≡ suc at = omega arith in rw e
+  pub two_set : (a b : ℕ) → set (set l at a) (at + 1) b ≡ sets l at (a ∷ b ∷ [])
+  two_set a b = let e : at + 1 ≡ suc at = omega arith in rw e
 
-  pub four-set : (a b c d : ℕ) → set (set (set (set l at a) (at + 1) b) (at + 2) c) (at + 3) d ≡ sets l at (a ∷ b ∷ c ∷ d ∷ [])
-  four-set a b c d =
+  pub four_set : (a b c d : ℕ) → set (set (set (set l at a) (at + 1) b) (at + 2) c) (at + 3) d ≡ sets l at (a ∷ b ∷ c ∷ d ∷ [])
+  four_set a b c d =
       let e : at + 1 ≡ suc at = omega arith in
       let f : at + 2 ≡ suc (suc at) = omega arith in
       let g : at + 3 ≡ suc (suc (suc at)) = omega arith in
       rw (e, f, g)
 
 -- one byte of a range stored
-pub sets-set : (n : ℕ) (l : List ℕ) (i k b : ℕ) → k < n → i + n ≤ length l → sets l i (set (bytes_at l i n) k b) ≡ set l (i + k) b
-sets-set zero l i k b h fits = let z : ⊥ = omega arith in absurd z
-sets-set (suc n) l i zero b h fits =
-    ap (λ (r : List ℕ). sets l i (set r 0 b)) (sym (bytes-cons l i n (omega arith)))
+pub sets_set : (n : ℕ) (l : List ℕ) (i k b : ℕ) → k < n → i + n ≤ length l → sets l i (set (bytes_at l i n) k b) ≡ set l (i + k) b
+sets_set zero l i k b h fits = let z : ⊥ = omega arith in absurd z
+sets_set (suc n) l i zero b h fits =
+    ap (λ (r : List ℕ). sets l i (set r 0 b)) (sym (bytes_cons l i n (omega arith)))
     ∙ ap (sets (set l i b) (suc i)) (ap (take n) (sym (drop-set-lt (suc i) l i b (omega arith))))
     ∙ sets_same n (set l i b) (suc i) (rw length-set (omega arith))
     ∙ ap (λ (j : ℕ). set l j b) (sym (add-zero i))
-sets-set (suc n) l i (suc k) b h fits =
-    ap (λ (r : List ℕ). sets l i (set r (suc k) b)) (sym (bytes-cons l i n (omega arith)))
+sets_set (suc n) l i (suc k) b h fits =
+    ap (λ (r : List ℕ). sets l i (set r (suc k) b)) (sym (bytes_cons l i n (omega arith)))
     ∙ ap (λ (r : List ℕ). sets r (suc i) (set (bytes_at l (suc i) n) k b)) (set-get_or l i 0)
-    ∙ sets-set n l (suc i) k b (omega arith) (omega arith)
+    ∙ sets_set n l (suc i) k b (omega arith) (omega arith)
     ∙ ap (λ (j : ℕ). set l j b) (omega arith)
 
 -- a turn of clearing
@@ -64,16 +64,16 @@ clear_next l from n k h =
 
 -- ---- two stores that lie apart, in either order
 
-byte-apart : (ys l : List ℕ) (p i b : ℕ) → i < p → set (sets l p ys) i b ≡ sets (set l i b) p ys
-byte-apart [] l p i b h = refl
-byte-apart (y ∷ ys) l p i b h =
-    byte-apart ys (set l p y) (suc p) i b (omega arith)
+byte_apart : (ys l : List ℕ) (p i b : ℕ) → i < p → set (sets l p ys) i b ≡ sets (set l i b) p ys
+byte_apart [] l p i b h = refl
+byte_apart (y ∷ ys) l p i b h =
+    byte_apart ys (set l p y) (suc p) i b (omega arith)
     ∙ ap (λ (k : List ℕ). sets k (suc p) ys) (set_comm l p i y b (λ e. let z : ⊥ = omega arith in z))
 
-pub sets-apart : (xs ys l : List ℕ) (p q : ℕ) → q + length ys ≤ p → sets (sets l p xs) q ys ≡ sets (sets l q ys) p xs
-sets-apart xs [] l p q h = refl
-sets-apart xs (y ∷ ys) l p q h =
-    ap (λ (k : List ℕ). sets k (suc q) ys) (byte-apart xs l p q y (omega arith)) ∙ sets-apart xs ys (set l q y) p (suc q) (omega arith)
+pub sets_apart : (xs ys l : List ℕ) (p q : ℕ) → q + length ys ≤ p → sets (sets l p xs) q ys ≡ sets (sets l q ys) p xs
+sets_apart xs [] l p q h = refl
+sets_apart xs (y ∷ ys) l p q h =
+    ap (λ (k : List ℕ). sets k (suc q) ys) (byte_apart xs l p q y (omega arith)) ∙ sets_apart xs ys (set l q y) p (suc q) (omega arith)
 
 -- ---- a store over another
 
@@ -81,5 +81,5 @@ pub sets_over : (xs ys l : List ℕ) (i : ℕ) → length xs ≤ length ys → s
 sets_over [] ys l i h = refl
 sets_over (x ∷ xs) [] l i h = let z : ⊥ = omega arith in absurd z
 sets_over (x ∷ xs) (y ∷ ys) l i h =
-    ap (λ (k : List ℕ). sets k (suc i) ys) (byte-apart xs (set l i x) (suc i) i y (omega arith) ∙ ap (λ (k : List ℕ). sets k (suc i) xs) (set-set l i x y))
+    ap (λ (k : List ℕ). sets k (suc i) ys) (byte_apart xs (set l i x) (suc i) i y (omega arith) ∙ ap (λ (k : List ℕ). sets k (suc i) xs) (set-set l i x y))
     ∙ sets_over xs ys (set l i y) (suc i) (omega arith)

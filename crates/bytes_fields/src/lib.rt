@@ -2,8 +2,8 @@
 ghost use Rattle.std.specs.Prelude.{◌≡◌, true, [], ◌∷◌, ◌+◌, ◌≤◌, ◌<◌, length, set, replicate};
 ghost use Rattle.std.proofs.lemmas.List.Edits.{sets};
 ghost use Rattle.document.specs.Areas.{bytes_at};
-ghost use Rattle.document.specs.Values.{number, littleEndian};
-ghost use Rattle.document.specs.Variables.{definitionWidth};
+ghost use Rattle.document.specs.Values.{number, little_endian};
+ghost use Rattle.document.specs.Variables.{definition_width};
 
 use bytes_widths::{u16_of_u8, u32_of_u8};
 
@@ -36,7 +36,7 @@ pub fn put_byte(block: &mut [u8], at: usize, x: u8)
 
 pub fn put_word(block: &mut [u8], at: usize, x: u16)
     requires { at + 2 ≤ length block.old }
-    ensures { block.new ≡ sets block.old at (littleEndian 2 x) }
+    ensures { block.new ≡ sets block.old at (little_endian 2 x) }
 {
     block[at] = (x % 256) as u8;
     block[at + 1] = (x / 256 % 256) as u8;
@@ -44,7 +44,7 @@ pub fn put_word(block: &mut [u8], at: usize, x: u16)
 
 pub fn put_long(block: &mut [u8], at: usize, x: u32)
     requires { at + 4 ≤ length block.old }
-    ensures { block.new ≡ sets block.old at (littleEndian 4 x) }
+    ensures { block.new ≡ sets block.old at (little_endian 4 x) }
 {
     block[at] = (x % 256) as u8;
     block[at + 1] = (x / 256 % 256) as u8;
@@ -54,8 +54,8 @@ pub fn put_long(block: &mut [u8], at: usize, x: u32)
 
 // A definition, where it is stored.
 pub fn put_definition(block: &mut [u8], at: usize, size: u8, address: u32)
-    requires { at + definitionWidth true ≤ length block.old }
-    ensures { block.new ≡ sets block.old at (size ∷ littleEndian 4 address) }
+    requires { at + definition_width true ≤ length block.old }
+    ensures { block.new ≡ sets block.old at (size ∷ little_endian 4 address) }
 {
     block[at] = size;
     put_long(block, at + 1, address);

@@ -5,49 +5,49 @@ use Prim.Native.Nat.{ℕ, ◌-◌, ◌<◌, ◌≤◌}
 use native.Mathlib.Omega.{arith}
 use lib.ListN.{length, drop, drop_of_length-le}
 use lib.Seq.{sets}
-use Rattle.document.specs.Numbers.{answerRoom}
+use Rattle.document.specs.Numbers.{answer_room}
 use Rattle.state_parts.specs.Within.{Within}
-use Rattle.state_parts.proofs.Keeps.{within-fits}
+use Rattle.state_parts.proofs.Keeps.{within_fits}
 use Rattle.state_byte.specs.Walk.{Walk, room, walked}
-use Rattle.state_byte.proofs.Walks.{walked_all, walked-short}
-use Rattle.state_block.specs.Places.{stateLength}
+use Rattle.state_byte.proofs.Walks.{walked_all, walked_short}
+use Rattle.state_block.specs.Places.{state_length}
 use Rattle.state_block.specs.Layout.{decoded, encoded}
-use Rattle.call_byte.proofs.Stores.{target-over}
+use Rattle.call_byte.proofs.Stores.{target_over}
 use Rattle.call_block.specs.declared.Going.{Going}
-use Rattle.call_block.specs.Going.{walkAt, walk, TookNext, Gone}
+use Rattle.call_block.specs.Going.{walk_at, walk, TookNext, Gone}
 
 -- ---- a turn
 
-pub stored_on : (first block after memory left : List ℕ) → stateLength ≤ length first → Within (decoded block) memory → Within (decoded after) left
+pub stored_on : (first block after memory left : List ℕ) → state_length ≤ length first → Within (decoded block) memory → Within (decoded after) left
     → block ≡ sets first 0 (encoded (decoded block)) → after ≡ sets block 0 (encoded (decoded after)) → after ≡ sets first 0 (encoded (decoded after))
 stored_on first block after memory left long before behind stored again =
     again
     ∙ ap (λ (l : List ℕ). sets l 0 (encoded (decoded after))) stored
-    ∙ target-over first (decoded block) (decoded after) long (within-fits (decoded block) memory before) (within-fits (decoded after) left behind)
+    ∙ target_over first (decoded block) (decoded after) long (within_fits (decoded block) memory before) (within_fits (decoded after) left behind)
 
 -- ---- the end
 
-ends-short : (w : Walk) (bs : List ℕ) → room w < answerRoom → walked w bs ≡ w
-ends-short w [] short = walked_all w
-ends-short w (b ∷ bs) short = walked-short w b bs short
+ends_short : (w : Walk) (bs : List ℕ) → room w < answer_room → walked w bs ≡ w
+ends_short w [] short = walked_all w
+ends_short w (b ∷ bs) short = walked_short w b bs short
 
 module _ (bytes : List ℕ) (taken written : ℕ) (first memory buffer block left told : List ℕ)
-    (goes : walk first bytes memory buffer ≡ walked (walkAt taken written block left told) (drop taken bytes)) (stored : block ≡ sets first 0 (encoded (decoded block))) where
-  gone : walked (walkAt taken written block left told) (drop taken bytes) ≡ walkAt taken written block left told
+    (goes : walk first bytes memory buffer ≡ walked (walk_at taken written block left told) (drop taken bytes)) (stored : block ≡ sets first 0 (encoded (decoded block))) where
+  gone : walked (walk_at taken written block left told) (drop taken bytes) ≡ walk_at taken written block left told
       → Gone bytes (record { taken = taken; written = written }) first memory buffer block left told
   gone end =
-      let is : walkAt taken written block left told ≡ walk first bytes memory buffer = sym (goes ∙ end) in
+      let is : walk_at taken written block left told ≡ walk first bytes memory buffer = sym (goes ∙ end) in
       record {
         taken = ap (λ (w : Walk). w.taken) is;
         written = ap (λ (w : Walk). w.written) is;
         state = stored ∙ ap (λ (w : Walk). sets first 0 (encoded w.next)) is;
-        memory-left = ap (λ (w : Walk). w.memory) is;
-        buffer-told = ap (λ (w : Walk). w.buffer) is;
+        memory_left = ap (λ (w : Walk). w.memory) is;
+        buffer_told = ap (λ (w : Walk). w.buffer) is;
       }
 
-  pub gone-all : length bytes ≤ taken → Gone bytes (record { taken = taken; written = written }) first memory buffer block left told
-  gone-all all =
-      gone (ap (walked (walkAt taken written block left told)) (drop_of_length-le bytes all) ∙ walked_all (walkAt taken written block left told))
+  pub gone_all : length bytes ≤ taken → Gone bytes (record { taken = taken; written = written }) first memory buffer block left told
+  gone_all all =
+      gone (ap (walked (walk_at taken written block left told)) (drop_of_length-le bytes all) ∙ walked_all (walk_at taken written block left told))
 
-  pub gone-short : length told - written < answerRoom → Gone bytes (record { taken = taken; written = written }) first memory buffer block left told
-  gone-short short = gone (ends-short (walkAt taken written block left told) (drop taken bytes) short)
+  pub gone_short : length told - written < answer_room → Gone bytes (record { taken = taken; written = written }) first memory buffer block left told
+  gone_short short = gone (ends_short (walk_at taken written block left told) (drop taken bytes) short)

@@ -7,15 +7,15 @@ use Rattle.state_block.specs.Layout.{decoded, encoded}
 use Rattle.call_block.specs.declared.Going.{Going}
 
 -- the walk that has come so far
-abbrev pub walkAt : ℕ → ℕ → List ℕ → List ℕ → List ℕ → Walk
-walkAt taken written block memory buffer =
+abbrev pub walk_at : ℕ → ℕ → List ℕ → List ℕ → List ℕ → Walk
+walk_at taken written block memory buffer =
     record { taken = taken; written = written; next = decoded block; memory = memory; buffer = buffer }
 
 -- bytes from a place on are taken: the walk goes on to the same end
 pub record TookNext (bytes : List ℕ) (from at : ℕ) (r : Going) (block memory buffer after left told : List ℕ) : Type 0 where
   pub goes :
-      walked (walkAt from at block memory buffer) (drop from bytes)
-      ≡ walked (walkAt r.taken r.written after left told) (drop r.taken bytes)
+      walked (walk_at from at block memory buffer) (drop from bytes)
+      ≡ walked (walk_at r.taken r.written after left told) (drop r.taken bytes)
   pub state : after ≡ sets block 0 (encoded (decoded after))
   pub within : Within (decoded after) left
   pub onward : from < r.taken
@@ -31,5 +31,5 @@ pub record Gone (bytes : List ℕ) (r : Going) (block memory buffer after left t
   pub taken : r.taken ≡ (walk block bytes memory buffer).taken
   pub written : r.written ≡ (walk block bytes memory buffer).written
   pub state : after ≡ sets block 0 (encoded (walk block bytes memory buffer).next)
-  pub memory-left : left ≡ (walk block bytes memory buffer).memory
-  pub buffer-told : told ≡ (walk block bytes memory buffer).buffer
+  pub memory_left : left ≡ (walk block bytes memory buffer).memory
+  pub buffer_told : told ≡ (walk block bytes memory buffer).buffer

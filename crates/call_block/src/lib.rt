@@ -1,8 +1,8 @@
 // A block of bytes at once: refused, or each byte taken as it would be singly, while there is room for an answer.
 ghost use Rattle.std.specs.Prelude.{◌≡◌, ◌+◌, ◌<◌, ◌≤◌, length};
-ghost use Rattle.document.specs.Numbers.{answerRoom};
+ghost use Rattle.document.specs.Numbers.{answer_room};
 ghost use Rattle.state_parts.specs.Within.{Within};
-ghost use Rattle.state_block.specs.Places.{stateLength};
+ghost use Rattle.state_block.specs.Places.{state_length};
 ghost use Rattle.state_block.specs.Layout.{decoded};
 ghost use Rattle.call_block.specs.Going.{TookNext, Gone};
 ghost use Rattle.call_block.specs.Promises.{BlockDone};
@@ -38,7 +38,7 @@ fn take_next(
     answers: &mut [u8],
     at: usize,
 ) -> Going
-    requires { (stateLength ≤ length state.old) × Within (decoded state.old) memory.old × (from < length bytes.now) × (at + answerRoom ≤ length answers.old) }
+    requires { (state_length ≤ length state.old) × Within (decoded state.old) memory.old × (from < length bytes.now) × (at + answer_room ≤ length answers.old) }
     ensures { TookNext bytes.now from at result state.old memory.old answers.old state.new memory.new answers.new }
 {
     let next = pass_over(state, bytes, from);
@@ -66,7 +66,7 @@ fn take_next(
 
 // "It takes bytes while 132 bytes of room are left, and no longer"
 fn take_while_room(state: &mut [u8], bytes: &[u8], memory: &mut [u8], answers: &mut [u8]) -> Going
-    requires { (stateLength ≤ length state.old) × Within (decoded state.old) memory.old }
+    requires { (state_length ≤ length state.old) × Within (decoded state.old) memory.old }
     ensures { Gone bytes.now result state.old memory.old answers.old state.new memory.new answers.new }
 {
     let mut taken = 0;

@@ -5,7 +5,7 @@ use Prim.Native.Nat.{ℕ, ◌<◌, ◌≤◌}
 use native.Mathlib.Omega.{arith}
 use lib.ListN.{length, get_or}
 use lib.Seq.{sets}
-use Rattle.document.specs.Numbers.{answerRoom}
+use Rattle.document.specs.Numbers.{answer_room}
 use Rattle.line_receiver.specs.declared.Event.{Event}
 use Rattle.line_receiver.specs.declared.Event.TheVariants.{Nothing, Keep, Whole}
 use Rattle.line_receiver.specs.Report.{HeldMessage}
@@ -14,92 +14,92 @@ use Rattle.scope_state.specs.State as scope
 use Rattle.state_parts.specs.State.{Target, Instruments}
 use Rattle.state_parts.specs.Widths.{TargetFits}
 use Rattle.state_parts.specs.Within.{Within}
-use Rattle.state_parts.proofs.Keeps.{within-fits}
-use Rattle.state_byte.specs.AnsweredHeld.{instrumentsHeld}
+use Rattle.state_parts.proofs.Keeps.{within_fits}
+use Rattle.state_byte.specs.AnsweredHeld.{instruments_held}
 use Rattle.state_byte.specs.Turn.{Turn, hearing, silent, answering, turn}
-use Rattle.state_byte.proofs.Keeps.{byte-keeps}
-use Rattle.state_byte.proofs.TurnLaws.{by-event}
+use Rattle.state_byte.proofs.Keeps.{byte_keeps}
+use Rattle.state_byte.proofs.TurnLaws.{by_event}
 use Rattle.serve_message.specs.declared.Whole.{Whole as Message}
 use Rattle.serve_message.specs.Held.{held_of}
 use Rattle.serve_message.specs.Responds.{Lent, Responds}
-use Rattle.state_block.specs.Layout.{decodedReceiver, decodedBody, decodedInstruments, decoded, encoded}
-use Rattle.state_block.specs.Places.{stateLength}
-use Rattle.state_block.proofs.Back.{stored-decoded}
-use Rattle.state_block.proofs.Stored.{instruments-stored}
+use Rattle.state_block.specs.Layout.{decoded_receiver, decoded_body, decoded_instruments, decoded, encoded}
+use Rattle.state_block.specs.Places.{state_length}
+use Rattle.state_block.proofs.Back.{stored_decoded}
+use Rattle.state_block.proofs.Stored.{instruments_stored}
 use Rattle.call_byte.specs.declared.hearing.Heard.{Heard}
 use Rattle.call_byte.specs.declared.hearing.Heard.TheVariants.{Quiet, Message as Brings}
-use Rattle.call_byte.specs.Heard.{heardOf, answeredBy, Hears, isFramed}
+use Rattle.call_byte.specs.Heard.{heard_of, answered_by, Hears, is_framed}
 use Rattle.call_byte.specs.Promises.{Turned}
-use Rattle.call_byte.proofs.Stores.{target-over}
-use Rattle.call_byte.proofs.Framed.{heard-framed, hearing-fits, hearing-instruments}
+use Rattle.call_byte.proofs.Stores.{target_over}
+use Rattle.call_byte.proofs.Framed.{heard_framed, hearing_fits, hearing_instruments}
 
 -- the turn of a byte is what it is answered with, once it is heard
-heard-turn : (t : Target) (b : ℕ) (memory buffer : List ℕ) → answeredBy (hearing t b) (heardOf (stepped t.receiver b).event) memory buffer ≡ turn t b memory buffer
-heard-turn t b memory buffer = by (stepped t.receiver b).event refl
+heard_turn : (t : Target) (b : ℕ) (memory buffer : List ℕ) → answered_by (hearing t b) (heard_of (stepped t.receiver b).event) memory buffer ≡ turn t b memory buffer
+heard_turn t b memory buffer = by (stepped t.receiver b).event refl
   where
-    by : (e : Event) → (stepped t.receiver b).event ≡ e → answeredBy (hearing t b) (heardOf (stepped t.receiver b).event) memory buffer ≡ turn t b memory buffer
-    by Nothing h = rw h (sym (by-event t b memory buffer Nothing h))
-    by (Keep at v) h = rw h (sym (by-event t b memory buffer (Keep at v) h))
-    by (Whole c n s) h = rw h (sym (by-event t b memory buffer (Whole c n s) h))
+    by : (e : Event) → (stepped t.receiver b).event ≡ e → answered_by (hearing t b) (heard_of (stepped t.receiver b).event) memory buffer ≡ turn t b memory buffer
+    by Nothing h = rw h (sym (by_event t b memory buffer Nothing h))
+    by (Keep at v) h = rw h (sym (by_event t b memory buffer (Keep at v) h))
+    by (Whole c n s) h = rw h (sym (by_event t b memory buffer (Whole c n s) h))
 
-module _ (block : List ℕ) (b : ℕ) (memory : List ℕ) (long : stateLength ≤ length block) (small : (i : ℕ) → get_or block i 0 < 256) (b-small : b < 256) (within : Within (decoded block) memory)
+module _ (block : List ℕ) (b : ℕ) (memory : List ℕ) (long : state_length ≤ length block) (small : (i : ℕ) → get_or block i 0 < 256) (b-small : b < 256) (within : Within (decoded block) memory)
     (heard : Heard) (between : List ℕ) (same : length between ≡ length block) (hears : Hears block b heard between) where
   fits : TargetFits (hearing (decoded block) b)
-  fits = hearing-fits (decoded block) b (within-fits (decoded block) memory within)
+  fits = hearing_fits (decoded block) b (within_fits (decoded block) memory within)
 
-  decoded-heard : decoded between ≡ hearing (decoded block) b
-  decoded-heard = ap decoded hears.state ∙ stored-decoded block (hearing (decoded block) b) long fits
+  decoded_heard : decoded between ≡ hearing (decoded block) b
+  decoded_heard = ap decoded hears.state ∙ stored_decoded block (hearing (decoded block) b) long fits
 
   -- what the turn is, by what was heard
-  turn-of : (h : Heard) → heard ≡ h → (buffer : List ℕ) → answeredBy (decoded between) h memory buffer ≡ turn (decoded block) b memory buffer
-  turn-of h e buffer = (λ i. answeredBy (decoded-heard i) ((sym e ∙ hears.brought) i) memory buffer) ∙ heard-turn (decoded block) b memory buffer
+  turn_of : (h : Heard) → heard ≡ h → (buffer : List ℕ) → answered_by (decoded between) h memory buffer ≡ turn (decoded block) b memory buffer
+  turn_of h e buffer = (λ i. answered_by (decoded_heard i) ((sym e ∙ hears.brought) i) memory buffer) ∙ heard_turn (decoded block) b memory buffer
 
-  pub quiet-turned : heard ≡ Quiet → (buffer : List ℕ) → Turned (turn (decoded block) b memory buffer) block 0 between memory buffer
-  quiet-turned e buffer =
-      let whole = turn-of Quiet e buffer in
+  pub quiet_turned : heard ≡ Quiet → (buffer : List ℕ) → Turned (turn (decoded block) b memory buffer) block 0 between memory buffer
+  quiet_turned e buffer =
+      let whole = turn_of Quiet e buffer in
       record {
         length = ap (λ (u : Turn). u.length) whole;
-        state = hears.state ∙ ap (λ (t : Target). sets block 0 (encoded t)) (sym decoded-heard) ∙ ap (λ (u : Turn). sets block 0 (encoded u.next)) whole;
-        memory-left = ap (λ (u : Turn). u.memory) whole;
-        buffer-told = ap (λ (u : Turn). u.buffer) whole;
+        state = hears.state ∙ ap (λ (t : Target). sets block 0 (encoded t)) (sym decoded_heard) ∙ ap (λ (u : Turn). sets block 0 (encoded u.next)) whole;
+        memory_left = ap (λ (u : Turn). u.memory) whole;
+        buffer_told = ap (λ (u : Turn). u.buffer) whole;
       }
 
   module _ (message : Message) (e : heard ≡ Brings message) where
-    length-small : (decodedReceiver block).length ≤ 255
-    unfolding decodedReceiver
-    length-small = omega (arith, small 3)
+    length_small : (decoded_receiver block).length ≤ 255
+    unfolding decoded_receiver
+    length_small = omega (arith, small 3)
 
     -- all that answering asks for
-    pub answer-lent : (out : List ℕ) → answerRoom ≤ length out → Lent message between memory out
-    answer-lent out room =
+    pub answer_lent : (out : List ℕ) → answer_room ≤ length out → Lent message between memory out
+    answer_lent out room =
         record {
-          fits = ap isFramed (sym e ∙ hears.brought) ∙ heard-framed (decodedReceiver block) b within.link-part.receiver length-small;
+          fits = ap is_framed (sym e ∙ hears.brought) ∙ heard_framed (decoded_receiver block) b within.link_part.receiver length_small;
           long = omega (arith, long, same);
-          scope-sound =
-              ap (λ (t : Target). scope.sound t.instruments.scope) decoded-heard
-              ∙ ap (λ (i : Instruments). scope.sound i.scope) (hearing-instruments (decoded block) b)
-              ∙ within.scope-part.sound;
-          memory-whole = within.memory-part.size;
+          scope_sound =
+              ap (λ (t : Target). scope.sound t.instruments.scope) decoded_heard
+              ∙ ap (λ (i : Instruments). scope.sound i.scope) (hearing_instruments (decoded block) b)
+              ∙ within.scope_part.sound;
+          memory_whole = within.memory_part.size;
           room = room;
         }
 
     abbrev held : HeldMessage
-    held = held_of message (decodedBody between)
+    held = held_of message (decoded_body between)
 
-    pub message-turned : (buffer after left sent : List ℕ) (written : ℕ) → ((i : ℕ) → get_or between i 0 < 256)
+    pub message_turned : (buffer after left sent : List ℕ) (written : ℕ) → ((i : ℕ) → get_or between i 0 < 256)
         → Responds message between memory buffer written sent after left
         → Turned (turn (decoded block) b memory buffer) block written after left sent
-    message-turned buffer after left sent written between-small done =
-        let whole = turn-of (Brings message) e buffer in
+    message_turned buffer after left sent written between-small done =
+        let whole = turn_of (Brings message) e buffer in
         let u = turn (decoded block) b memory buffer in
-        let next_fits = within-fits u.next u.memory (byte-keeps (decoded block) memory buffer within b b-small) in
+        let next_fits = within_fits u.next u.memory (byte_keeps (decoded block) memory buffer within b b-small) in
         let behind : after ≡ sets between 0 (encoded (turn (decoded block) b memory buffer).next) =
         done.kept
-        ∙ instruments-stored between (omega (arith, long, same)) between-small (instrumentsHeld (decodedInstruments between) held)
+        ∙ instruments_stored between (omega (arith, long, same)) between-small (instruments_held (decoded_instruments between) held)
         ∙ ap (λ (u : Turn). sets between 0 (encoded u.next)) whole in
         record {
           length = done.told.length ∙ ap (λ (u : Turn). u.length) whole;
-          state = behind ∙ ap (λ (l : List ℕ). sets l 0 (encoded u.next)) hears.state ∙ target-over block (hearing (decoded block) b) u.next long fits next_fits;
-          memory-left = done.memory ∙ ap (λ (u : Turn). u.memory) whole;
-          buffer-told = done.told.buffer ∙ ap (λ (u : Turn). u.buffer) whole;
+          state = behind ∙ ap (λ (l : List ℕ). sets l 0 (encoded u.next)) hears.state ∙ target_over block (hearing (decoded block) b) u.next long fits next_fits;
+          memory_left = done.memory ∙ ap (λ (u : Turn). u.memory) whole;
+          buffer_told = done.told.buffer ∙ ap (λ (u : Turn). u.buffer) whole;
         }

@@ -1,31 +1,31 @@
 -- What a byte brought, and the turn that it makes.
 use Rattle.std.specs.Prelude.{◌≡◌, Bool, true, List, ℕ}
 use Rattle.std.proofs.lemmas.List.Edits.{sets}
-use Rattle.document.specs.Message.{lengthFits}
+use Rattle.document.specs.Message.{length_fits}
 use Rattle.line_receiver.specs.declared.Event.{Event}
 use Rattle.line_receiver.specs.declared.Event.TheVariants.{Nothing, Keep, Whole}
 use Rattle.line_receiver.specs.Step.{stepped}
 use Rattle.state_parts.specs.State.{Target}
 use Rattle.state_byte.specs.Turn.{Turn, hearing, silent, answering}
-use Rattle.state_block.specs.Layout.{decoded, decodedReceiver, encoded}
+use Rattle.state_block.specs.Layout.{decoded, decoded_receiver, encoded}
 use Rattle.call_byte.specs.declared.hearing.Heard.{Heard}
 use Rattle.call_byte.specs.declared.hearing.Heard.TheVariants.{Quiet, Message}
 
-abbrev pub heardOf : Event → Heard
-heardOf Nothing = Quiet
-heardOf (Keep at b) = Quiet
-heardOf (Whole command n sum) = Message (record { command = command; length = n; sum = sum })
+abbrev pub heard_of : Event → Heard
+heard_of Nothing = Quiet
+heard_of (Keep at b) = Quiet
+heard_of (Whole command n sum) = Message (record { command = command; length = n; sum = sum })
 
-abbrev pub answeredBy : Target → Heard → List ℕ → List ℕ → Turn
-answeredBy t Quiet memory buffer = silent t memory buffer
-answeredBy t (Message m) memory buffer = answering t m.command m.length m.sum memory buffer
+abbrev pub answered_by : Target → Heard → List ℕ → List ℕ → Turn
+answered_by t Quiet memory buffer = silent t memory buffer
+answered_by t (Message m) memory buffer = answering t m.command m.length m.sum memory buffer
 
 -- a byte is heard: what it brought, and the block with the receiver behind it
 pub record Hears (block : List ℕ) (b : ℕ) (heard : Heard) (after : List ℕ) : Type 0 where
-  pub brought : heard ≡ heardOf (stepped (decodedReceiver block) b).event
+  pub brought : heard ≡ heard_of (stepped (decoded_receiver block) b).event
   pub state : after ≡ sets block 0 (encoded (hearing (decoded block) b))
 
 -- a message has the length that its command gives
-abbrev pub isFramed : Heard → Bool
-isFramed Quiet = true
-isFramed (Message m) = lengthFits m.command m.length
+abbrev pub is_framed : Heard → Bool
+is_framed Quiet = true
+is_framed (Message m) = length_fits m.command m.length

@@ -1,6 +1,6 @@
 // A byte of the line in the block: the receiver takes it.
 ghost use Rattle.std.specs.Prelude.{◌≤◌, length};
-ghost use Rattle.state_block.specs.Places.{stateLength};
+ghost use Rattle.state_block.specs.Places.{state_length};
 ghost use Rattle.call_byte.specs.Heard.{Hears};
 
 use bytes_fields::put_byte;
@@ -18,7 +18,7 @@ pub enum Heard {
 
 // The receiver is stored, and at most one byte of the body.
 pub fn hear(state: &mut [u8], byte: u8) -> Heard
-    requires { stateLength ≤ length state.old }
+    requires { state_length ≤ length state.old }
     ensures { Hears state.old byte result state.new }
 {
     let receiver = receiver_in(state);

@@ -7,50 +7,50 @@ use native.Mathlib.Omega.{arith}
 use borrow.Author.Tests.{lt-ltb, le-ltb, ltb-false}
 use lib.Dec.{ltb}
 use lib.ListN.{length}
-use Rattle.document.specs.Numbers.{mostData, taken, stateRefused, roomRefused, resultRefused}
-use Rattle.document.specs.Application.{Application, isCollected, collectRefusal, reportRefusal}
+use Rattle.document.specs.Numbers.{most_data, taken, state_refused, room_refused, result_refused}
+use Rattle.document.specs.Application.{Application, is_collected, collect_refusal, report_refusal}
 use Rattle.document.proofs.Cases.{split}
 
 module _ (sound : Bool) (buffer : List ℕ) where
-  pub collect-outside : sound ≡ false → stateRefused ≡ collectRefusal sound buffer
-  collect-outside bad = sym (rw bad refl)
+  pub collect_outside : sound ≡ false → state_refused ≡ collect_refusal sound buffer
+  collect_outside bad = sym (rw bad refl)
 
-  pub collect-short : sound ≡ true → length buffer < mostData → roomRefused ≡ collectRefusal sound buffer
-  collect-short ok less = sym (rw (ok, lt-ltb (length buffer) mostData less) refl)
+  pub collect_short : sound ≡ true → length buffer < most_data → room_refused ≡ collect_refusal sound buffer
+  collect_short ok less = sym (rw (ok, lt-ltb (length buffer) most_data less) refl)
 
-  pub collect-fine : sound ≡ true → mostData ≤ length buffer → taken ≡ collectRefusal sound buffer
-  collect-fine ok room = sym (rw (ok, le-ltb (length buffer) mostData room) refl)
+  pub collect_fine : sound ≡ true → most_data ≤ length buffer → taken ≡ collect_refusal sound buffer
+  collect_fine ok room = sym (rw (ok, le-ltb (length buffer) most_data room) refl)
 
   -- and back
-  pub collect-known : collectRefusal sound buffer ≡ taken → (sound ≡ true) × (mostData ≤ length buffer)
-  collect-known fine =
+  pub collect_known : collect_refusal sound buffer ≡ taken → (sound ≡ true) × (most_data ≤ length buffer)
+  collect_known fine =
       split sound
-      (λ ok. split (ltb (length buffer) mostData)
-      (λ less. let e : ◌≡◌ {A = ℕ} roomRefused taken = rw (ok, less) at fine in let b : ⊥ = omega arith in absurd b)
-      (λ room. (ok, ltb-false (length buffer) mostData room)))
-      (λ bad. let e : ◌≡◌ {A = ℕ} stateRefused taken = rw bad at fine in let b : ⊥ = omega arith in absurd b)
+      (λ ok. split (ltb (length buffer) most_data)
+      (λ less. let e : ◌≡◌ {A = ℕ} room_refused taken = rw (ok, less) at fine in let b : ⊥ = omega arith in absurd b)
+      (λ room. (ok, ltb-false (length buffer) most_data room)))
+      (λ bad. let e : ◌≡◌ {A = ℕ} state_refused taken = rw bad at fine in let b : ⊥ = omega arith in absurd b)
 
 module _ (sound : Bool) (a : Application) (result : ℕ) where
-  pub report-outside : sound ≡ false → stateRefused ≡ reportRefusal sound a result
-  report-outside bad = sym (rw bad refl)
+  pub report_outside : sound ≡ false → state_refused ≡ report_refusal sound a result
+  report_outside bad = sym (rw bad refl)
 
-  pub report-above : sound ≡ true → 0xFD < result → resultRefused ≡ reportRefusal sound a result
-  report-above ok above = sym (rw (ok, lt-ltb 0xFD result above) refl)
+  pub report_above : sound ≡ true → 0xFD < result → result_refused ≡ report_refusal sound a result
+  report_above ok above = sym (rw (ok, lt-ltb 0xFD result above) refl)
 
   module _ (ok : sound ≡ true) (small : result ≤ 0xFD) where
-    pub report-unasked : isCollected a ≡ false → resultRefused ≡ reportRefusal sound a result
-    report-unasked none = sym (rw (ok, le-ltb 0xFD result small, none) refl)
+    pub report_unasked : is_collected a ≡ false → result_refused ≡ report_refusal sound a result
+    report_unasked none = sym (rw (ok, le-ltb 0xFD result small, none) refl)
 
-    pub report-fine : isCollected a ≡ true → taken ≡ reportRefusal sound a result
-    report-fine some = sym (rw (ok, le-ltb 0xFD result small, some) refl)
+    pub report_fine : is_collected a ≡ true → taken ≡ report_refusal sound a result
+    report_fine some = sym (rw (ok, le-ltb 0xFD result small, some) refl)
 
   -- and back
-  pub report-known : reportRefusal sound a result ≡ taken → (sound ≡ true) × (result ≤ 0xFD) × (isCollected a ≡ true)
-  report-known fine =
+  pub report_known : report_refusal sound a result ≡ taken → (sound ≡ true) × (result ≤ 0xFD) × (is_collected a ≡ true)
+  report_known fine =
       split sound
       (λ ok. split (ltb 0xFD result)
-      (λ above. let e : ◌≡◌ {A = ℕ} resultRefused taken = rw (ok, above) at fine in let b : ⊥ = omega arith in absurd b)
-      (λ small. split (isCollected a)
+      (λ above. let e : ◌≡◌ {A = ℕ} result_refused taken = rw (ok, above) at fine in let b : ⊥ = omega arith in absurd b)
+      (λ small. split (is_collected a)
       (λ some. (ok, ltb-false 0xFD result small, some))
-      (λ none. let e : ◌≡◌ {A = ℕ} resultRefused taken = rw (ok, small, none) at fine in let b : ⊥ = omega arith in absurd b)))
-      (λ bad. let e : ◌≡◌ {A = ℕ} stateRefused taken = rw bad at fine in let b : ⊥ = omega arith in absurd b)
+      (λ none. let e : ◌≡◌ {A = ℕ} result_refused taken = rw (ok, small, none) at fine in let b : ⊥ = omega arith in absurd b)))
+      (λ bad. let e : ◌≡◌ {A = ℕ} state_refused taken = rw bad at fine in let b : ⊥ = omega arith in absurd b)

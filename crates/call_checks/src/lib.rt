@@ -1,7 +1,7 @@
 // A state begun, and looked at: reset, check, and the numbers with which the calls that take a state refuse.
 ghost use Rattle.std.specs.Prelude.{◌≡◌};
-ghost use Rattle.document.specs.Calls.{byteRefusal, tickRefusal};
-ghost use Rattle.call_checks.specs.Promises.{blockSound, ResetDone, Checked, collectNumber, reportNumber};
+ghost use Rattle.document.specs.Calls.{byte_refusal, tick_refusal};
+ghost use Rattle.call_checks.specs.Promises.{block_sound, ResetDone, Checked, collect_number, report_number};
 
 use application_block::is_collected;
 use application_state::MOST_RESULT;
@@ -22,7 +22,7 @@ pub fn reset(state: &mut [u8]) -> u8
 }
 
 fn is_sound(state: &[u8]) -> bool
-    ensures { result ≡ blockSound state.now }
+    ensures { result ≡ block_sound state.now }
 {
     if !is_long_enough(state) {
         return false;
@@ -41,7 +41,7 @@ pub fn check(state: &[u8]) -> u8
 
 // The number that a byte and a tick ask for first.
 pub fn tick_refusal(state: &[u8], memory: &[u8]) -> u8
-    ensures { result ≡ tickRefusal (blockSound state.now) memory.now }
+    ensures { result ≡ tick_refusal (block_sound state.now) memory.now }
 {
     if !is_sound(state) {
         return STATE_REFUSED;
@@ -53,7 +53,7 @@ pub fn tick_refusal(state: &[u8], memory: &[u8]) -> u8
 }
 
 pub fn byte_refusal(state: &[u8], memory: &[u8], answer: &[u8]) -> u8
-    ensures { result ≡ byteRefusal (blockSound state.now) memory.now answer.now }
+    ensures { result ≡ byte_refusal (block_sound state.now) memory.now answer.now }
 {
     let refusal = tick_refusal(state, memory);
     if refusal != TAKEN {
@@ -66,7 +66,7 @@ pub fn byte_refusal(state: &[u8], memory: &[u8], answer: &[u8]) -> u8
 }
 
 pub fn collect_refusal(state: &[u8], out: &[u8]) -> u8
-    ensures { result ≡ collectNumber state.now out.now }
+    ensures { result ≡ collect_number state.now out.now }
 {
     if !is_sound(state) {
         return STATE_REFUSED;
@@ -78,7 +78,7 @@ pub fn collect_refusal(state: &[u8], out: &[u8]) -> u8
 }
 
 pub fn report_refusal(state: &[u8], res: u8) -> u8
-    ensures { result ≡ reportNumber state.now res }
+    ensures { result ≡ report_number state.now res }
 {
     if !is_sound(state) {
         return STATE_REFUSED;

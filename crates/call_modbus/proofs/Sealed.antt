@@ -7,31 +7,31 @@ use native.Mathlib.Numerals.{add-one}
 use native.Mathlib.Omega.{arith}
 use lib.ListN.{length, set, take, drop, length-append}
 use lib.Seq.{sets, sets-eq, take_at}
-use Rattle.document.specs.Values.{littleEndian}
-use Rattle.document.specs.CheckSum.{checkSum, withCheckSum}
-use Rattle.memory_ranges.proofs.Copies.{stored-append}
+use Rattle.document.specs.Values.{little_endian}
+use Rattle.document.specs.CheckSum.{check_sum, with_check_sum}
+use Rattle.memory_ranges.proofs.Copies.{stored_append}
 use Rattle.modbus_functions.specs.Put.{Put}
 
 -- what was put stands at the front
-pub front-again : (bytes out : List ℕ) → length bytes ≤ length out → take (length bytes) (sets out 0 bytes) ≡ bytes
-front-again bytes out h =
+pub front_again : (bytes out : List ℕ) → length bytes ≤ length out → take (length bytes) (sets out 0 bytes) ≡ bytes
+front_again bytes out h =
     ap (take (length bytes)) (sets-eq bytes out 0 (omega arith))
     ∙ take_at bytes (drop (0 + length bytes) out) (length bytes) (λ i. length bytes)
 
 -- the two bytes of the sum
-pub sum-stored : (out : List ℕ) (n sum s : ℕ) → sum < 65536 → sum ≡ s
-    → set (set out n (sum % 256)) (n + 1) (sum / 256) ≡ sets out n (littleEndian 2 s)
-sum-stored out n sum s h e =
+pub sum_stored : (out : List ℕ) (n sum s : ℕ) → sum < 65536 → sum ≡ s
+    → set (set out n (sum % 256)) (n + 1) (sum / 256) ≡ sets out n (little_endian 2 s)
+sum_stored out n sum s h e =
     let high : sum / 256 % 256 ≡ sum / 256 = omega arith in
     rw (← e, add-one n, high)
 
 pub sealed : (bytes out told : List ℕ) (n : ℕ) → Put bytes out n told → n + 2 ≤ length out
-    → sets told n (littleEndian 2 (checkSum (take n told))) ≡ sets out 0 (withCheckSum bytes)
+    → sets told n (little_endian 2 (check_sum (take n told))) ≡ sets out 0 (with_check_sum bytes)
 sealed bytes out told n p h =
     let fits : length bytes ≤ length out = omega (arith, p.length) in
-    let sum : List ℕ = littleEndian 2 (checkSum bytes) in
-    rw (p.buffer, p.length, front-again bytes out fits)
-    (ap (λ (k : ℕ). sets (sets out 0 bytes) k sum) (sym (zero-add (length bytes))) ∙ sym (stored-append bytes sum out 0))
+    let sum : List ℕ = little_endian 2 (check_sum bytes) in
+    rw (p.buffer, p.length, front_again bytes out fits)
+    (ap (λ (k : ℕ). sets (sets out 0 bytes) k sum) (sym (zero-add (length bytes))) ∙ sym (stored_append bytes sum out 0))
 
-pub sealed-length : (bytes : List ℕ) → length bytes + 2 ≡ length (withCheckSum bytes)
-sealed-length bytes = sym (length-append bytes (littleEndian 2 (checkSum bytes)))
+pub sealed_length : (bytes : List ℕ) → length bytes + 2 ≡ length (with_check_sum bytes)
+sealed_length bytes = sym (length-append bytes (little_endian 2 (check_sum bytes)))

@@ -2,9 +2,9 @@
 mod sealing;
 
 ghost use Rattle.std.specs.Prelude.{◌≡◌, ◌<◌, ◌≤◌, length};
-ghost use Rattle.document.specs.Areas.{memoryEnd};
-ghost use Rattle.document.specs.Frames.{functionByte};
-ghost use Rattle.document.specs.Modbus.{modbusRoom, modbusRefusal};
+ghost use Rattle.document.specs.Areas.{memory_end};
+ghost use Rattle.document.specs.Frames.{function_byte};
+ghost use Rattle.document.specs.Modbus.{modbus_room, modbus_refusal};
 ghost use Rattle.call_modbus.specs.Responded.{Responded};
 ghost use Rattle.call_modbus.specs.Promises.{ModbusDone};
 
@@ -20,7 +20,7 @@ pub const ROOM: usize = 256;
 const LAST_STATION: u16 = 247;
 
 fn refusal_of(station: u16, memory: &[u8], out: &[u8]) -> u8
-    ensures { result ≡ modbusRefusal station memory.now out.now }
+    ensures { result ≡ modbus_refusal station memory.now out.now }
 {
     if memory.len() != MEMORY_END {
         return MEMORY_REFUSED;
@@ -39,7 +39,7 @@ fn refusal_of(station: u16, memory: &[u8], out: &[u8]) -> u8
 
 // The answer but for its check sum. It is told before the memory changes, as the memory was looked at.
 fn respond(frame: &[u8], memory: &mut [u8], out: &mut [u8]) -> usize
-    requires { (4 ≤ length frame.now) × (functionByte frame.now < 128) × (length memory.old ≡ memoryEnd) × (modbusRoom ≤ length out.old) }
+    requires { (4 ≤ length frame.now) × (function_byte frame.now < 128) × (length memory.old ≡ memory_end) × (modbus_room ≤ length out.old) }
     ensures { Responded frame.now memory.old out.old result memory.new out.new }
 {
     let function = function_of(frame[1]);

@@ -2,42 +2,42 @@
 -- definition's next state, and bytes behind it keep their values.
 use Rattle.std.specs.Prelude.{◌≡◌, false, cond, List, ℕ, eqb, ltb, length}
 use Rattle.std.proofs.lemmas.List.Edits.{sets}
-use Rattle.document.specs.Numbers.{mostData, done, notServed, messageTooLong, taken}
-use Rattle.document.specs.Recorder.{Recorder, isRunning}
-use Rattle.document.specs.Panel.{panelPrepares, panelStarts}
+use Rattle.document.specs.Numbers.{most_data, done, not_served, message_too_long, taken}
+use Rattle.document.specs.Recorder.{Recorder, is_running}
+use Rattle.document.specs.Panel.{panel_prepares, panel_starts}
 use Rattle.recorder_state.specs.declared.state.Recorder.{Recorder as RecorderState}
-use Rattle.recorder_state.specs.State.{recorderOf}
-use Rattle.recorder_state.specs.Calls.{startedState}
-use Rattle.recorder_state.specs.Preparing.{prepareStatus, preparedState}
-use Rattle.state_parts.specs.State.{withInstruments, Target, gateOf, withRecorder}
-use Rattle.state_block.specs.Layout.{decodedRecorder, decoded, encoded}
-use Rattle.state_block.specs.Changes.{blockWithRecorder}
-use Rattle.call_checks.specs.Promises.{panelNumber}
+use Rattle.recorder_state.specs.State.{recorder_of}
+use Rattle.recorder_state.specs.Calls.{started_state}
+use Rattle.recorder_state.specs.Preparing.{prepare_status, prepared_state}
+use Rattle.state_parts.specs.State.{with_instruments, Target, gate_of, with_recorder}
+use Rattle.state_block.specs.Layout.{decoded_recorder, decoded, encoded}
+use Rattle.state_block.specs.Changes.{block_with_recorder}
+use Rattle.call_checks.specs.Promises.{panel_number}
 use Rattle.call_panel.specs.declared.Said.{Said}
 
 -- ---- what is left of the recorder
 
 -- "above 64 bytes 0x83", before all that a setup is answered with
-abbrev pub givenStatus : Recorder → List ℕ → ℕ
-givenStatus r setup = cond (ltb mostData (length setup)) messageTooLong (prepareStatus (isRunning r) false setup)
+abbrev pub given_status : Recorder → List ℕ → ℕ
+given_status r setup = cond (ltb most_data (length setup)) message_too_long (prepare_status (is_running r) false setup)
 
-abbrev pub givenNext : RecorderState → List ℕ → RecorderState
-givenNext r setup = cond (eqb (givenStatus (recorderOf r) setup) done) (preparedState false setup) r
+abbrev pub given_next : RecorderState → List ℕ → RecorderState
+given_next r setup = cond (eqb (given_status (recorder_of r) setup) done) (prepared_state false setup) r
 
 -- what a preparing that nothing refuses says, and the block behind it
 pub record Prepared (block setup : List ℕ) (status : ℕ) (after : List ℕ) : Type 0 where
-  pub said : status ≡ givenStatus (recorderOf (decodedRecorder block)) setup
-  pub state : after ≡ blockWithRecorder block (givenNext (decodedRecorder block) setup)
+  pub said : status ≡ given_status (recorder_of (decoded_recorder block)) setup
+  pub state : after ≡ block_with_recorder block (given_next (decoded_recorder block) setup)
 
 -- the link, the scope, the application command and the tables know nothing of the panel
-abbrev pub recorderChanged : Target → RecorderState → Target
-recorderChanged t r = withInstruments t (withRecorder t.instruments r)
+abbrev pub recorder_changed : Target → RecorderState → Target
+recorder_changed t r = with_instruments t (with_recorder t.instruments r)
 
-abbrev pub preparedTarget : List ℕ → Target → Target
-preparedTarget setup t = recorderChanged t (givenNext t.instruments.recorder setup)
+abbrev pub prepared_target : List ℕ → Target → Target
+prepared_target setup t = recorder_changed t (given_next t.instruments.recorder setup)
 
-abbrev pub startedTarget : Target → Target
-startedTarget t = recorderChanged t (startedState t.instruments.recorder)
+abbrev pub started_target : Target → Target
+started_target t = recorder_changed t (started_state t.instruments.recorder)
 
 -- ---- the calls; whatever the memory is, which neither is lent. Where one is refused nothing was prepared or started, and so that the status
 -- alone does not read as success it is 0x81, which neither call says when it is taken
@@ -46,17 +46,17 @@ pub record PrepareDone (block setup : List ℕ) (r : Said) (after : List ℕ) : 
   pub result :
       (memory : List ℕ)
       → r
-      ≡ cond (eqb (panelNumber block) taken)
-      (record { refusal = taken; status = (panelPrepares (gateOf (decoded block).instruments memory) setup).answer.status })
-      (record { refusal = panelNumber block; status = notServed })
+      ≡ cond (eqb (panel_number block) taken)
+      (record { refusal = taken; status = (panel_prepares (gate_of (decoded block).instruments memory) setup).answer.status })
+      (record { refusal = panel_number block; status = not_served })
   pub state :
-      after ≡ cond (eqb (panelNumber block) taken) (sets block 0 (encoded (preparedTarget setup (decoded block)))) block
+      after ≡ cond (eqb (panel_number block) taken) (sets block 0 (encoded (prepared_target setup (decoded block)))) block
 
 pub record StartDone (block : List ℕ) (r : Said) (after : List ℕ) : Type 0 where
   pub result :
       (memory : List ℕ)
       → r
-      ≡ cond (eqb (panelNumber block) taken)
-      (record { refusal = taken; status = (panelStarts (gateOf (decoded block).instruments memory)).answer.status })
-      (record { refusal = panelNumber block; status = notServed })
-  pub state : after ≡ cond (eqb (panelNumber block) taken) (sets block 0 (encoded (startedTarget (decoded block)))) block
+      ≡ cond (eqb (panel_number block) taken)
+      (record { refusal = taken; status = (panel_starts (gate_of (decoded block).instruments memory)).answer.status })
+      (record { refusal = panel_number block; status = not_served })
+  pub state : after ≡ cond (eqb (panel_number block) taken) (sets block 0 (encoded (started_target (decoded block)))) block

@@ -1,9 +1,9 @@
 // The front panel's two calls over a block: it prepares the recorder, and starts it. The link is not touched.
 ghost use Rattle.std.specs.Prelude.{◌≡◌, ◌≤◌, length};
-ghost use Rattle.recorder_state.specs.State.{recorderOf};
-ghost use Rattle.state_block.specs.Places.{stateLength};
-ghost use Rattle.state_block.specs.Layout.{decodedRecorder};
-ghost use Rattle.call_panel.specs.Promises.{givenStatus, Prepared, PrepareDone, StartDone};
+ghost use Rattle.recorder_state.specs.State.{recorder_of};
+ghost use Rattle.state_block.specs.Places.{state_length};
+ghost use Rattle.state_block.specs.Layout.{decoded_recorder};
+ghost use Rattle.call_panel.specs.Promises.{given_status, Prepared, PrepareDone, StartDone};
 
 use call_checks::check;
 use codes_table::{DONE, MESSAGE_TOO_LONG, MOST_DATA, NOT_SERVED, TAKEN};
@@ -20,8 +20,8 @@ pub struct Said {
 }
 
 fn given_status(state: &[u8], setup: &[u8]) -> u8
-    requires { stateLength ≤ length state.now }
-    ensures { result ≡ givenStatus (recorderOf (decodedRecorder state.now)) setup.now }
+    requires { state_length ≤ length state.now }
+    ensures { result ≡ given_status (recorder_of (decoded_recorder state.now)) setup.now }
 {
     if setup.len() > MOST_DATA {
         return MESSAGE_TOO_LONG;
@@ -31,7 +31,7 @@ fn given_status(state: &[u8], setup: &[u8]) -> u8
 
 // A state within its bounds. What is answered with an error stores nothing.
 fn prepare_within(state: &mut [u8], setup: &[u8]) -> u8
-    requires { stateLength ≤ length state.old }
+    requires { state_length ≤ length state.old }
     ensures { Prepared state.old setup.now result state.new }
 {
     let status = given_status(state, setup);

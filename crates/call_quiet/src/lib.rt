@@ -2,10 +2,10 @@
 ghost use Rattle.std.specs.Prelude.{◌≡◌, ◌+◌, ◌-◌, ◌%◌, ◌<◌, ◌≤◌, length, drop};
 ghost use Rattle.std.proofs.lemmas.List.Edits.{sets};
 ghost use Rattle.document.specs.Sum.{total};
-ghost use Rattle.state_byte.specs.Quiet.{plainAhead, lastKept, dataAhead};
-ghost use Rattle.state_block.specs.Places.{stateLength};
+ghost use Rattle.state_byte.specs.Quiet.{plain_ahead, last_kept, data_ahead};
+ghost use Rattle.state_block.specs.Places.{state_length};
 ghost use Rattle.state_block.specs.Layout.{decoded, encoded};
-ghost use Rattle.call_quiet.specs.Passed.{keptRun, Passed};
+ghost use Rattle.call_quiet.specs.Passed.{kept_run, Passed};
 
 use bytes_widths::usize_of_u8;
 use codes_table::MOST_DATA;
@@ -18,7 +18,7 @@ use state_block::{BODY, put_receiver, receiver_in};
 // Behind the bytes, up to a place, that come before a 0x2B.
 fn plain_end(bytes: &[u8], from: usize, end: usize) -> usize
     requires { (from ≤ end) × (end ≤ length bytes.now) }
-    ensures { (result ≡ from + plainAhead (end - from) (drop from bytes.now)) × (result ≤ end) }
+    ensures { (result ≡ from + plain_ahead (end - from) (drop from bytes.now)) × (result ≤ end) }
 {
     let mut i = from;
     while i < end {
@@ -44,8 +44,8 @@ fn summed(sum: u8, bytes: &[u8]) -> u8
 
 // A run of data bytes goes into the body, counted and summed. The last that is kept is behind it, so the phase stays.
 fn keep_run(state: &mut [u8], head: line_receiver::Receiver, run: &[u8])
-    requires { (stateLength ≤ length state.old) × (head.have + length run.now ≤ 63) }
-    ensures { state.new ≡ sets state.old 0 (encoded (keptRun (decoded state.old) head run.now)) }
+    requires { (state_length ≤ length state.old) × (head.have + length run.now ≤ 63) }
+    ensures { state.new ≡ sets state.old 0 (encoded (kept_run (decoded state.old) head run.now)) }
 {
     let counted = head.have + run.len() as u8;
     let sum = summed(head.sum, run);
@@ -65,7 +65,7 @@ fn keep_run(state: &mut [u8], head: line_receiver::Receiver, run: &[u8])
 
 // "A data part holds at most 64 bytes"
 fn last_kept(length: u8) -> usize
-    ensures { result ≡ lastKept length }
+    ensures { result ≡ last_kept length }
 {
     let n = usize_of_u8(length);
     if n > MOST_DATA {
@@ -76,7 +76,7 @@ fn last_kept(length: u8) -> usize
 
 // How many data bytes are to come before the last that is kept, at most so many as are left.
 fn data_ahead(head: line_receiver::Receiver, left: usize) -> usize
-    ensures { (result ≤ left) × (result ≤ dataAhead head) × (result < dataAhead head → result ≡ left) }
+    ensures { (result ≤ left) × (result ≤ data_ahead head) × (result < data_ahead head → result ≡ left) }
 {
     let have = usize_of_u8(head.have);
     let last = last_kept(head.length);
@@ -92,7 +92,7 @@ fn data_ahead(head: line_receiver::Receiver, left: usize) -> usize
 
 // Behind the bytes from a place on that only count, or do nothing.
 pub fn pass_over(state: &mut [u8], bytes: &[u8], from: usize) -> usize
-    requires { (stateLength ≤ length state.old) × (from ≤ length bytes.now) }
+    requires { (state_length ≤ length state.old) × (from ≤ length bytes.now) }
     ensures { Passed state.old bytes.now from result state.new }
 {
     let head = receiver_in(state);

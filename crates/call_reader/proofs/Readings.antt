@@ -8,110 +8,110 @@ use lib.Dec.{leb, ltb}
 use lib.ListN.{length, set, take, drop}
 use lib.Seq.{sets, length-sets, take-take, length-take-le}
 use borrow.Author.Tests.{eq-eqb, ne_eqb, le-leb, lt-leb, leb-true, lt-ltb, le-ltb, ltb-false}
-use Rattle.document.specs.Numbers.{mostData, taken, stateRefused, roomRefused, expectedRefused, sumRefused}
+use Rattle.document.specs.Numbers.{most_data, taken, state_refused, room_refused, expected_refused, sum_refused}
 use Rattle.document.specs.Areas.{bytes_at}
-use Rattle.document.specs.AnswerReader.{readBuffer, readRoomRefusal}
+use Rattle.document.specs.AnswerReader.{read_buffer, read_room_refusal}
 use Rattle.document.proofs.Cases.{split}
-use Rattle.memory_ranges.proofs.Stored.{bytes-behind}
+use Rattle.memory_ranges.proofs.Stored.{bytes_behind}
 use Rattle.line_reader.specs.declared.head.Asked.{Asked}
 use Rattle.line_reader.specs.declared.head.Head.{Head}
 use Rattle.line_reader.specs.declared.head.Stepped.{Stepped}
 use Rattle.line_reader.specs.Reader.{Step}
-use Rattle.line_reader.specs.Head.{withBody, body_after, bringing, headStep}
-use Rattle.call_reader.specs.Layout.{bodyPlace, bodyLength, readerLength, decodedReader, encodedHead, encodedReader}
-use Rattle.bytes_fields.proofs.Ranges.{bytes-length, sets_same, sets-set}
+use Rattle.line_reader.specs.Head.{with_body, body_after, bringing, head_step}
+use Rattle.call_reader.specs.Layout.{body_place, body_length, reader_length, decoded_reader, encoded_head, encoded_reader}
+use Rattle.bytes_fields.proofs.Ranges.{bytes_length, sets_same, sets_set}
 use Rattle.line_reader.specs.declared.head.Asked.TheVariants as asked
 use Rattle.line_reader.specs.Reader as host
 use Rattle.call_reader.specs.declared.calls.ReadByte.{ReadByte}
-use Rattle.call_reader.specs.Promises.{BeginDone, readNumber, without, read_of, ByteRead, ReadDone}
+use Rattle.call_reader.specs.Promises.{BeginDone, read_number, without, read_of, ByteRead, ReadDone}
 
 -- ---- the beginning
 
 module _ (block : List ℕ) (expected : ℕ) where
-  pub begin-short : length block < readerLength → BeginDone block expected stateRefused block
-  begin-short h = record { result = rw (lt-leb readerLength (length block) h) refl; reader = rw (lt-leb readerLength (length block) h) refl }
+  pub begin_short : length block < reader_length → BeginDone block expected state_refused block
+  begin_short h = record { result = rw (lt-leb reader_length (length block) h) refl; reader = rw (lt-leb reader_length (length block) h) refl }
 
-  module _ (long : readerLength ≤ length block) where
-    pub begin-refused : mostData < expected → BeginDone block expected expectedRefused block
-    begin-refused h =
+  module _ (long : reader_length ≤ length block) where
+    pub begin_refused : most_data < expected → BeginDone block expected expected_refused block
+    begin_refused h =
         record {
-          result = rw (le-leb readerLength (length block) long, lt-ltb mostData expected h) refl;
-          reader = rw (le-leb readerLength (length block) long, lt-ltb mostData expected h) refl;
+          result = rw (le-leb reader_length (length block) long, lt-ltb most_data expected h) refl;
+          reader = rw (le-leb reader_length (length block) long, lt-ltb most_data expected h) refl;
         }
 
-    pub begun : expected ≤ mostData → (after : List ℕ) → after ≡ sets block 0 (encodedReader (host.fresh expected)) → BeginDone block expected taken after
+    pub begun : expected ≤ most_data → (after : List ℕ) → after ≡ sets block 0 (encoded_reader (host.fresh expected)) → BeginDone block expected taken after
     begun h after e =
         record {
-          result = rw (le-leb readerLength (length block) long, le-ltb mostData expected h) refl;
-          reader = rw (le-leb readerLength (length block) long, le-ltb mostData expected h) e;
+          result = rw (le-leb reader_length (length block) long, le-ltb most_data expected h) refl;
+          reader = rw (le-leb reader_length (length block) long, le-ltb most_data expected h) e;
         }
 
 -- ---- the numbers of a byte
 
 module _ (block buffer : List ℕ) where
-  pub number_short : length block < readerLength → stateRefused ≡ readNumber block buffer
-  number_short h = sym (rw (lt-leb readerLength (length block) h) refl)
+  pub number_short : length block < reader_length → state_refused ≡ read_number block buffer
+  number_short h = sym (rw (lt-leb reader_length (length block) h) refl)
 
-  module _ (long : readerLength ≤ length block) where
-    pub number-outside : host.sound (decodedReader block) ≡ false → stateRefused ≡ readNumber block buffer
-    number-outside e = sym (rw (le-leb readerLength (length block) long, e) refl)
+  module _ (long : reader_length ≤ length block) where
+    pub number_outside : host.sound (decoded_reader block) ≡ false → state_refused ≡ read_number block buffer
+    number_outside e = sym (rw (le-leb reader_length (length block) long, e) refl)
 
-    module _ (ok : host.sound (decodedReader block) ≡ true) where
-      pub number-room : length buffer < mostData → roomRefused ≡ readNumber block buffer
-      unfolding readRoomRefusal
-      number-room h = sym (rw (le-leb readerLength (length block) long, ok, lt-ltb (length buffer) mostData h) refl)
+    module _ (ok : host.sound (decoded_reader block) ≡ true) where
+      pub number_room : length buffer < most_data → room_refused ≡ read_number block buffer
+      unfolding read_room_refusal
+      number_room h = sym (rw (le-leb reader_length (length block) long, ok, lt-ltb (length buffer) most_data h) refl)
 
-      pub number-taken : mostData ≤ length buffer → taken ≡ readNumber block buffer
-      unfolding readRoomRefusal
-      number-taken h = sym (rw (le-leb readerLength (length block) long, ok, le-ltb (length buffer) mostData h) refl)
+      pub number_taken : most_data ≤ length buffer → taken ≡ read_number block buffer
+      unfolding read_room_refusal
+      number_taken h = sym (rw (le-leb reader_length (length block) long, ok, le-ltb (length buffer) most_data h) refl)
 
   -- and back
-  pub number-known : readNumber block buffer ≡ taken → (readerLength ≤ length block) × (host.sound (decodedReader block) ≡ true) × (mostData ≤ length buffer)
-  unfolding readRoomRefusal
-  number-known fine =
-      split (leb readerLength (length block))
-      (λ long. split (host.sound (decodedReader block))
-      (λ ok. split (ltb (length buffer) mostData)
-      (λ less. let e : ◌≡◌ {A = ℕ} roomRefused taken = rw (long, ok, less) at fine in absurd (omega arith))
-      (λ room. (leb-true readerLength (length block) long, ok, ltb-false (length buffer) mostData room)))
-      (λ bad. let e : ◌≡◌ {A = ℕ} stateRefused taken = rw (long, bad) at fine in absurd (omega arith)))
-      (λ short. let e : ◌≡◌ {A = ℕ} stateRefused taken = rw short at fine in absurd (omega arith))
+  pub number_known : read_number block buffer ≡ taken → (reader_length ≤ length block) × (host.sound (decoded_reader block) ≡ true) × (most_data ≤ length buffer)
+  unfolding read_room_refusal
+  number_known fine =
+      split (leb reader_length (length block))
+      (λ long. split (host.sound (decoded_reader block))
+      (λ ok. split (ltb (length buffer) most_data)
+      (λ less. let e : ◌≡◌ {A = ℕ} room_refused taken = rw (long, ok, less) at fine in absurd (omega arith))
+      (λ room. (leb-true reader_length (length block) long, ok, ltb-false (length buffer) most_data room)))
+      (λ bad. let e : ◌≡◌ {A = ℕ} state_refused taken = rw (long, bad) at fine in absurd (omega arith)))
+      (λ short. let e : ◌≡◌ {A = ℕ} state_refused taken = rw short at fine in absurd (omega arith))
 
 -- ---- a byte, by what it asks for
 
 -- the head and the data behind it
-module _ (block : List ℕ) (long : readerLength ≤ length block) (h : Head) where
+module _ (block : List ℕ) (long : reader_length ≤ length block) (h : Head) where
   abbrev headed : List ℕ
-  headed = sets block 0 (encodedHead h)
+  headed = sets block 0 (encoded_head h)
 
-  headed-body : bytes_at headed bodyPlace bodyLength ≡ bytes_at block bodyPlace bodyLength
-  headed-body = bytes-behind (encodedHead h) block 0 bodyPlace bodyLength (omega arith)
+  headed_body : bytes_at headed body_place body_length ≡ bytes_at block body_place body_length
+  headed_body = bytes_behind (encoded_head h) block 0 body_place body_length (omega arith)
 
-  pub head-stored : headed ≡ sets block 0 (encodedReader (withBody h (bytes_at block bodyPlace bodyLength)))
-  unfolding encodedReader
-  head-stored =
-      sym (ap (sets headed bodyPlace) (sym headed-body) ∙ sets_same bodyLength headed bodyPlace (omega (arith, length-sets block 0 (encodedHead h))))
+  pub head_stored : headed ≡ sets block 0 (encoded_reader (with_body h (bytes_at block body_place body_length)))
+  unfolding encoded_reader
+  head_stored =
+      sym (ap (sets headed body_place) (sym headed_body) ∙ sets_same body_length headed body_place (omega (arith, length-sets block 0 (encoded_head h))))
 
-  pub data-stored : (at b : ℕ) → at < mostData → set headed (bodyPlace + at) b ≡ sets block 0 (encodedReader (withBody h (set (bytes_at block bodyPlace bodyLength) at b)))
-  unfolding encodedReader
-  data-stored at b k =
+  pub data_stored : (at b : ℕ) → at < most_data → set headed (body_place + at) b ≡ sets block 0 (encoded_reader (with_body h (set (bytes_at block body_place body_length) at b)))
+  unfolding encoded_reader
+  data_stored at b k =
       sym
-      (ap (λ (l : List ℕ). sets headed bodyPlace (set l at b)) (sym headed-body)
-      ∙ sets-set bodyLength headed bodyPlace at b k (omega (arith, length-sets block 0 (encodedHead h))))
+      (ap (λ (l : List ℕ). sets headed body_place (set l at b)) (sym headed_body)
+      ∙ sets_set body_length headed body_place at b k (omega (arith, length-sets block 0 (encoded_head h))))
 
   -- the first data, read behind the head that was stored
-  pub data-there : (n : ℕ) → n ≤ mostData → take n (drop bodyPlace headed) ≡ take n (bytes_at block bodyPlace bodyLength)
-  data-there n k = sym (take-take n bodyLength (drop bodyPlace headed) k) ∙ ap (take n) headed-body
+  pub data_there : (n : ℕ) → n ≤ most_data → take n (drop body_place headed) ≡ take n (bytes_at block body_place body_length)
+  data_there n k = sym (take-take n body_length (drop body_place headed) k) ∙ ap (take n) headed_body
 
-module _ (block : List ℕ) (long : readerLength ≤ length block) (s : Step) (t : Stepped) (e : s ≡ headStep t (bytes_at block bodyPlace bodyLength)) (buffer : List ℕ) (r : ReadByte) where
+module _ (block : List ℕ) (long : reader_length ≤ length block) (s : Step) (t : Stepped) (e : s ≡ head_step t (bytes_at block body_place body_length)) (buffer : List ℕ) (r : ReadByte) where
   read : (a : Asked) (after told : List ℕ) → t.asks ≡ a
-      → r ≡ read_of (bringing a (bytes_at block bodyPlace bodyLength))
-      → after ≡ sets block 0 (encodedReader (withBody t.next (body_after a (bytes_at block bodyPlace bodyLength))))
-      → told ≡ readBuffer (bringing a (bytes_at block bodyPlace bodyLength)) buffer → ByteRead s block buffer r after told
+      → r ≡ read_of (bringing a (bytes_at block body_place body_length))
+      → after ≡ sets block 0 (encoded_reader (with_body t.next (body_after a (bytes_at block body_place body_length))))
+      → told ≡ read_buffer (bringing a (bytes_at block body_place body_length)) buffer → ByteRead s block buffer r after told
   read a after told n h stored told-by = answered
     where
       stepped : Asked → Step
-      stepped k = record { next = withBody t.next (body_after k (bytes_at block bodyPlace bodyLength)); brings = bringing k (bytes_at block bodyPlace bodyLength) }
+      stepped k = record { next = with_body t.next (body_after k (bytes_at block body_place body_length)); brings = bringing k (bytes_at block body_place body_length) }
 
       same : s ≡ stepped a
       same = e ∙ ap stepped n
@@ -120,49 +120,49 @@ module _ (block : List ℕ) (long : readerLength ≤ length block) (s : Step) (t
       answered =
           record {
             result = h ∙ ap (λ (q : Step). read_of q.brings) (sym same);
-            reader = stored ∙ ap (λ (q : Step). sets block 0 (encodedReader q.next)) (sym same);
-            buffer-told = told-by ∙ ap (λ (q : Step). readBuffer q.brings buffer) (sym same);
+            reader = stored ∙ ap (λ (q : Step). sets block 0 (encoded_reader q.next)) (sym same);
+            buffer_told = told-by ∙ ap (λ (q : Step). read_buffer q.brings buffer) (sym same);
           }
 
-  pub read-nothing : (after : List ℕ) → t.asks ≡ asked.Nothing → r ≡ without taken
-      → after ≡ sets block 0 (encodedHead t.next) → ByteRead s block buffer r after buffer
-  read-nothing after n h a = read asked.Nothing after buffer n h (a ∙ head-stored block long t.next) refl
+  pub read_nothing : (after : List ℕ) → t.asks ≡ asked.Nothing → r ≡ without taken
+      → after ≡ sets block 0 (encoded_head t.next) → ByteRead s block buffer r after buffer
+  read_nothing after n h a = read asked.Nothing after buffer n h (a ∙ head_stored block long t.next) refl
 
-  pub read-keep : (at b : ℕ) (after : List ℕ) → t.asks ≡ asked.Keep at b → at < mostData → r ≡ without taken
-      → after ≡ set (sets block 0 (encodedHead t.next)) (bodyPlace + at) b → ByteRead s block buffer r after buffer
-  read-keep at b after n k h a = read (asked.Keep at b) after buffer n h (a ∙ data-stored block long t.next at b k) refl
+  pub read_keep : (at b : ℕ) (after : List ℕ) → t.asks ≡ asked.Keep at b → at < most_data → r ≡ without taken
+      → after ≡ set (sets block 0 (encoded_head t.next)) (body_place + at) b → ByteRead s block buffer r after buffer
+  read_keep at b after n k h a = read (asked.Keep at b) after buffer n h (a ∙ data_stored block long t.next at b k) refl
 
-  pub read_right : (status n : ℕ) (after told : List ℕ) → t.asks ≡ asked.Right status n → n ≤ mostData
-      → r ≡ record { refusal = taken; whole = 1; status = status; length = n } → after ≡ sets block 0 (encodedHead t.next)
-      → told ≡ sets buffer 0 (take n (drop bodyPlace (sets block 0 (encodedHead t.next)))) → ByteRead s block buffer r after told
+  pub read_right : (status n : ℕ) (after told : List ℕ) → t.asks ≡ asked.Right status n → n ≤ most_data
+      → r ≡ record { refusal = taken; whole = 1; status = status; length = n } → after ≡ sets block 0 (encoded_head t.next)
+      → told ≡ sets buffer 0 (take n (drop body_place (sets block 0 (encoded_head t.next)))) → ByteRead s block buffer r after told
   read_right status n after told a few h stored told-by =
       read (asked.Right status n) after told a
       (h ∙ ap (λ (k : ℕ). record { refusal = taken; whole = 1; status = status; length = k }) (sym counted))
-      (stored ∙ head-stored block long t.next)
-      (told-by ∙ ap (sets buffer 0) (data-there block long t.next n few))
+      (stored ∙ head_stored block long t.next)
+      (told-by ∙ ap (sets buffer 0) (data_there block long t.next n few))
     where
-      counted : length (take n (bytes_at block bodyPlace bodyLength)) ≡ n
-      counted = length-take-le n (bytes_at block bodyPlace bodyLength) (omega (arith, bytes-length block bodyPlace bodyLength long))
+      counted : length (take n (bytes_at block body_place body_length)) ≡ n
+      counted = length-take-le n (bytes_at block body_place body_length) (omega (arith, bytes_length block body_place body_length long))
 
-  pub read-wrong : (after : List ℕ) → t.asks ≡ asked.Wrong → r ≡ without sumRefused
-      → after ≡ sets block 0 (encodedHead t.next) → ByteRead s block buffer r after buffer
-  read-wrong after n h a = read asked.Wrong after buffer n h (a ∙ head-stored block long t.next) refl
+  pub read_wrong : (after : List ℕ) → t.asks ≡ asked.Wrong → r ≡ without sum_refused
+      → after ≡ sets block 0 (encoded_head t.next) → ByteRead s block buffer r after buffer
+  read_wrong after n h a = read asked.Wrong after buffer n h (a ∙ head_stored block long t.next) refl
 
 -- ---- the call
 
 module _ (block : List ℕ) (b : ℕ) (buffer : List ℕ) where
-  pub read-refused : (k : ℕ) → k ≡ readNumber block buffer → (k ≡ taken → ⊥)
+  pub read_refused : (k : ℕ) → k ≡ read_number block buffer → (k ≡ taken → ⊥)
       → ReadDone block b buffer (without k) block buffer
-  read-refused k e some =
-      let refused = ne_eqb (readNumber block buffer) taken (λ z. some (e ∙ z)) in
+  read_refused k e some =
+      let refused = ne_eqb (read_number block buffer) taken (λ z. some (e ∙ z)) in
       record {
         result = rw refused (λ i. without (e i));
         reader = rw refused refl;
-        buffer-told = rw refused refl;
+        buffer_told = rw refused refl;
       }
 
-  pub read_taken : (r : ReadByte) (after told : List ℕ) → readNumber block buffer ≡ taken
-      → ByteRead (host.stepped (decodedReader block) b) block buffer r after told → ReadDone block b buffer r after told
+  pub read_taken : (r : ReadByte) (after told : List ℕ) → read_number block buffer ≡ taken
+      → ByteRead (host.stepped (decoded_reader block) b) block buffer r after told → ReadDone block b buffer r after told
   read_taken r after told fine done =
-      let none = eq-eqb (readNumber block buffer) taken fine in
-      record { result = rw none done.result; reader = rw none done.reader; buffer-told = rw none done.buffer-told }
+      let none = eq-eqb (read_number block buffer) taken fine in
+      record { result = rw none done.result; reader = rw none done.reader; buffer_told = rw none done.buffer_told }

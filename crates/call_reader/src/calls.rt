@@ -1,9 +1,9 @@
 // The two calls: a reading begins, and a byte of the line. Neither asks anything of its caller.
 ghost use Rattle.std.specs.Prelude.{◌≡◌, true, ◌≤◌, length};
-ghost use Rattle.document.specs.Numbers.{mostData};
+ghost use Rattle.document.specs.Numbers.{most_data};
 ghost use Rattle.line_reader.specs.Reader.{sound, stepped};
-ghost use Rattle.call_reader.specs.Layout.{readerLength, decodedReader};
-ghost use Rattle.call_reader.specs.Promises.{readNumber, BeginDone, ByteRead, ReadDone};
+ghost use Rattle.call_reader.specs.Layout.{reader_length, decoded_reader};
+ghost use Rattle.call_reader.specs.Promises.{read_number, BeginDone, ByteRead, ReadDone};
 
 use crate::head::{begin_reader, head_in, put_reader_head};
 use crate::places::{BODY, READER_LENGTH};
@@ -49,7 +49,7 @@ fn without_answer(refusal: u8) -> ReadByte
 
 // Lowest number first.
 fn read_refusal(reader: &[u8], out: &[u8]) -> u8
-    ensures { result ≡ readNumber reader.now out.now }
+    ensures { result ≡ read_number reader.now out.now }
 {
     if reader.len() < READER_LENGTH {
         return STATE_REFUSED;
@@ -66,8 +66,8 @@ fn read_refusal(reader: &[u8], out: &[u8]) -> u8
 
 // A byte that nothing refuses. One that finishes no answer writes the head and at most one byte of the data.
 fn read_on(reader: &mut [u8], byte: u8, out: &mut [u8]) -> ReadByte
-    requires { (readerLength ≤ length reader.old) × (sound (decodedReader reader.old) ≡ true) × (mostData ≤ length out.old) }
-    ensures { ByteRead (stepped (decodedReader reader.old) byte) reader.old out.old result reader.new out.new }
+    requires { (reader_length ≤ length reader.old) × (sound (decoded_reader reader.old) ≡ true) × (most_data ≤ length out.old) }
+    ensures { ByteRead (stepped (decoded_reader reader.old) byte) reader.old out.old result reader.new out.new }
 {
     let head = head_in(reader);
     let stepped = head.step(byte);

@@ -1,11 +1,11 @@
 // The gate registers its tables: a reset with a list that was looked at over the memory.
 ghost use Rattle.std.specs.Prelude.{◌≡◌, ◌≤◌, length};
 ghost use Rattle.std.proofs.lemmas.List.Edits.{sets};
-ghost use Rattle.tables_state.specs.State.{listLength, registeredList};
-ghost use Rattle.state_parts.specs.Bounds.{freshWith};
-ghost use Rattle.state_block.specs.Places.{stateLength};
+ghost use Rattle.tables_state.specs.State.{list_length, registered_list};
+ghost use Rattle.state_parts.specs.Bounds.{fresh_with};
+ghost use Rattle.state_block.specs.Places.{state_length};
 ghost use Rattle.state_block.specs.Layout.{encoded};
-ghost use Rattle.call_register.specs.Promises.{registerNumber, RegisterDone};
+ghost use Rattle.call_register.specs.Promises.{register_number, RegisterDone};
 
 use bytes_fields::{clear, put_byte};
 use codes_table::{LIST_REFUSED, MEMORY_REFUSED, STATE_REFUSED, TAKEN};
@@ -15,7 +15,7 @@ use tables_lists::is_list_good;
 use tables_state::PAIR;
 
 fn register_refusal(state: &[u8], memory: &[u8], list: &[u8]) -> u8
-    ensures { result ≡ registerNumber state.now memory.now list.now }
+    ensures { result ≡ register_number state.now memory.now list.now }
 {
     if !is_long_enough(state) {
         return STATE_REFUSED;
@@ -31,8 +31,8 @@ fn register_refusal(state: &[u8], memory: &[u8], list: &[u8]) -> u8
 
 // Zeros, the count, the list, and zeros behind it.
 fn reset_with(state: &mut [u8], list: &[u8])
-    requires { (stateLength ≤ length state.old) × (length list.now ≤ listLength) }
-    ensures { state.new ≡ sets state.old 0 (encoded (freshWith (registeredList list.now))) }
+    requires { (state_length ≤ length state.old) × (length list.now ≤ list_length) }
+    ensures { state.new ≡ sets state.old 0 (encoded (fresh_with (registered_list list.now))) }
 {
     clear(state, 0, TABLES);
     put_byte(state, TABLES, (list.len() / PAIR) as u8);

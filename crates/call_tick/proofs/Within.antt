@@ -6,132 +6,132 @@ use Prim.Native.Nat.{ℕ, ◌-◌, ◌<◌, ◌≤◌}
 use native.Mathlib.Omega.{arith}
 use lib.ListN.{length, get_or, set}
 use lib.Seq.{sets, length-sets, set-get_or}
-use Rattle.document.specs.Areas.{memoryEnd, bytes_at}
-use Rattle.document.specs.Values.{number, littleEndian}
+use Rattle.document.specs.Areas.{memory_end, bytes_at}
+use Rattle.document.specs.Values.{number, little_endian}
 use Rattle.document.specs.Stores.{stored}
-use Rattle.document.specs.Run.{placeBegins, setOf, setTaken}
-use Rattle.document.specs.Recorder.{tickedMemory}
-use Rattle.memory_ranges.proofs.Stored.{bytes-behind}
-use Rattle.bytes_fields.proofs.Ranges.{bytes-append, sets_same}
-use Rattle.bytes_fields.proofs.Numbers.{number-kept}
+use Rattle.document.specs.Run.{place_begins, set_of, set_taken}
+use Rattle.document.specs.Recorder.{ticked_memory}
+use Rattle.memory_ranges.proofs.Stored.{bytes_behind}
+use Rattle.bytes_fields.proofs.Ranges.{bytes_append, sets_same}
+use Rattle.bytes_fields.proofs.Numbers.{number_kept}
 use Rattle.recorder_plans.specs.State.{plan_of}
-use Rattle.recorder_plans.specs.Bounds.{planSound}
+use Rattle.recorder_plans.specs.Bounds.{plan_sound}
 use Rattle.recorder_runs.specs.declared.run.Run.{Run}
-use Rattle.recorder_runs.specs.State.{run_of, runKept, withWait}
-use Rattle.recorder_runs.specs.Bounds.{runSound}
+use Rattle.recorder_runs.specs.State.{run_of, run_kept, with_wait}
+use Rattle.recorder_runs.specs.Bounds.{run_sound}
 use Rattle.recorder_state.specs.declared.state.Recorder.{Recorder}
-use Rattle.recorder_state.specs.State.{recorderOf}
+use Rattle.recorder_state.specs.State.{recorder_of}
 use Rattle.recorder_state.specs.Bounds as recorder
-use Rattle.recorder_taking.specs.Tick.{tickedState}
-use Rattle.recorder_taking.proofs.Taken.{Leaves, parts, runs, absent-leaves, stopped-leaves, waiting-leaves, due-leaves}
-use Rattle.state_parts.specs.State.{withRecorder}
+use Rattle.recorder_taking.specs.Tick.{ticked_state}
+use Rattle.recorder_taking.proofs.Taken.{Leaves, parts, runs, absent_leaves, stopped_leaves, waiting_leaves, due_leaves}
+use Rattle.state_parts.specs.State.{with_recorder}
 use Rattle.state_parts.specs.Bounds.{sound}
-use Rattle.state_parts.proofs.Parts.{parts-of}
-use Rattle.state_block.specs.Places.{scopePlace, recorderPlace, runPlace, fullPlace, watchPlace, waitPlace, placePlace, valuePlace, stateLength}
-use Rattle.state_block.specs.Layout.{decodedPlan, decodedRun, decodedRecorder, decodedInstruments, decoded, encodedRun, encodedInstruments, encoded}
-use Rattle.state_block.proofs.Parts.{sets-two}
-use Rattle.state_block.proofs.Stored.{same-instruments, run-stored, instruments-stored}
-use Rattle.call_tick.specs.Promises.{tickedTarget}
+use Rattle.state_parts.proofs.Parts.{parts_of_lem}
+use Rattle.state_block.specs.Places.{scope_place, recorder_place, run_place, full_place, watch_place, wait_place, place_place, value_place, state_length}
+use Rattle.state_block.specs.Layout.{decoded_plan, decoded_run, decoded_recorder, decoded_instruments, decoded, encoded_run, encoded_instruments, encoded}
+use Rattle.state_block.proofs.Parts.{sets_two}
+use Rattle.state_block.proofs.Stored.{same_instruments, run_stored, instruments_stored}
+use Rattle.call_tick.specs.Promises.{ticked_target}
 use Rattle.call_tick.specs.Parts.{Due, Took, Ticked}
 
 module _ (block memory : List ℕ) where
-  module _ (long : stateLength ≤ length block) (small : (i : ℕ) → get_or block i 0 < 256) where
-    recorder-left : (next : Recorder) → tickedState (decodedRecorder block) memory ≡ next
-        → sets block scopePlace (encodedInstruments (withRecorder (decodedInstruments block) next))
-        ≡ sets block 0 (encoded (tickedTarget (decoded block) memory))
-    recorder-left next e =
-        ap (λ (r : Recorder). sets block scopePlace (encodedInstruments (withRecorder (decodedInstruments block) r))) (sym e)
-        ∙ instruments-stored block long small (withRecorder (decodedInstruments block) (tickedState (decodedRecorder block) memory))
+  module _ (long : state_length ≤ length block) (small : (i : ℕ) → get_or block i 0 < 256) where
+    recorder_left : (next : Recorder) → ticked_state (decoded_recorder block) memory ≡ next
+        → sets block scope_place (encoded_instruments (with_recorder (decoded_instruments block) next))
+        ≡ sets block 0 (encoded (ticked_target (decoded block) memory))
+    recorder_left next e =
+        ap (λ (r : Recorder). sets block scope_place (encoded_instruments (with_recorder (decoded_instruments block) r))) (sym e)
+        ∙ instruments_stored block long small (with_recorder (decoded_instruments block) (ticked_state (decoded_recorder block) memory))
 
-    nothing_left : Leaves (decodedRecorder block) memory (decodedRecorder block) memory → Ticked block memory block memory
+    nothing_left : Leaves (decoded_recorder block) memory (decoded_recorder block) memory → Ticked block memory block memory
     nothing_left l =
         record {
-          state = sym (same-instruments block long small) ∙ recorder-left (decodedRecorder block) l.0;
-          memory-left = sym l.1;
+          state = sym (same_instruments block long small) ∙ recorder_left (decoded_recorder block) l.0;
+          memory_left = sym l.1;
         }
 
-    run-left : (run : Run) (after left : List ℕ) → after ≡ sets block runPlace (encodedRun run)
-        → Leaves (decodedRecorder block) memory (record { ready = (decodedRecorder block).ready; plan = (decodedRecorder block).plan; run = run }) left
+    run_left : (run : Run) (after left : List ℕ) → after ≡ sets block run_place (encoded_run run)
+        → Leaves (decoded_recorder block) memory (record { ready = (decoded_recorder block).ready; plan = (decoded_recorder block).plan; run = run }) left
         → Ticked block memory after left
-    run-left run after left e l =
-        record { state = e ∙ run-stored block long small run ∙ recorder-left _ l.0; memory-left = sym l.1 }
+    run_left run after left e l =
+        record { state = e ∙ run_stored block long small run ∙ recorder_left _ l.0; memory_left = sym l.1 }
 
     -- ---- the wait alone
 
     -- flags and watch, in front of the wait
-    front_same : set (set (set block runPlace (get_or block runPlace 0)) fullPlace (get_or block fullPlace 0)) watchPlace (get_or block watchPlace 0) ≡ block
+    front_same : set (set (set block run_place (get_or block run_place 0)) full_place (get_or block full_place 0)) watch_place (get_or block watch_place 0) ≡ block
     front_same =
-        ap (λ (l : List ℕ). set (set l fullPlace (get_or block fullPlace 0)) watchPlace (get_or block watchPlace 0)) (set-get_or block runPlace 0)
-        ∙ ap (λ (l : List ℕ). set l watchPlace (get_or block watchPlace 0)) (set-get_or block fullPlace 0)
-        ∙ set-get_or block watchPlace 0
+        ap (λ (l : List ℕ). set (set l full_place (get_or block full_place 0)) watch_place (get_or block watch_place 0)) (set-get_or block run_place 0)
+        ∙ ap (λ (l : List ℕ). set l watch_place (get_or block watch_place 0)) (set-get_or block full_place 0)
+        ∙ set-get_or block watch_place 0
 
     -- place and value, behind it
-    behind-kept : littleEndian 2 (number (bytes_at block placePlace 2)) ++ littleEndian 4 (number (bytes_at block valuePlace 4)) ≡ bytes_at block placePlace 6
-    behind-kept =
-        (λ i. number-kept block small placePlace 2 (omega arith) i ++ number-kept block small valuePlace 4 (omega arith) i)
-        ∙ bytes-append block placePlace 2 4
+    behind_kept : little_endian 2 (number (bytes_at block place_place 2)) ++ little_endian 4 (number (bytes_at block value_place 4)) ≡ bytes_at block place_place 6
+    behind_kept =
+        (λ i. number_kept block small place_place 2 (omega arith) i ++ number_kept block small value_place 4 (omega arith) i)
+        ∙ bytes_append block place_place 2 4
 
-    wait-stored : (wait : ℕ)
-        → sets block waitPlace (littleEndian 2 wait)
-        ≡ sets block runPlace
-        (encodedRun (withWait (decodedRun block) wait))
-    unfolding encodedRun
-    wait-stored wait =
-        let behind = littleEndian 2 (number (bytes_at block placePlace 2)) ++ littleEndian 4 (number (bytes_at block valuePlace 4)) in
-        let waits = sets block waitPlace (littleEndian 2 wait) in
+    wait_stored : (wait : ℕ)
+        → sets block wait_place (little_endian 2 wait)
+        ≡ sets block run_place
+        (encoded_run (with_wait (decoded_run block) wait))
+    unfolding encoded_run
+    wait_stored wait =
+        let behind = little_endian 2 (number (bytes_at block place_place 2)) ++ little_endian 4 (number (bytes_at block value_place 4)) in
+        let waits = sets block wait_place (little_endian 2 wait) in
         sym
-        (ap (λ (l : List ℕ). sets l waitPlace (littleEndian 2 wait ++ behind)) front_same
-        ∙ sets-two block (littleEndian 2 wait) behind waitPlace 2 placePlace refl refl
-        ∙ ap (sets waits placePlace) (behind-kept ∙ sym (bytes-behind (littleEndian 2 wait) block waitPlace placePlace 6 (omega arith)))
-        ∙ sets_same 6 waits placePlace (omega (arith, length-sets block waitPlace (littleEndian 2 wait))))
+        (ap (λ (l : List ℕ). sets l wait_place (little_endian 2 wait ++ behind)) front_same
+        ∙ sets_two block (little_endian 2 wait) behind wait_place 2 place_place refl refl
+        ∙ ap (sets waits place_place) (behind_kept ∙ sym (bytes_behind (little_endian 2 wait) block wait_place place_place 6 (omega arith)))
+        ∙ sets_same 6 waits place_place (omega (arith, length-sets block wait_place (little_endian 2 wait))))
 
     -- ---- the cases, by what is read
 
-    pub absent-ticked : get_or block recorderPlace 0 ≡ 0 → Ticked block memory block memory
-    unfolding decodedRecorder
-    absent-ticked e = nothing_left (absent-leaves (decodedRecorder block) memory e)
+    pub absent_ticked : get_or block recorder_place 0 ≡ 0 → Ticked block memory block memory
+    unfolding decoded_recorder
+    absent_ticked e = nothing_left (absent_leaves (decoded_recorder block) memory e)
 
-    module _ (s : sound (decoded block) ≡ true) (n : get_or block recorderPlace 0 ≡ 0 → ⊥) (run : Run) (e : run ≡ decodedRun block) where
-      recorder-sound : recorder.sound (decodedRecorder block) ≡ true
-      recorder-sound = (parts-of (decoded block) s).recorder-part
+    module _ (s : sound (decoded block) ≡ true) (n : get_or block recorder_place 0 ≡ 0 → ⊥) (run : Run) (e : run ≡ decoded_run block) where
+      recorder_sound : recorder.sound (decoded_recorder block) ≡ true
+      recorder_sound = (parts_of_lem (decoded block) s).recorder_part
 
-      pub stopped-ticked : run.running ≡ 0 → Ticked block memory block memory
-      unfolding decodedRecorder
-      stopped-ticked z =
-          nothing_left (stopped-leaves (decodedRecorder block) memory recorder-sound n (ap (λ (r : Run). r.running) (sym e) ∙ z))
+      pub stopped_ticked : run.running ≡ 0 → Ticked block memory block memory
+      unfolding decoded_recorder
+      stopped_ticked z =
+          nothing_left (stopped_leaves (decoded_recorder block) memory recorder_sound n (ap (λ (r : Run). r.running) (sym e) ∙ z))
 
       module _ (g : run.running ≡ 0 → ⊥) where
-        goes : (decodedRun block).running ≡ 0 → ⊥
+        goes : (decoded_run block).running ≡ 0 → ⊥
         goes z = g (ap (λ (r : Run). r.running) e ∙ z)
 
-        pub waiting-ticked : 0 < run.wait → (after : List ℕ) → after ≡ sets block waitPlace (littleEndian 2 (run.wait - 1)) → Ticked block memory after memory
-        unfolding decodedRecorder
-        waiting-ticked w after stored_there =
-            let same : run.wait ≡ (decodedRun block).wait = ap (λ (r : Run). r.wait) e in
-            run-left _ after memory
-            (stored_there ∙ ap (λ (k : ℕ). sets block waitPlace (littleEndian 2 (k - 1))) same ∙ wait-stored ((decodedRun block).wait - 1))
-            (waiting-leaves (decodedRecorder block) memory recorder-sound n goes (omega arith))
+        pub waiting_ticked : 0 < run.wait → (after : List ℕ) → after ≡ sets block wait_place (little_endian 2 (run.wait - 1)) → Ticked block memory after memory
+        unfolding decoded_recorder
+        waiting_ticked w after stored_there =
+            let same : run.wait ≡ (decoded_run block).wait = ap (λ (r : Run). r.wait) e in
+            run_left _ after memory
+            (stored_there ∙ ap (λ (k : ℕ). sets block wait_place (little_endian 2 (k - 1))) same ∙ wait_stored ((decoded_run block).wait - 1))
+            (waiting_leaves (decoded_recorder block) memory recorder_sound n goes (omega arith))
 
         -- what a set that is due asks for
-        pub due-lent : length memory ≡ memoryEnd → Due block run memory
-        unfolding decodedRecorder
-        due-lent whole =
-            let p = parts (decodedRecorder block) memory recorder-sound n in
+        pub due_lent : length memory ≡ memory_end → Due block run memory
+        unfolding decoded_recorder
+        due_lent whole =
+            let p = parts (decoded_recorder block) memory recorder_sound n in
             record {
               long = long;
-              plan-sound = p.plan;
-              run_sound = ap (runSound (decodedPlan block)) e ∙ p.run;
-              runs = ap (λ (r : Run). r.running) e ∙ runs (decodedRecorder block) memory recorder-sound n goes;
-              memory-whole = whole;
+              plan_sound_lem = p.plan;
+              run_sound_lem = ap (run_sound (decoded_plan block)) e ∙ p.run;
+              runs = ap (λ (r : Run). r.running) e ∙ runs (decoded_recorder block) memory recorder_sound n goes;
+              memory_whole = whole;
             }
 
-        pub due-ticked : run.wait ≤ 0 → (next : Run) (after left : List ℕ) → Took block run memory next left
-            → after ≡ sets block runPlace (encodedRun next) → Ticked block memory after left
-        unfolding decodedRecorder
-        due-ticked z next after left took a =
-            let d = due-leaves (decodedRecorder block) memory recorder-sound n goes (sym (ap (λ (r : Run). r.wait) e) ∙ omega arith) in
-            let same : next ≡ runKept (setTaken (plan_of (decodedPlan block)) (run_of (decodedRun block)) memory) =
-            took.run-after ∙ ap (λ (r : Run). runKept (setTaken (plan_of (decodedPlan block)) (run_of r) memory)) e in
-            let there = took.memory-left ∙ ap (λ (r : Run). stored memory (placeBegins (plan_of (decodedPlan block)) r.place) (setOf (plan_of (decodedPlan block)) memory)) e in
-            let t = run-left (runKept (setTaken (plan_of (decodedPlan block)) (run_of (decodedRun block)) memory)) after _ (a ∙ ap (λ (r : Run). sets block runPlace (encodedRun r)) same) d in
-            record { state = t.state; memory-left = there ∙ t.memory-left }
+        pub due_ticked : run.wait ≤ 0 → (next : Run) (after left : List ℕ) → Took block run memory next left
+            → after ≡ sets block run_place (encoded_run next) → Ticked block memory after left
+        unfolding decoded_recorder
+        due_ticked z next after left took a =
+            let d = due_leaves (decoded_recorder block) memory recorder_sound n goes (sym (ap (λ (r : Run). r.wait) e) ∙ omega arith) in
+            let same : next ≡ run_kept (set_taken (plan_of (decoded_plan block)) (run_of (decoded_run block)) memory) =
+            took.run_after ∙ ap (λ (r : Run). run_kept (set_taken (plan_of (decoded_plan block)) (run_of r) memory)) e in
+            let there = took.memory_left ∙ ap (λ (r : Run). stored memory (place_begins (plan_of (decoded_plan block)) r.place) (set_of (plan_of (decoded_plan block)) memory)) e in
+            let t = run_left (run_kept (set_taken (plan_of (decoded_plan block)) (run_of (decoded_run block)) memory)) after _ (a ∙ ap (λ (r : Run). sets block run_place (encoded_run r)) same) d in
+            record { state = t.state; memory_left = there ∙ t.memory_left }

@@ -3,21 +3,21 @@
 use Rattle.std.specs.Prelude.{◌≡◌, cond, List, ℕ, eqb}
 use Rattle.std.proofs.lemmas.List.Edits.{sets}
 use Rattle.document.specs.Numbers.{taken}
-use Rattle.document.specs.Recorder.{tickedMemory}
-use Rattle.recorder_state.specs.State.{recorderOf}
-use Rattle.recorder_taking.specs.Tick.{tickedState}
-use Rattle.state_parts.specs.State.{withInstruments, Target, withRecorder}
+use Rattle.document.specs.Recorder.{ticked_memory}
+use Rattle.recorder_state.specs.State.{recorder_of}
+use Rattle.recorder_taking.specs.Tick.{ticked_state}
+use Rattle.state_parts.specs.State.{with_instruments, Target, with_recorder}
 use Rattle.state_block.specs.Layout.{decoded, encoded}
-use Rattle.call_checks.specs.Promises.{tickNumber}
+use Rattle.call_checks.specs.Promises.{tick_number}
 
 -- the link and the scope know nothing of a tick
-abbrev pub tickedTarget : Target → List ℕ → Target
-tickedTarget t memory = withInstruments t (withRecorder t.instruments (tickedState t.instruments.recorder memory))
+abbrev pub ticked_target : Target → List ℕ → Target
+ticked_target t memory = with_instruments t (with_recorder t.instruments (ticked_state t.instruments.recorder memory))
 
 pub record TickTaken (block memory : List ℕ) (r : ℕ) (after left : List ℕ) : Type 0 where
-  pub result : r ≡ tickNumber block memory
+  pub result : r ≡ tick_number block memory
   pub state :
-      after ≡ cond (eqb (tickNumber block memory) taken) (sets block 0 (encoded (tickedTarget (decoded block) memory))) block
-  pub memory-left :
+      after ≡ cond (eqb (tick_number block memory) taken) (sets block 0 (encoded (ticked_target (decoded block) memory))) block
+  pub memory_left :
       left
-      ≡ cond (eqb (tickNumber block memory) taken) (tickedMemory (recorderOf (decoded block).instruments.recorder) memory) memory
+      ≡ cond (eqb (tick_number block memory) taken) (ticked_memory (recorder_of (decoded block).instruments.recorder) memory) memory

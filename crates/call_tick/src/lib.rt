@@ -1,8 +1,8 @@
 // The gate's tick over a block: a set every (time divider + 1)th, into its place of the ring.
 ghost use Rattle.std.specs.Prelude.{◌≡◌, true, ◌≤◌, length};
-ghost use Rattle.document.specs.Areas.{memoryEnd};
+ghost use Rattle.document.specs.Areas.{memory_end};
 ghost use Rattle.state_parts.specs.Bounds.{sound};
-ghost use Rattle.state_block.specs.Places.{stateLength};
+ghost use Rattle.state_block.specs.Places.{state_length};
 ghost use Rattle.state_block.specs.Layout.{decoded};
 ghost use Rattle.call_tick.specs.Promises.{TickTaken};
 ghost use Rattle.call_tick.specs.Parts.{Due, Took, Ticked};
@@ -29,7 +29,7 @@ fn take(state: &[u8], memory: &mut [u8], run: Run) -> Run
 
 // A tick that nothing refuses: only the recorder's run changes, and while it waits only the wait.
 fn tick_within(state: &mut [u8], memory: &mut [u8])
-    requires { (stateLength ≤ length state.old) × (sound (decoded state.old) ≡ true) × (length memory.old ≡ memoryEnd) }
+    requires { (state_length ≤ length state.old) × (sound (decoded state.old) ≡ true) × (length memory.old ≡ memory_end) }
     ensures { Ticked state.old memory.old state.new memory.new }
 {
     if state[READY] == 0 {

@@ -43,5 +43,5 @@ operations =
     ∷ MeasureString
     ∷ []
 
-abbrev pub operationNumbered : ℕ → Operation
-operationNumbered n = get_or operations n Unserved
+abbrev pub operation_numbered : ℕ → Operation
+operation_numbered n = get_or operations n Unserved

@@ -1,7 +1,7 @@
 // What an entry of the table says, column by column.
 ghost use Rattle.std.specs.Prelude.{◌≡◌, ◌%◌};
-ghost use Rattle.codes_rows.specs.Numbering.{operationNumbered};
-ghost use Rattle.codes_table.specs.Table.{lengthIn, serviceIn};
+ghost use Rattle.codes_rows.specs.Numbering.{operation_numbered};
+ghost use Rattle.codes_table.specs.Table.{length_in, service_in};
 
 use codes_rows::columns::{
     COMMAND_RESULT, DESCRIBE, DESCRIBE_BRIEFLY, EX, FAST, LENGTH, MEASURE_STRING,
@@ -18,7 +18,7 @@ pub enum Length {
 }
 
 pub fn length_in(entry: u16) -> Length
-    ensures { result ≡ lengthIn entry }
+    ensures { result ≡ length_in entry }
 {
     let n = entry / LENGTH % 8;
     if n == TOLD / LENGTH {
@@ -28,7 +28,7 @@ pub fn length_in(entry: u16) -> Length
 }
 
 fn operation_in(entry: u16) -> Operation
-    ensures { result ≡ operationNumbered (entry % 64) }
+    ensures { result ≡ operation_numbered (entry % 64) }
 {
     match entry % SIZE {
         DESCRIBE => Operation::Describe,
@@ -53,7 +53,7 @@ fn operation_in(entry: u16) -> Operation
 
 // The kind alone says whether a command is served.
 pub fn service_in(entry: u16) -> Service
-    ensures { result ≡ serviceIn entry }
+    ensures { result ≡ service_in entry }
 {
     if entry < FAST {
         return Service {

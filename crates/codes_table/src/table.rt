@@ -1,8 +1,8 @@
 // The one table of all 256 commands: for each the number of its row. A look builds the array on the stack, so it holds bytes and
 // stands in quarters, of which a look builds one, and what a row says stands in a match.
 ghost use Rattle.std.specs.Prelude.{◌≡◌, ◌+◌, ◌<◌};
-ghost use Rattle.document.specs.Services.{serviceOf};
-ghost use Rattle.codes_rows.specs.Rows.{rowNumber};
+ghost use Rattle.document.specs.Services.{service_of};
+ghost use Rattle.codes_rows.specs.Rows.{row_number};
 ghost use Rattle.codes_table.specs.Table.{length_of};
 ghost use Rattle.codes_rows.specs.Rule.{entry_of};
 
@@ -289,34 +289,34 @@ const LAST_QUARTER: [u8; 64] = [
 
 fn in_first(low: usize) -> u8
     requires { low < 64 }
-    ensures { result ≡ rowNumber low }
+    ensures { result ≡ row_number low }
 {
     FIRST_QUARTER[low]
 }
 
 fn in_second(low: usize) -> u8
     requires { low < 64 }
-    ensures { result ≡ rowNumber (64 + low) }
+    ensures { result ≡ row_number (64 + low) }
 {
     SECOND_QUARTER[low]
 }
 
 fn in_third(low: usize) -> u8
     requires { low < 64 }
-    ensures { result ≡ rowNumber (128 + low) }
+    ensures { result ≡ row_number (128 + low) }
 {
     THIRD_QUARTER[low]
 }
 
 fn in_last(low: usize) -> u8
     requires { low < 64 }
-    ensures { result ≡ rowNumber (192 + low) }
+    ensures { result ≡ row_number (192 + low) }
 {
     LAST_QUARTER[low]
 }
 
 fn row_number(command: u8) -> u8
-    ensures { result ≡ rowNumber command }
+    ensures { result ≡ row_number command }
 {
     let low = usize_of_u8(command % 64);
     match command / 64 {
@@ -340,7 +340,7 @@ pub fn data_length(command: u8) -> Length
 }
 
 pub fn service_of(command: u8) -> Service
-    ensures { result ≡ serviceOf command }
+    ensures { result ≡ service_of command }
 {
     service_in(entry(command))
 }

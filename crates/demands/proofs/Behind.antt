@@ -6,20 +6,20 @@ use native.Mathlib.Omega.{arith}
 use borrow.Author.Tests.{eqb-true, eqb-false}
 use lib.Dec.{eqb}
 use lib.ListN.{length, length-take}
-use Rattle.document.specs.Numbers.{mostData, taken}
-use Rattle.document.specs.Application.{newCommand}
-use Rattle.document.specs.Modbus.{modbusAnswer, modbusRoom}
+use Rattle.document.specs.Numbers.{most_data, taken}
+use Rattle.document.specs.Application.{new_command}
+use Rattle.document.specs.Modbus.{modbus_answer, modbus_room}
 use Rattle.document.proofs.Cases.{split}
 use Rattle.line_wire.proofs.Left.{sets_behind}
-use Rattle.application_state.proofs.Means.{new-few}
-use Rattle.state_block.specs.Layout.{decodedApplication, decoded}
-use Rattle.call_checks.specs.Promises.{blockSound}
-use Rattle.call_checks.proofs.ApplicationNumbers.{collect-known}
+use Rattle.application_state.proofs.Means.{new_few}
+use Rattle.state_block.specs.Layout.{decoded_application, decoded}
+use Rattle.call_checks.specs.Promises.{block_sound}
+use Rattle.call_checks.proofs.ApplicationNumbers.{collect_known}
 use Rattle.call_modbus.proofs.Answers.{lent-right}
-use Rattle.laws_calls.specs.Calls.{Call, Lent, Left, length_of, commandIn, Outcome, number_of, leaves, kept}
+use Rattle.laws_calls.specs.Calls.{Call, Lent, Left, length_of, command_in, Outcome, number_of, leaves, kept}
 use Rattle.laws_calls.specs.Promised.{Promised}
-use Rattle.laws_calls.proofs.Settled.{taken-leaves, call-refused}
-use Rattle.laws_calls.proofs.Sends.{modbus-fits}
+use Rattle.laws_calls.proofs.Settled.{taken_leaves, call_refused}
+use Rattle.laws_calls.proofs.Sends.{modbus_fits}
 use Rattle.demands.specs.Buffers.{BehindKept}
 
 module _ (room : ℕ) (c : Call) (l : Lent) (o : Outcome) (p : Promised l c o) where
@@ -30,38 +30,38 @@ module _ (room : ℕ) (c : Call) (l : Lent) (o : Outcome) (p : Promised l c o) w
   either : (number_of c l ≡ taken → BehindKept room l.buffer (length_of (leaves c l)) (leaves c l).buffer) → length_of (kept c l) ≡ 0
       → BehindKept room l.buffer (length_of o.left) o.left.buffer
   either when-taken none =
-      let known = call-refused l c o p in
+      let known = call_refused l c o p in
       split (eqb o.number taken)
       (λ t.
       let fine : o.number ≡ taken = eqb-true o.number taken t in
-      subst Leaves (sym (taken-leaves l c o p fine)) (when-taken (sym known.number ∙ fine)))
+      subst Leaves (sym (taken_leaves l c o p fine)) (when-taken (sym known.number ∙ fine)))
       (λ f.
       subst Leaves (sym (known.unchanged (eqb-false o.number taken f)))
       (record { behind = refl; fits = omega (arith, none) }))
 
 module _ (l : Lent) (o : Outcome) where
-  pub modbus-behind : (station : ℕ) (bytes : List ℕ) → Promised l (Call.frame station bytes) o
-      → BehindKept modbusRoom l.buffer (length_of o.left) o.left.buffer
-  modbus-behind station bytes p =
-      let answer : List ℕ = modbusAnswer station bytes l.memory in
-      let short : length answer ≤ modbusRoom = modbus-fits station bytes l.memory in
-      either modbusRoom (Call.frame station bytes) l o p
+  pub modbus_behind : (station : ℕ) (bytes : List ℕ) → Promised l (Call.frame station bytes) o
+      → BehindKept modbus_room l.buffer (length_of o.left) o.left.buffer
+  modbus_behind station bytes p =
+      let answer : List ℕ = modbus_answer station bytes l.memory in
+      let short : length answer ≤ modbus_room = modbus_fits station bytes l.memory in
+      either modbus_room (Call.frame station bytes) l o p
       (λ fine.
       let room = (lent-right station l.memory l.buffer fine).room in
       record { behind = sets_behind answer l.buffer (omega (arith, short, room)); fits = short })
       refl
 
-  stored-few : length (decodedApplication l.block).bytes ≤ mostData
-  unfolding decodedApplication
-  stored-few = simp length-take (omega arith)
+  stored_few : length (decoded_application l.block).bytes ≤ most_data
+  unfolding decoded_application
+  stored_few = simp length-take (omega arith)
 
   -- "Bytes behind the command, or all when nothing is new, keep their values."
-  pub collect-kept : Promised l Call.collect o → BehindKept mostData l.buffer (length_of o.left) o.left.buffer
-  collect-kept p =
-      let command : List ℕ = newCommand (commandIn (decoded l.block)) in
-      let few : length command ≤ mostData = omega (arith, new-few (decodedApplication l.block), stored-few) in
-      either mostData Call.collect l o p
+  pub collect_kept : Promised l Call.collect o → BehindKept most_data l.buffer (length_of o.left) o.left.buffer
+  collect_kept p =
+      let command : List ℕ = new_command (command_in (decoded l.block)) in
+      let few : length command ≤ most_data = omega (arith, new_few (decoded_application l.block), stored_few) in
+      either most_data Call.collect l o p
       (λ fine.
-      let room = (collect-known (blockSound l.block) l.buffer fine).1 in
+      let room = (collect_known (block_sound l.block) l.buffer fine).1 in
       record { behind = sets_behind command l.buffer (omega (arith, few, room)); fits = few })
       refl

@@ -4,28 +4,28 @@ use mathlib.Core.List.{List, [], ◌∷◌, ◌++◌, map, append-nil, foldl-app
 use Prim.Native.Nat.{ℕ, ◌≤◌}
 use native.Mathlib.Omega.{arith}
 use lib.ListN.{length, take, drop}
-use Rattle.document.specs.Numbers.{answerRoom}
-use Rattle.document.specs.Message.{Message, finishedBy}
-use Rattle.document.specs.Answer.{Answer, answerOnWire}
+use Rattle.document.specs.Numbers.{answer_room}
+use Rattle.document.specs.Message.{Message, finished_by}
+use Rattle.document.specs.Answer.{Answer, answer_on_wire}
 use Rattle.document.specs.Gate.{Gate, Outcome}
 use Rattle.document.specs.Commands.{answered}
 use Rattle.document.specs.Happenings.{Since}
-use Rattle.document.specs.Blocks.{answersOnWire}
-use Rattle.laws_happenings.proofs.Blocks.{answersTo}
-use Rattle.line_wire.proofs.Left.{sets-front, sets_behind, answer-fits}
+use Rattle.document.specs.Blocks.{answers_on_wire}
+use Rattle.laws_happenings.proofs.Blocks.{answers_to}
+use Rattle.line_wire.proofs.Left.{sets_front, sets_behind, answer_fits}
 use Rattle.line_receiver.specs.declared.Event.{Event}
 use Rattle.line_receiver.specs.declared.Event.TheVariants.{Nothing, Keep, Whole}
 use Rattle.line_receiver.specs.Bounds as link
 use Rattle.line_receiver.specs.Step.{stepped}
-use Rattle.line_receiver.specs.Report.{HeldMessage, held, Beside, body_after, reportOf, onByte, sinceReset}
+use Rattle.line_receiver.specs.Report.{HeldMessage, held, Beside, body_after, report_of, on_byte, since_reset}
 use Rattle.line_receiver.proofs.Reports.{reports}
-use Rattle.state_parts.specs.State.{Target, gateOf}
-use Rattle.state_byte.specs.AnsweredHeld.{answeredHeld}
-use Rattle.state_byte.proofs.Held.{answered-held}
-use Rattle.state_byte.proofs.Fits.{held-formed}
+use Rattle.state_parts.specs.State.{Target, gate_of}
+use Rattle.state_byte.specs.AnsweredHeld.{answered_held}
+use Rattle.state_byte.proofs.Held.{answered_held_lem}
+use Rattle.state_byte.proofs.Fits.{held_formed}
 use Rattle.state_byte.proofs.HeldLaws.{held_kept}
-use Rattle.state_byte.specs.Turn.{Turn, silent, keeping, heldBy, answering, turn}
-use Rattle.state_byte.proofs.TurnLaws.{next_of, by-event}
+use Rattle.state_byte.specs.Turn.{Turn, silent, keeping, held_by, answering, turn}
+use Rattle.state_byte.proofs.TurnLaws.{next_of, by_event}
 use Rattle.demands.specs.AsDefined.{blank, link_in}
 
 -- what goes over the wire; a length of 0 is no answer
@@ -33,49 +33,49 @@ abbrev pub replied : Turn → List ℕ
 replied u = take u.length u.buffer
 
 -- ---- lists
-map-none : (ms : List Message) → map held ms ≡ [] → ms ≡ []
-map-none [] e = refl
-map-none (m ∷ ms) e = let z : ◌≡◌ {A = ℕ} 0 1 = cc in absurd (omega arith)
+map_none : (ms : List Message) → map held ms ≡ [] → ms ≡ []
+map_none [] e = refl
+map_none (m ∷ ms) e = let z : ◌≡◌ {A = ℕ} 0 1 = cc in absurd (omega arith)
 
 -- ---- answers
-abbrev pub gateAfter : Gate → List Message → Gate
-gateAfter g [] = g
-gateAfter g (m ∷ ms) = (answered g m).gate
+abbrev pub gate_after : Gate → List Message → Gate
+gate_after g [] = g
+gate_after g (m ∷ ms) = (answered g m).gate
 
 -- a turn's state, memory and reply stand for what the definition gives, behind the bytes bs and with this buffer lent
 pub record TurnMeans (u : Turn) (buffer : List ℕ) (g : Gate) (bs : List ℕ) (ms : List Message) : Type 0 where
-  pub gate : gateOf u.next.instruments u.memory ≡ gateAfter g ms
-  pub link-part : link_in u.next ≡ sinceReset blank bs
-  pub answers : replied u ≡ answersOnWire (answersTo g ms)
+  pub gate : gate_of u.next.instruments u.memory ≡ gate_after g ms
+  pub link_part : link_in u.next ≡ since_reset blank bs
+  pub answers : replied u ≡ answers_on_wire (answers_to g ms)
   pub behind : drop u.length u.buffer ≡ drop u.length buffer
-  pub fits : u.length ≤ answerRoom
+  pub fits : u.length ≤ answer_room
 
-module _ (t : Target) (b : ℕ) (memory buffer : List ℕ) (room : answerRoom ≤ length buffer) (s : Since)
-    (stands : gateOf t.instruments memory ≡ s.gate) (linked : link_in t ≡ sinceReset blank s.bytes) where
+module _ (t : Target) (b : ℕ) (memory buffer : List ℕ) (room : answer_room ≤ length buffer) (s : Since)
+    (stands : gate_of t.instruments memory ≡ s.gate) (linked : link_in t ≡ since_reset blank s.bytes) where
   abbrev grown : List ℕ
   grown = s.bytes ++ (b ∷ [])
 
-  event-reports : reportOf (stepped t.receiver b).event t.body ≡ map held (finishedBy s.bytes b)
-  event-reports =
-      ap (λ (q : Beside). reportOf (stepped q.receiver b).event q.body) linked
+  event_reports : report_of (stepped t.receiver b).event t.body ≡ map held (finished_by s.bytes b)
+  event_reports =
+      ap (λ (q : Beside). report_of (stepped q.receiver b).event q.body) linked
       ∙ reports blank refl s.bytes b
 
   -- the receiver and the body go on as since reset
-  link-next : (e : Event) → (stepped t.receiver b).event ≡ e
-      → ◌≡◌ {A = Beside} (record { receiver = (stepped t.receiver b).next; body = body_after e t.body }) (sinceReset blank grown)
-  link-next e is =
+  link_next : (e : Event) → (stepped t.receiver b).event ≡ e
+      → ◌≡◌ {A = Beside} (record { receiver = (stepped t.receiver b).next; body = body_after e t.body }) (since_reset blank grown)
+  link_next e is =
       ap (λ (k : Event). record { receiver = (stepped t.receiver b).next; body = body_after k t.body }) (sym is)
-      ∙ ap (λ (q : Beside). onByte q b) linked
-      ∙ sym (foldl-append onByte (record { receiver = link.fresh; body = blank }) s.bytes (b ∷ []))
+      ∙ ap (λ (q : Beside). on_byte q b) linked
+      ∙ sym (foldl-append on_byte (record { receiver = link.fresh; body = blank }) s.bytes (b ∷ []))
 
   -- a byte that finishes nothing
-  quiet : (e : Event) (u : Turn) → (stepped t.receiver b).event ≡ e → reportOf e t.body ≡ []
+  quiet : (e : Event) (u : Turn) → (stepped t.receiver b).event ≡ e → report_of e t.body ≡ []
       → turn t b memory buffer ≡ u → TurnMeans u buffer s.gate grown []
-      → TurnMeans (turn t b memory buffer) buffer s.gate grown (finishedBy s.bytes b)
+      → TurnMeans (turn t b memory buffer) buffer s.gate grown (finished_by s.bytes b)
   quiet e u is none turned silent-stands =
-      let nothing : finishedBy s.bytes b ≡ [] =
-      map-none (finishedBy s.bytes b) (sym event-reports ∙ ap (λ (k : Event). reportOf k t.body) is ∙ none) in
-      subst (λ (q : Turn). TurnMeans q buffer s.gate grown (finishedBy s.bytes b)) (sym turned)
+      let nothing : finished_by s.bytes b ≡ [] =
+      map_none (finished_by s.bytes b) (sym event_reports ∙ ap (λ (k : Event). report_of k t.body) is ∙ none) in
+      subst (λ (q : Turn). TurnMeans q buffer s.gate grown (finished_by s.bytes b)) (sym turned)
       (subst (λ (ms : List Message). TurnMeans u buffer s.gate grown ms) (sym nothing) silent-stands)
 
   -- a byte that finishes a message
@@ -84,48 +84,48 @@ module _ (t : Target) (b : ℕ) (memory buffer : List ℕ) (room : answerRoom �
     next = next_of t b memory buffer
 
     abbrev H : HeldMessage
-    H = heldBy next c n sum
+    H = held_by next c n sum
 
-    told-stands : (m : Message) (ms : List Message) → H ≡ held m
+    told_stands : (m : Message) (ms : List Message) → H ≡ held m
         → TurnMeans (answering next c n sum memory buffer) buffer s.gate grown (m ∷ ms)
-    told-stands m ms same =
-        let outcome : answeredHeld (gateOf t.instruments memory) H ≡ answered s.gate m =
-        (λ j. answeredHeld (stands j) (same j)) ∙ answered-held s.gate m in
-        let a : Answer = (answeredHeld (gateOf t.instruments memory) H).answer in
-        let short : length (answerOnWire a) ≤ answerRoom = answer-fits a (held-formed (gateOf t.instruments memory) H) in
-        let fits : length (answerOnWire a) ≤ length buffer = omega (arith, room, short) in
+    told_stands m ms same =
+        let outcome : answered_held (gate_of t.instruments memory) H ≡ answered s.gate m =
+        (λ j. answered_held (stands j) (same j)) ∙ answered_held_lem s.gate m in
+        let a : Answer = (answered_held (gate_of t.instruments memory) H).answer in
+        let short : length (answer_on_wire a) ≤ answer_room = answer_fits a (held_formed (gate_of t.instruments memory) H) in
+        let fits : length (answer_on_wire a) ≤ length buffer = omega (arith, room, short) in
         record {
           gate = held_kept t.instruments memory H ∙ ap (λ (o : Outcome). o.gate) outcome;
-          link-part = link-next (Whole c n sum) is;
-          answers = sets-front (answerOnWire a) buffer fits ∙ ap (λ (o : Outcome). answerOnWire o.answer) outcome ∙ sym (append-nil (answerOnWire (answered s.gate m).answer));
-          behind = sets_behind (answerOnWire a) buffer fits;
+          link_part = link_next (Whole c n sum) is;
+          answers = sets_front (answer_on_wire a) buffer fits ∙ ap (λ (o : Outcome). answer_on_wire o.answer) outcome ∙ sym (append-nil (answer_on_wire (answered s.gate m).answer));
+          behind = sets_behind (answer_on_wire a) buffer fits;
           fits = short;
         }
 
-    whole-stands : TurnMeans (turn t b memory buffer) buffer s.gate grown (finishedBy s.bytes b)
-    whole-stands = by (finishedBy s.bytes b) refl
+    whole_stands : TurnMeans (turn t b memory buffer) buffer s.gate grown (finished_by s.bytes b)
+    whole_stands = by (finished_by s.bytes b) refl
       where
-        reported : H ∷ [] ≡ map held (finishedBy s.bytes b)
-        reported = ap (λ (k : Event). reportOf k t.body) (sym is) ∙ event-reports
+        reported : H ∷ [] ≡ map held (finished_by s.bytes b)
+        reported = ap (λ (k : Event). report_of k t.body) (sym is) ∙ event_reports
 
-        by : (ms : List Message) → finishedBy s.bytes b ≡ ms → TurnMeans (turn t b memory buffer) buffer s.gate grown (finishedBy s.bytes b)
+        by : (ms : List Message) → finished_by s.bytes b ≡ ms → TurnMeans (turn t b memory buffer) buffer s.gate grown (finished_by s.bytes b)
         by [] e =
             let none : H ∷ [] ≡ [] = reported ∙ ap (λ (l : List Message). map held l) e in
             let z : ◌≡◌ {A = ℕ} 0 1 = cc in absurd (omega arith)
         by (m ∷ ms) e =
             let some : H ∷ [] ≡ held m ∷ map held ms = reported ∙ ap (λ (l : List Message). map held l) e in
             let same : H ≡ held m = cc in
-            subst (λ (q : Turn). TurnMeans q buffer s.gate grown (finishedBy s.bytes b)) (sym (by-event t b memory buffer (Whole c n sum) is))
-            (subst (λ (l : List Message). TurnMeans (answering next c n sum memory buffer) buffer s.gate grown l) (sym e) (told-stands m ms same))
+            subst (λ (q : Turn). TurnMeans q buffer s.gate grown (finished_by s.bytes b)) (sym (by_event t b memory buffer (Whole c n sum) is))
+            (subst (λ (l : List Message). TurnMeans (answering next c n sum memory buffer) buffer s.gate grown l) (sym e) (told_stands m ms same))
 
-  pub turn-means : TurnMeans (turn t b memory buffer) buffer s.gate grown (finishedBy s.bytes b)
-  turn-means = by (stepped t.receiver b).event refl
+  pub turn_means : TurnMeans (turn t b memory buffer) buffer s.gate grown (finished_by s.bytes b)
+  turn_means = by (stepped t.receiver b).event refl
     where
-      by : (e : Event) → (stepped t.receiver b).event ≡ e → TurnMeans (turn t b memory buffer) buffer s.gate grown (finishedBy s.bytes b)
+      by : (e : Event) → (stepped t.receiver b).event ≡ e → TurnMeans (turn t b memory buffer) buffer s.gate grown (finished_by s.bytes b)
       by Nothing e =
-          quiet Nothing (silent (next_of t b memory buffer) memory buffer) e refl (by-event t b memory buffer Nothing e)
-          (record { gate = stands; link-part = link-next Nothing e; answers = refl; behind = refl; fits = omega arith })
+          quiet Nothing (silent (next_of t b memory buffer) memory buffer) e refl (by_event t b memory buffer Nothing e)
+          (record { gate = stands; link_part = link_next Nothing e; answers = refl; behind = refl; fits = omega arith })
       by (Keep at v) e =
-          quiet (Keep at v) (silent (keeping (next_of t b memory buffer) at v) memory buffer) e refl (by-event t b memory buffer (Keep at v) e)
-          (record { gate = stands; link-part = link-next (Keep at v) e; answers = refl; behind = refl; fits = omega arith })
-      by (Whole c n sum) e = whole-stands c n sum e
+          quiet (Keep at v) (silent (keeping (next_of t b memory buffer) at v) memory buffer) e refl (by_event t b memory buffer (Keep at v) e)
+          (record { gate = stands; link_part = link_next (Keep at v) e; answers = refl; behind = refl; fits = omega arith })
+      by (Whole c n sum) e = whole_stands c n sum e

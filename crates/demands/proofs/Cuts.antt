@@ -25,28 +25,28 @@ abbrev first_or : Happening → List Happening → Happening
 first_or e [] = e
 first_or e (x ∷ hs) = x
 
-cut-singly : (h last : Board) (hs : List Happening) → Singly h hs last → (earlier : List Happening) (e : Happening) (later : List Happening)
+cut_singly : (h last : Board) (hs : List Happening) → Singly h hs last → (earlier : List Happening) (e : Happening) (later : List Happening)
     → hs ≡ earlier ++ (e ∷ later) → Cut h earlier e later last
-cut-singly h last hs (ends _) earlier e later is =
+cut_singly h last hs (ends _) earlier e later is =
     let z : ◌≡◌ {A = ℕ} 0 (length (earlier ++ (e ∷ later))) = ap length is in
     absurd (omega (arith, z, length-append earlier (e ∷ later)))
-cut-singly h last hs (happens _ next _ x xs step run) [] e later is =
+cut_singly h last hs (happens _ next _ x xs step run) [] e later is =
     record {
       before = h;
       next = next;
-      to-there = Run.ends h;
+      to_there = Run.ends h;
       step = subst (λ (k : Happening). Step h k next) (ap (first_or e) is) step;
       on = subst (λ (l : List Happening). Run next l last) (ap (drop 1) is) (run_of next last xs run);
     }
-cut-singly h last hs (happens _ next _ x xs step run) (y ∷ earlier) e later is =
-    let cut = cut-singly next last xs run earlier e later (ap (drop 1) is) in
+cut_singly h last hs (happens _ next _ x xs step run) (y ∷ earlier) e later is =
+    let cut = cut_singly next last xs run earlier e later (ap (drop 1) is) in
     let here : Step h y next = subst (λ (k : Happening). Step h k next) (ap (first_or y) is) step in
-    record { before = cut.before; next = cut.next; to-there = Run.happens h next cut.before y earlier here cut.to-there; step = cut.step; on = cut.on }
-cut-singly h last hs (refuses _ next _ _ refused run) earlier e later is =
-    let cut = cut-singly next last hs run earlier e later is in
-    record { before = cut.before; next = cut.next; to-there = Run.refuses h next cut.before earlier refused cut.to-there; step = cut.step; on = cut.on }
+    record { before = cut.before; next = cut.next; to_there = Run.happens h next cut.before y earlier here cut.to_there; step = cut.step; on = cut.on }
+cut_singly h last hs (refuses _ next _ _ refused run) earlier e later is =
+    let cut = cut_singly next last hs run earlier e later is in
+    record { before = cut.before; next = cut.next; to_there = Run.refuses h next cut.before earlier refused cut.to_there; step = cut.step; on = cut.on }
 
 pub cut : (h : Board) (s : Since) → Reached h s → (earlier : List Happening) (e : Happening) (later : List Happening) (last : Board)
     → AreBytes (earlier ++ (e ∷ later)) → Run h (earlier ++ (e ∷ later)) last → Cut h earlier e later last
 cut h s r earlier e later last are run =
-    cut-singly h last (earlier ++ (e ∷ later)) (singly h last (earlier ++ (e ∷ later)) run s are r) earlier e later refl
+    cut_singly h last (earlier ++ (e ∷ later)) (singly h last (earlier ++ (e ∷ later)) run s are r) earlier e later refl

@@ -7,30 +7,30 @@ use native.Mathlib.Omega.{arith}
 use borrow.Author.Tests.{eqb-true, eqb-false, eq-eqb}
 use lib.Dec.{eqb}
 use lib.ListN.{drop, get_or}
-use Rattle.document.specs.Numbers.{isIn, done, sumWrong, isError}
-use Rattle.document.specs.Message.{Message, sumRight, finishedBy}
-use Rattle.document.specs.Answer.{Answer, answerOnWire}
+use Rattle.document.specs.Numbers.{is_in, done, sum_wrong, is_error}
+use Rattle.document.specs.Message.{Message, sum_right, finished_by}
+use Rattle.document.specs.Answer.{Answer, answer_on_wire}
 use Rattle.document.specs.Gate.{Gate, Outcome}
 use Rattle.document.specs.Refusals.{Refusal, order, table, first_of, refusal}
 use Rattle.document.specs.Commands.{answered}
 use Rattle.document.specs.Happenings.{Since, after}
 use Rattle.document.specs.Happenings.Happening.{byte}
 use Rattle.document.proofs.Cases.{split, neither, none_of}
-use Rattle.document.proofs.Order.{inOrder, table-in-order}
-use Rattle.document_outcomes.proofs.Answered.{accepted-right}
-use Rattle.demands.specs.Board.{Board, gateIn}
+use Rattle.document.proofs.Order.{in_order, table_in_order}
+use Rattle.document_outcomes.proofs.Answered.{accepted_right}
+use Rattle.demands.specs.Board.{Board, gate_in}
 use Rattle.demands.specs.AsDefined.{AsDefined}
-use Rattle.demands.specs.Sums.{sumAnswer, SumExactly}
-use Rattle.demands.proofs.Wire.{wire-refused, sum-refused}
-use Rattle.demands.proofs.Applying.{answers-then, only-said}
+use Rattle.demands.specs.Sums.{sum_answer, SumExactly}
+use Rattle.demands.proofs.Wire.{wire_refused, sum_refused_lem}
+use Rattle.demands.proofs.Applying.{answers_then, only_said}
 
 -- lines in an order that does not name a status never say it
-never_first : (x : ℕ) → (done ≡ x → ⊥) → (ss : List ℕ) (rs : List Refusal) → inOrder ss rs ≡ true → isIn x ss ≡ false → first_of rs ≡ x → ⊥
+never_first : (x : ℕ) → (done ≡ x → ⊥) → (ss : List ℕ) (rs : List Refusal) → in_order ss rs ≡ true → is_in x ss ≡ false → first_of rs ≡ x → ⊥
 never_first x some [] [] ordered other is = some is
 never_first x some [] (r ∷ rs) ordered other is = neither ordered
 never_first x some (s ∷ ss) [] ordered other is = some is
 never_first x some (s ∷ ss) (r ∷ rs) ordered other is =
-    let rest = none_of (eqb x s) (isIn x ss) other in
+    let rest = none_of (eqb x s) (is_in x ss) other in
     split (eqb s r.status)
     (λ here.
     split r.applies
@@ -41,36 +41,36 @@ never_first x some (s ∷ ss) (r ∷ rs) ordered other is =
     (λ later. never_first x some ss (r ∷ rs) (rw later at ordered) rest.1 is)
 
 module _ (g : Gate) (m : Message) where
-  right-refusal : sumRight m ≡ true → refusal g m ≡ sumWrong → ⊥
+  right_refusal : sum_right m ≡ true → refusal g m ≡ sum_wrong → ⊥
   unfolding refusal
-  right-refusal right is =
-      never_first sumWrong (λ z. omega arith) (drop 1 order) (drop 1 (table g m)) (table-in-order g m) refl (rw right at is)
+  right_refusal right is =
+      never_first sum_wrong (λ z. omega arith) (drop 1 order) (drop 1 (table g m)) (table_in_order g m) refl (rw right at is)
 
   -- only a wrong sum gets 0x82
-  sum-only : (answered g m).answer.status ≡ sumWrong → sumRight m ≡ false
-  sum-only is =
-      split (sumRight m)
+  sum_only : (answered g m).answer.status ≡ sum_wrong → sum_right m ≡ false
+  sum_only is =
+      split (sum_right m)
       (λ right.
       split (eqb (refusal g m) done)
-      (λ none. neither (sym (accepted-right g m (eqb-true (refusal g m) done none)) ∙ ap isError is))
+      (λ none. neither (sym (accepted_right g m (eqb-true (refusal g m) done none)) ∙ ap is_error is))
       (λ some.
-      let refused = (wire-refused g m).refused (eqb-false (refusal g m) done some) in
-      absurd (right-refusal right (sym (ap (λ (o : Outcome). o.answer.status) refused) ∙ is))))
+      let refused = (wire_refused g m).refused (eqb-false (refusal g m) done some) in
+      absurd (right_refusal right (sym (ap (λ (o : Outcome). o.answer.status) refused) ∙ is))))
       (λ wrong. wrong)
 
 -- the status stands behind the start byte
-status-on-wire : (a b : Answer) → answerOnWire a ≡ answerOnWire b → a.status ≡ b.status
-unfolding answerOnWire
-status-on-wire a b e = ap (λ (l : List ℕ). get_or l 1 0) e
+status_on_wire : (a b : Answer) → answer_on_wire a ≡ answer_on_wire b → a.status ≡ b.status
+unfolding answer_on_wire
+status_on_wire a b e = ap (λ (l : List ℕ). get_or l 1 0) e
 
 module _ (h last : Board) (s : Since) (now : AsDefined h s) (b : ℕ) (end : AsDefined last (after s (byte b))) (m : Message) (more : List Message)
-    (finished : finishedBy s.bytes b ≡ m ∷ more) where
-  pub finished-exactly : SumExactly m h last
-  finished-exactly =
+    (finished : finished_by s.bytes b ≡ m ∷ more) where
+  pub finished_exactly : SumExactly m h last
+  finished_exactly =
       record {
         only = λ told.
-            sum-only s.gate m
-            (status-on-wire (answered s.gate m).answer sumAnswer
-            (append_cancel_left h.answers _ _ (sym (answers-then h last s now b end m more finished) ∙ told)));
-        always = λ wrong. only-said h last s now b end m more finished sumWrong [] (sum-refused (gateIn h) m wrong);
+            sum_only s.gate m
+            (status_on_wire (answered s.gate m).answer sum_answer
+            (append_cancel_left h.answers _ _ (sym (answers_then h last s now b end m more finished) ∙ told)));
+        always = λ wrong. only_said h last s now b end m more finished sum_wrong [] (sum_refused_lem (gate_in h) m wrong);
       }

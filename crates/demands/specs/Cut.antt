@@ -7,6 +7,6 @@ use Rattle.demands.specs.Run.{Step, Run}
 pub record Cut (h : Board) (earlier : List Happening) (e : Happening) (later : List Happening) (last : Board) : Type 0 where
   pub before : Board
   pub next : Board
-  pub to-there : Run h earlier before
+  pub to_there : Run h earlier before
   pub step : Step before e next
   pub on : Run next later last

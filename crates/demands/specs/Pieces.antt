@@ -10,5 +10,5 @@ abbrev pub lends : List ℕ → Piece → List ℕ
 lends l p = take p.size (l ++ p.behind)
 
 -- the whole, when what was lent is back in its place
-abbrev pub handedBack : List ℕ → Piece → List ℕ → List ℕ
-handedBack l p back = take (length l) (back ++ drop p.size l)
+abbrev pub handed_back : List ℕ → Piece → List ℕ → List ℕ
+handed_back l p back = take (length l) (back ++ drop p.size l)

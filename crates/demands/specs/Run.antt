@@ -5,17 +5,17 @@ use Rattle.std.specs.Prelude.{◌≡◌, true, List, [], ◌∷◌, ◌++◌, ma
 use Rattle.document.specs.Numbers.{taken}
 use Rattle.document.specs.Stores.{stored}
 use Rattle.document.specs.Bytes.{AllBytes}
-use Rattle.document.specs.Tables.{Table, tablesIn}
+use Rattle.document.specs.Tables.{Table, tables_in}
 use Rattle.document.specs.Asides.Aside.{tick, writes, collects, reports, prepares, starts, frames}
 use Rattle.document.specs.Happenings.{Happening}
 use Rattle.document.specs.Happenings.Happening.{byte, aside}
 use Rattle.state_block.specs.Layout.{decoded}
 use Rattle.call_checks.specs.Promises.{ResetDone}
 use Rattle.call_register.specs.Promises.{RegisterDone}
-use Rattle.laws_calls.specs.Calls.{Call, Lent, tookOf, row, number_of, sends, Outcome}
+use Rattle.laws_calls.specs.Calls.{Call, Lent, took_of, row, number_of, sends, Outcome}
 use Rattle.laws_calls.specs.Promised.{Promised}
-use Rattle.demands.specs.Board.{Board, withMemory, behind}
-use Rattle.demands.specs.Pieces.{Piece, lends, handedBack}
+use Rattle.demands.specs.Board.{Board, with_memory, behind}
+use Rattle.demands.specs.Pieces.{Piece, lends, handed_back}
 
 -- ---- a call
 
@@ -32,7 +32,7 @@ pub record Makes (c : Call) (h next : Board) : Type 0 where
   pub promised : Promised (partly h block memory buffer) c outcome
   pub board :
       next
-      ≡ behind h (handedBack h.block block outcome.left.block) (handedBack h.memory memory outcome.left.memory)
+      ≡ behind h (handed_back h.block block outcome.left.block) (handed_back h.memory memory outcome.left.memory)
       (sends c outcome.left)
 
 -- it is taken
@@ -63,13 +63,13 @@ doing (aside (prepares setup)) = calls (Call.prepare setup)
 doing (aside starts) = calls Call.start
 doing (aside (frames station bytes)) = calls (Call.frame station bytes)
 
-abbrev pub broughtBy : Doing → List ℕ
-broughtBy (calls c) = (row c).brings
-broughtBy (stores address bytes) = bytes
+abbrev pub brought_by : Doing → List ℕ
+brought_by (calls c) = (row c).brings
+brought_by (stores address bytes) = bytes
 
 abbrev pub Does : Board → Doing → Board → Type 0
 Does h (calls c) next = Takes c h next
-Does h (stores address bytes) next = next ≡ withMemory h (stored h.memory address bytes)
+Does h (stores address bytes) next = next ≡ with_memory h (stored h.memory address bytes)
 
 abbrev pub Step : Board → Happening → Board → Type 0
 Step h e next = Does h (doing e) next
@@ -78,8 +78,8 @@ Step h e next = Does h (doing e) next
 
 -- how it begins: a reset, or a registering that is taken, over the memory as it is then
 pub data Reset (block memory : List ℕ) : List Table → List ℕ → Type 0 where
-  by-reset : (r : ℕ) (after : List ℕ) → ResetDone block r after → Reset block memory [] after
-  by-registering : (list after : List ℕ) → AllBytes list → RegisterDone block memory list taken after → Reset block memory (tablesIn list) after
+  by_reset : (r : ℕ) (after : List ℕ) → ResetDone block r after → Reset block memory [] after
+  by_registering : (list after : List ℕ) → AllBytes list → RegisterDone block memory list taken after → Reset block memory (tables_in list) after
 
 -- every byte comes by a call of its own
 pub data Singly : Board → List Happening → Board → Type 0 where
@@ -97,7 +97,7 @@ pub data Run : Board → List Happening → Board → Type 0 where
   ends : (h : Board) → Run h [] h
   happens : (h next last : Board) (e : Happening) (es : List Happening) → Step h e next → Run next es last → Run h (e ∷ es) last
   blocks : (h next last : Board) (bytes : List ℕ) (es : List Happening) → AllBytes bytes → (taking : Takes (Call.receive bytes) h next)
-      → Run next es last → Run h (came (tookOf taking.made.outcome.left) bytes ++ es) last
+      → Run next es last → Run h (came (took_of taking.made.outcome.left) bytes ++ es) last
   refuses : (h next last : Board) (es : List Happening) → Refuses h next → Run next es last → Run h es last
 
 -- ---- when a call is taken

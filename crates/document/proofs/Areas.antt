@@ -2,7 +2,7 @@
 use mathlib.Core.Path.{◌≡◌, refl}
 use Prim.Native.Nat.{◌≤◌}
 use native.Mathlib.Omega.{arith}
-use Rattle.document.specs.Areas.{variablesEnd, calibrationEnd, bufferBegin, memoryEnd}
+use Rattle.document.specs.Areas.{variables_end, calibration_end, buffer_begin, memory_end}
 
-pub areas-adjoin : (variablesEnd ≤ calibrationEnd) × (calibrationEnd ≡ bufferBegin) × (bufferBegin ≤ memoryEnd)
-areas-adjoin = (omega arith, refl, omega arith)
+pub areas_adjoin : (variables_end ≤ calibration_end) × (calibration_end ≡ buffer_begin) × (buffer_begin ≤ memory_end)
+areas_adjoin = (omega arith, refl, omega arith)

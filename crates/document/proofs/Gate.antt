@@ -9,84 +9,84 @@ use Rattle.document.specs.Application.{Application}
 use Rattle.document.specs.Application.Application.{none}
 use Rattle.document.specs.Tables.{Table}
 use Rattle.document.specs.Recorder.{Recorder}
-use Rattle.document.specs.Recorder.Recorder.{absent as noRecorder}
-use Rattle.document.specs.Gate.{Gate, withMemory, withScope, withRecorder, withApplication, registered, fresh, says}
+use Rattle.document.specs.Recorder.Recorder.{absent as no_recorder}
+use Rattle.document.specs.Gate.{Gate, with_memory, with_scope, with_recorder, with_application, registered, fresh, says}
 
 module _ (g : Gate) where
   module _ (memory : List ℕ) where
-    pub memory-changes : (withMemory g memory).memory ≡ memory
-    memory-changes = refl
+    pub memory_changes : (with_memory g memory).memory ≡ memory
+    memory_changes = refl
 
-    pub memory-keeps-scope : (withMemory g memory).scope ≡ g.scope
-    memory-keeps-scope = refl
+    pub memory_keeps_scope : (with_memory g memory).scope ≡ g.scope
+    memory_keeps_scope = refl
 
-    pub memory-keeps-recorder : (withMemory g memory).recorder ≡ g.recorder
-    memory-keeps-recorder = refl
+    pub memory_keeps_recorder : (with_memory g memory).recorder ≡ g.recorder
+    memory_keeps_recorder = refl
 
-    pub memory-keeps-application : (withMemory g memory).application ≡ g.application
-    memory-keeps-application = refl
+    pub memory_keeps_application : (with_memory g memory).application ≡ g.application
+    memory_keeps_application = refl
 
-    pub memory-keeps-tables : (withMemory g memory).tables ≡ g.tables
-    memory-keeps-tables = refl
+    pub memory_keeps_tables : (with_memory g memory).tables ≡ g.tables
+    memory_keeps_tables = refl
 
   module _ (scope : Scope) where
-    pub scope-changes : (withScope g scope).scope ≡ scope
-    scope-changes = refl
+    pub scope_changes : (with_scope g scope).scope ≡ scope
+    scope_changes = refl
 
-    pub scope-keeps-memory : (withScope g scope).memory ≡ g.memory
-    scope-keeps-memory = refl
+    pub scope_keeps_memory : (with_scope g scope).memory ≡ g.memory
+    scope_keeps_memory = refl
 
-    pub scope-keeps-recorder : (withScope g scope).recorder ≡ g.recorder
-    scope-keeps-recorder = refl
+    pub scope_keeps_recorder : (with_scope g scope).recorder ≡ g.recorder
+    scope_keeps_recorder = refl
 
-    pub scope-keeps-application : (withScope g scope).application ≡ g.application
-    scope-keeps-application = refl
+    pub scope_keeps_application : (with_scope g scope).application ≡ g.application
+    scope_keeps_application = refl
 
-    pub scope-keeps-tables : (withScope g scope).tables ≡ g.tables
-    scope-keeps-tables = refl
+    pub scope_keeps_tables : (with_scope g scope).tables ≡ g.tables
+    scope_keeps_tables = refl
 
   module _ (recorder : Recorder) where
-    pub recorder-changes : (withRecorder g recorder).recorder ≡ recorder
-    recorder-changes = refl
+    pub recorder_changes : (with_recorder g recorder).recorder ≡ recorder
+    recorder_changes = refl
 
-    pub recorder-keeps-memory : (withRecorder g recorder).memory ≡ g.memory
-    recorder-keeps-memory = refl
+    pub recorder_keeps_memory : (with_recorder g recorder).memory ≡ g.memory
+    recorder_keeps_memory = refl
 
-    pub recorder-keeps-scope : (withRecorder g recorder).scope ≡ g.scope
-    recorder-keeps-scope = refl
+    pub recorder_keeps_scope : (with_recorder g recorder).scope ≡ g.scope
+    recorder_keeps_scope = refl
 
-    pub recorder-keeps-application : (withRecorder g recorder).application ≡ g.application
-    recorder-keeps-application = refl
+    pub recorder_keeps_application : (with_recorder g recorder).application ≡ g.application
+    recorder_keeps_application = refl
 
-    pub recorder-keeps-tables : (withRecorder g recorder).tables ≡ g.tables
-    recorder-keeps-tables = refl
+    pub recorder_keeps_tables : (with_recorder g recorder).tables ≡ g.tables
+    recorder_keeps_tables = refl
 
   module _ (application : Application) where
-    pub application-changes : (withApplication g application).application ≡ application
-    application-changes = refl
+    pub application_changes : (with_application g application).application ≡ application
+    application_changes = refl
 
-    pub application-keeps-memory : (withApplication g application).memory ≡ g.memory
-    application-keeps-memory = refl
+    pub application_keeps_memory : (with_application g application).memory ≡ g.memory
+    application_keeps_memory = refl
 
-    pub application-keeps-scope : (withApplication g application).scope ≡ g.scope
-    application-keeps-scope = refl
+    pub application_keeps_scope : (with_application g application).scope ≡ g.scope
+    application_keeps_scope = refl
 
-    pub application-keeps-recorder : (withApplication g application).recorder ≡ g.recorder
-    application-keeps-recorder = refl
+    pub application_keeps_recorder : (with_application g application).recorder ≡ g.recorder
+    application_keeps_recorder = refl
 
-    pub application-keeps-tables : (withApplication g application).tables ≡ g.tables
-    application-keeps-tables = refl
+    pub application_keeps_tables : (with_application g application).tables ≡ g.tables
+    application_keeps_tables = refl
 
-  pub says-changes-nothing : (status : ℕ) (body : List ℕ) → (says g status body).gate ≡ g
-  says-changes-nothing status body = refl
+  pub says_changes_nothing : (status : ℕ) (body : List ℕ) → (says g status body).gate ≡ g
+  says_changes_nothing status body = refl
 
 -- "The gate registers up to 16 tables at reset": the memory as it was lent, the tables as they were given, and nothing set up
 module _ (tables : List Table) (memory : List ℕ) where
-  pub reset-keeps : ((registered tables memory).memory ≡ memory) × ((registered tables memory).tables ≡ tables)
-  reset-keeps = (refl, refl)
+  pub reset_keeps : ((registered tables memory).memory ≡ memory) × ((registered tables memory).tables ≡ tables)
+  reset_keeps = (refl, refl)
 
-  pub reset-forgets : ((registered tables memory).scope ≡ no_scope) × ((registered tables memory).recorder ≡ noRecorder) × ((registered tables memory).application ≡ none)
-  reset-forgets = (refl, refl, refl)
+  pub reset_forgets : ((registered tables memory).scope ≡ no_scope) × ((registered tables memory).recorder ≡ no_recorder) × ((registered tables memory).application ≡ none)
+  reset_forgets = (refl, refl, refl)
 
-  pub plain-reset : fresh memory ≡ registered [] memory
-  plain-reset = refl
+  pub plain_reset : fresh memory ≡ registered [] memory
+  plain_reset = refl

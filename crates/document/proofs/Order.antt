@@ -5,9 +5,9 @@ use mathlib.Core.List.{List, [], ◌∷◌}
 use Prim.Native.Nat.{ℕ}
 use lib.ListN.{length}
 use lib.Dec.{eqb, ltb}
-use Rattle.document.specs.Numbers.{mostData, sumWrong, messageTooLong}
-use Rattle.document.specs.Message.{Message, sumRight}
-use Rattle.document.specs.Services.{serviceOf}
+use Rattle.document.specs.Numbers.{most_data, sum_wrong, message_too_long}
+use Rattle.document.specs.Message.{Message, sum_right}
+use Rattle.document.specs.Services.{service_of}
 use Rattle.document.specs.Gate.{Gate}
 use Rattle.document.specs.Refusals.{Refusal, when, order, lines, table}
 use Rattle.document.specs.declared.Operation.{Operation}
@@ -15,14 +15,14 @@ use Rattle.document.specs.declared.Operation.TheVariants.{Unserved, Describe, De
 use Rattle.document.specs.declared.Service.{Service}
 
 -- whether the statuses of these lines come in this order, each at most once
-abbrev pub inOrder : List ℕ → List Refusal → Bool
-inOrder [] [] = true
-inOrder [] (r ∷ rs) = false
-inOrder (s ∷ ss) [] = true
-inOrder (s ∷ ss) (r ∷ rs) = cond (eqb s r.status) (inOrder ss rs) (inOrder ss (r ∷ rs))
+abbrev pub in_order : List ℕ → List Refusal → Bool
+in_order [] [] = true
+in_order [] (r ∷ rs) = false
+in_order (s ∷ ss) [] = true
+in_order (s ∷ ss) (r ∷ rs) = cond (eqb s r.status) (in_order ss rs) (in_order ss (r ∷ rs))
 
 module _ (g : Gate) (s : Service) (body : List ℕ) (sum long : Bool) where
-  ordered : (o : Operation) → inOrder order (when sumWrong sum ∷ when messageTooLong long ∷ lines o g s body) ≡ true
+  ordered : (o : Operation) → in_order order (when sum_wrong sum ∷ when message_too_long long ∷ lines o g s body) ≡ true
   ordered Unserved = refl
   ordered Describe = refl
   ordered DescribeBriefly = refl
@@ -41,5 +41,5 @@ module _ (g : Gate) (s : Service) (body : List ℕ) (sum long : Bool) where
   ordered TellTable = refl
   ordered MeasureString = refl
 
-pub table-in-order : (g : Gate) (m : Message) → inOrder order (table g m) ≡ true
-table-in-order g m = ordered g (serviceOf m.command) m.body (not (sumRight m)) (ltb mostData (length m.body)) (serviceOf m.command).operation
+pub table_in_order : (g : Gate) (m : Message) → in_order order (table g m) ≡ true
+table_in_order g m = ordered g (service_of m.command) m.body (not (sum_right m)) (ltb most_data (length m.body)) (service_of m.command).operation

@@ -2,25 +2,25 @@
 use mathlib.Core.Path.{◌≡◌, refl, ap, ◌∙◌}
 use mathlib.Core.List.{List, [], ◌∷◌, ◌++◌, map, map-append}
 use Prim.Native.Nat.{ℕ, ◌+◌}
-use Rattle.document.specs.Pairing.{Token, Placed, paired, untilStart, opened, width, openedAt}
+use Rattle.document.specs.Pairing.{Token, Placed, paired, until_start, opened, width, opened_at}
 use Rattle.document.specs.Pairing.Token.{start, literal}
-use Rattle.document.specs.Message.{Message, wholeMessage, heard, heardAt}
+use Rattle.document.specs.Message.{Message, whole_message, heard, heard_at}
 
 module _ {A : Type 0} (whole : List ℕ → List A) where
-  things-placed : (place : ℕ) (xs : List A) → map (λ (p : Placed A). p.thing) (map (λ (a : A). record { place = place; thing = a }) xs) ≡ xs
-  things-placed place [] = refl
-  things-placed place (x ∷ xs) = ap (λ (l : List A). x ∷ l) (things-placed place xs)
+  things_placed : (place : ℕ) (xs : List A) → map (λ (p : Placed A). p.thing) (map (λ (a : A). record { place = place; thing = a }) xs) ≡ xs
+  things_placed place [] = refl
+  things_placed place (x ∷ xs) = ap (λ (l : List A). x ∷ l) (things_placed place xs)
 
-  opened-at : (place : ℕ) (ts : List Token) → map (λ (p : Placed A). p.thing) (openedAt whole place ts) ≡ opened whole ts
-  opened-at place [] = refl
-  opened-at place (start ∷ ts) =
-      map-append (λ (p : Placed A). p.thing) (map (λ (a : A). record { place = place; thing = a }) (whole (untilStart ts))) (openedAt whole (place + width start) ts)
-      ∙ (λ j. things-placed place (whole (untilStart ts)) j ++ opened-at (place + width start) ts j)
-  opened-at place (literal l ∷ ts) = opened-at (place + width (literal l)) ts
+  opened_at_lem : (place : ℕ) (ts : List Token) → map (λ (p : Placed A). p.thing) (opened_at whole place ts) ≡ opened whole ts
+  opened_at_lem place [] = refl
+  opened_at_lem place (start ∷ ts) =
+      map-append (λ (p : Placed A). p.thing) (map (λ (a : A). record { place = place; thing = a }) (whole (until_start ts))) (opened_at whole (place + width start) ts)
+      ∙ (λ j. things_placed place (whole (until_start ts)) j ++ opened_at_lem (place + width start) ts j)
+  opened_at_lem place (literal l ∷ ts) = opened_at_lem (place + width (literal l)) ts
 
-pub heard-at : (bs : List ℕ) → map (λ (p : Placed Message). p.thing) (heardAt bs) ≡ heard bs
-unfolding heard heardAt
-heard-at bs = opened-at wholeMessage 0 (paired bs)
+pub heard_at_lem : (bs : List ℕ) → map (λ (p : Placed Message). p.thing) (heard_at bs) ≡ heard bs
+unfolding heard heard_at
+heard_at_lem bs = opened_at_lem whole_message 0 (paired bs)
 
 -- ---- shown by a table: bytes, and where the messages in them begin
 
@@ -42,6 +42,6 @@ places =
     ∷ row (0x2B ∷ 0x2B ∷ 0xC8 ∷ 0x38 ∷ 0x2B ∷ 0xC8 ∷ []) []
     ∷ []
 
-pub places-hold : map (λ (s : Shown). map (λ (p : Placed Message). p.place) (heardAt s.bytes)) places ≡ map (λ (s : Shown). s.places) places
-unfolding heardAt
-places-hold = refl
+pub places_hold : map (λ (s : Shown). map (λ (p : Placed Message). p.place) (heard_at s.bytes)) places ≡ map (λ (s : Shown). s.places) places
+unfolding heard_at
+places_hold = refl

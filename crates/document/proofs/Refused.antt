@@ -6,16 +6,16 @@ use mathlib.Core.List.{[]}
 use lib.ListN.{length}
 use lib.Dec.{eqb, ltb}
 use Rattle.document.specs.Numbers.{done}
-use Rattle.document.specs.Message.{Message, sumRight}
-use Rattle.document.specs.Services.{serviceOf}
+use Rattle.document.specs.Message.{Message, sum_right}
+use Rattle.document.specs.Services.{service_of}
 use Rattle.document.specs.Gate.{Gate, Outcome, says}
 use Rattle.document.specs.Refusals.{refusal}
 use Rattle.document.specs.Commands.{served, answered}
 
-pub refused-keeps : (g : Gate) (m : Message) → eqb (refusal g m) done ≡ false → answered g m ≡ record { gate = g; answer = record { status = refusal g m; body = [] } }
+pub refused_keeps : (g : Gate) (m : Message) → eqb (refusal g m) done ≡ false → answered g m ≡ record { gate = g; answer = record { status = refusal g m; body = [] } }
 unfolding answered
-refused-keeps g m refused = rw refused refl
+refused_keeps g m refused = rw refused refl
 
-pub served-alike : (g : Gate) (m : Message) → sumRight m ≡ true → ltb 64 (length m.body) ≡ false → answered g m ≡ served g (serviceOf m.command) m.body
+pub served_alike : (g : Gate) (m : Message) → sum_right m ≡ true → ltb 64 (length m.body) ≡ false → answered g m ≡ served g (service_of m.command) m.body
 unfolding answered served refusal
-served-alike g m right short = rw (right, short) refl
+served_alike g m right short = rw (right, short) refl

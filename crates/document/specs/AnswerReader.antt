@@ -1,12 +1,12 @@
 -- The answer reader, over the bytes since the reading began: what a further byte gives.
 use Rattle.std.specs.Prelude.{cond, List, [], ◌∷◌, ℕ, length, ltb}
 use Rattle.std.proofs.lemmas.List.Edits.{sets}
-use Rattle.document.specs.Numbers.{mostData, taken, roomRefused, expectedRefused, sumRefused}
-use Rattle.document.specs.Answer.{Answer, Reading, readingRight, answerFinishedBy}
+use Rattle.document.specs.Numbers.{most_data, taken, room_refused, expected_refused, sum_refused}
+use Rattle.document.specs.Answer.{Answer, Reading, reading_right, answer_finished_by}
 
 -- "5 an expected length above 64"
-abbrev pub beginRefusal : ℕ → ℕ
-beginRefusal expected = cond (ltb mostData expected) expectedRefused taken
+abbrev pub begin_refusal : ℕ → ℕ
+begin_refusal expected = cond (ltb most_data expected) expected_refused taken
 
 -- what a byte brings: nothing yet, a whole right answer, or one "whose sum is wrong"
 pub data Brought : Type 0 where
@@ -14,26 +14,26 @@ pub data Brought : Type 0 where
   answer : Answer → Brought
   wrong : Brought
 
-abbrev pub broughtBy : List Reading → Brought
-broughtBy [] = nothing
-broughtBy (r ∷ rs) = cond (readingRight r) (answer r.answer) wrong
+abbrev pub brought_by : List Reading → Brought
+brought_by [] = nothing
+brought_by (r ∷ rs) = cond (reading_right r) (answer r.answer) wrong
 
 -- "consume no byte": refused with 3, the bytes since the beginning stay the same, and so does the buffer
-unfoldable pub readRoomRefusal : List ℕ → ℕ
-readRoomRefusal buffer = cond (ltb (length buffer) mostData) roomRefused taken
+unfoldable pub read_room_refusal : List ℕ → ℕ
+read_room_refusal buffer = cond (ltb (length buffer) most_data) room_refused taken
 
 -- "6 alone consumes its byte": the number with which the call answers a byte that it takes
-abbrev pub readRefusal : Brought → ℕ
-readRefusal nothing = taken
-readRefusal (answer a) = taken
-readRefusal wrong = sumRefused
+abbrev pub read_refusal : Brought → ℕ
+read_refusal nothing = taken
+read_refusal (answer a) = taken
+read_refusal wrong = sum_refused
 
 -- "writes them only with a whole right answer"
-abbrev pub readBuffer : Brought → List ℕ → List ℕ
-readBuffer nothing buffer = buffer
-readBuffer (answer a) buffer = sets buffer 0 a.body
-readBuffer wrong buffer = buffer
+abbrev pub read_buffer : Brought → List ℕ → List ℕ
+read_buffer nothing buffer = buffer
+read_buffer (answer a) buffer = sets buffer 0 a.body
+read_buffer wrong buffer = buffer
 
 -- what the byte b brings, after the bytes bs since the reading of `expected` data bytes began
 unfoldable pub brought : ℕ → List ℕ → ℕ → Brought
-brought expected bs b = broughtBy (answerFinishedBy expected bs b)
+brought expected bs b = brought_by (answer_finished_by expected bs b)

@@ -1,11 +1,11 @@
 -- What happens to a gate beside the bytes of its line, and what each does to it. The line never sees one.
 use Rattle.std.specs.Prelude.{List, ℕ}
 use Rattle.document.specs.Stores.{stored}
-use Rattle.document.specs.Recorder.{ticked, tickedMemory}
-use Rattle.document.specs.Application.{afterCollect, afterReport}
-use Rattle.document.specs.Gate.{Gate, withMemory, withRecorder, withApplication}
-use Rattle.document.specs.Panel.{panelPrepares, panelStarts}
-use Rattle.document.specs.Modbus.{modbusMemory}
+use Rattle.document.specs.Recorder.{ticked, ticked_memory}
+use Rattle.document.specs.Application.{after_collect, after_report}
+use Rattle.document.specs.Gate.{Gate, with_memory, with_recorder, with_application}
+use Rattle.document.specs.Panel.{panel_prepares, panel_starts}
+use Rattle.document.specs.Modbus.{modbus_memory}
 
 pub data Aside : Type 0 where
   -- "The gate calls a tick."
@@ -23,14 +23,14 @@ pub data Aside : Type 0 where
   -- "whole frames marked off by the gate", on the second port, of which this is the own station (2026-07)
   frames : ℕ → List ℕ → Aside
 
-abbrev pub tickedGate : Gate → Gate
-tickedGate g = withMemory (withRecorder g (ticked g.recorder g.memory)) (tickedMemory g.recorder g.memory)
+abbrev pub ticked_gate : Gate → Gate
+ticked_gate g = with_memory (with_recorder g (ticked g.recorder g.memory)) (ticked_memory g.recorder g.memory)
 
 unfoldable pub beside : Gate → Aside → Gate
-beside g tick = tickedGate g
-beside g (writes address bytes) = withMemory g (stored g.memory address bytes)
-beside g collects = withApplication g (afterCollect g.application)
-beside g (reports result) = withApplication g (afterReport result g.application)
-beside g (prepares body) = (panelPrepares g body).gate
-beside g starts = (panelStarts g).gate
-beside g (frames station frame) = withMemory g (modbusMemory station frame g.memory)
+beside g tick = ticked_gate g
+beside g (writes address bytes) = with_memory g (stored g.memory address bytes)
+beside g collects = with_application g (after_collect g.application)
+beside g (reports result) = with_application g (after_report result g.application)
+beside g (prepares body) = (panel_prepares g body).gate
+beside g starts = (panel_starts g).gate
+beside g (frames station frame) = with_memory g (modbus_memory station frame g.memory)

@@ -1,7 +1,7 @@
 -- The check sum of the second port (2026-07), bit by bit: a register of 16 bits through which all bytes of a frame are shifted.
 use Rattle.std.specs.Prelude.{Bool, cond, List, [], ◌∷◌, ◌++◌, ℕ, zero, suc, ◌-◌, ◌/◌, ◌%◌, eqb, length, take, drop}
 use Rattle.std.specs.Int.Bits.{bit_xor}
-use Rattle.document.specs.Values.{number, littleEndian}
+use Rattle.document.specs.Values.{number, little_endian}
 
 abbrev pub generator : ℕ
 generator = 0xA001
@@ -18,18 +18,18 @@ shifts (suc n) register = shifts n (shifted register)
 unfoldable pub stepped : ℕ → ℕ → ℕ
 stepped register byte = shifts 8 (bit_xor register byte)
 
-abbrev pub registerAfter : ℕ → List ℕ → ℕ
-registerAfter register [] = register
-registerAfter register (b ∷ bs) = registerAfter (stepped register b) bs
+abbrev pub register_after : ℕ → List ℕ → ℕ
+register_after register [] = register
+register_after register (b ∷ bs) = register_after (stepped register b) bs
 
 -- it starts with every bit set
-unfoldable pub checkSum : List ℕ → ℕ
-checkSum bytes = registerAfter 0xFFFF bytes
+unfoldable pub check_sum : List ℕ → ℕ
+check_sum bytes = register_after 0xFFFF bytes
 
 -- sent behind the bytes, low byte first
-abbrev pub withCheckSum : List ℕ → List ℕ
-withCheckSum bytes = bytes ++ littleEndian 2 (checkSum bytes)
+abbrev pub with_check_sum : List ℕ → List ℕ
+with_check_sum bytes = bytes ++ little_endian 2 (check_sum bytes)
 
 -- not "a wrong check sum": the last two bytes are that of the bytes before them
-abbrev pub isCheckSumRight : List ℕ → Bool
-isCheckSumRight frame = eqb (number (drop (length frame - 2) frame)) (checkSum (take (length frame - 2) frame))
+abbrev pub is_check_sum_right : List ℕ → Bool
+is_check_sum_right frame = eqb (number (drop (length frame - 2) frame)) (check_sum (take (length frame - 2) frame))

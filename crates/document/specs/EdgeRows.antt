@@ -3,9 +3,9 @@
 use Rattle.std.specs.Prelude.{Bool, true, false, List, [], ◌∷◌, ◌++◌, ℕ, ℤ, pos, negsuc}
 use Prim.Native.String.{String}
 use Rattle.document.specs.Hex.{hex}
-use Rattle.document.specs.Values.{twosComplement}
-use Rattle.document.specs.Plan.{Trigger, triggerIn}
-use Rattle.document.specs.Trigger.{triggerValue, fires}
+use Rattle.document.specs.Values.{twos_complement}
+use Rattle.document.specs.Plan.{Trigger, trigger_in}
+use Rattle.document.specs.Trigger.{trigger_value, fires}
 
 -- the trigger's fields as a setup has them, from its size on; its bytes at two sets; whether it fires
 pub record Edge : Type 0 where
@@ -16,7 +16,7 @@ pub record Edge : Type 0 where
 
 abbrev edge : String → String → String → String → Bool → Edge
 edge mode trigger before this fires =
-    record { trigger = triggerIn false (hex mode ++ hex "0100 0000 0000 0000" ++ hex trigger); before = hex before; this = hex this; fires = fires }
+    record { trigger = trigger_in false (hex mode ++ hex "0100 0000 0000 0000" ++ hex trigger); before = hex before; this = hex this; fires = fires }
 
 abbrev rising : String → String → String → Bool → Edge
 rising trigger before this fires = edge "01" trigger before this fires
@@ -24,8 +24,8 @@ rising trigger before this fires = edge "01" trigger before this fires
 abbrev falling : String → String → String → Bool → Edge
 falling trigger before this fires = edge "02" trigger before this fires
 
-abbrev pub firesAt : Edge → Bool
-firesAt e = fires e.trigger (triggerValue e.trigger e.before) (triggerValue e.trigger e.this)
+abbrev pub fires_at : Edge → Bool
+fires_at e = fires e.trigger (trigger_value e.trigger e.before) (trigger_value e.trigger e.this)
 
 unfoldable pub edges : List Edge
 edges =
@@ -70,15 +70,15 @@ edges =
 -- "two's complement": 0x7F, 0x80 and 0xFF in one byte, then 0x80 and the last number in two and in four
 abbrev pub complements : List ℤ
 complements =
-    twosComplement 1 0x7F
-    ∷ twosComplement 1 0x80
-    ∷ twosComplement 1 0xFF
-    ∷ twosComplement 2 0x80
-    ∷ twosComplement 2 0xFFFF
-    ∷ twosComplement 4 0x80
-    ∷ twosComplement 4 0xFFFFFFFF
+    twos_complement 1 0x7F
+    ∷ twos_complement 1 0x80
+    ∷ twos_complement 1 0xFF
+    ∷ twos_complement 2 0x80
+    ∷ twos_complement 2 0xFFFF
+    ∷ twos_complement 4 0x80
+    ∷ twos_complement 4 0xFFFFFFFF
     ∷ []
 
 -- -128 is `negsuc 127`, and -1 `negsuc 0`
-abbrev pub complementsWritten : List ℤ
-complementsWritten = pos 127 ∷ negsuc 127 ∷ negsuc 0 ∷ pos 128 ∷ negsuc 0 ∷ pos 128 ∷ negsuc 0 ∷ []
+abbrev pub complements_written : List ℤ
+complements_written = pos 127 ∷ negsuc 127 ∷ negsuc 0 ∷ pos 128 ∷ negsuc 0 ∷ pos 128 ∷ negsuc 0 ∷ []

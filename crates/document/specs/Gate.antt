@@ -8,7 +8,7 @@ use Rattle.document.specs.Application.{Application}
 use Rattle.document.specs.Application.Application.{none}
 use Rattle.document.specs.Tables.{Table}
 use Rattle.document.specs.Recorder.{Recorder}
-use Rattle.document.specs.Recorder.Recorder.{absent as noRecorder}
+use Rattle.document.specs.Recorder.Recorder.{absent as no_recorder}
 
 pub record Gate : Type 0 where
   pub memory : List ℕ
@@ -20,21 +20,21 @@ pub record Gate : Type 0 where
   pub tables : List Table
 
 -- one part changes, all others stay
-abbrev pub withMemory : Gate → List ℕ → Gate
-withMemory g memory = record { memory = memory; scope = g.scope; recorder = g.recorder; application = g.application; tables = g.tables }
+abbrev pub with_memory : Gate → List ℕ → Gate
+with_memory g memory = record { memory = memory; scope = g.scope; recorder = g.recorder; application = g.application; tables = g.tables }
 
-abbrev pub withScope : Gate → Scope → Gate
-withScope g scope = record { memory = g.memory; scope = scope; recorder = g.recorder; application = g.application; tables = g.tables }
+abbrev pub with_scope : Gate → Scope → Gate
+with_scope g scope = record { memory = g.memory; scope = scope; recorder = g.recorder; application = g.application; tables = g.tables }
 
-abbrev pub withRecorder : Gate → Recorder → Gate
-withRecorder g recorder = record { memory = g.memory; scope = g.scope; recorder = recorder; application = g.application; tables = g.tables }
+abbrev pub with_recorder : Gate → Recorder → Gate
+with_recorder g recorder = record { memory = g.memory; scope = g.scope; recorder = recorder; application = g.application; tables = g.tables }
 
-abbrev pub withApplication : Gate → Application → Gate
-withApplication g application = record { memory = g.memory; scope = g.scope; recorder = g.recorder; application = application; tables = g.tables }
+abbrev pub with_application : Gate → Application → Gate
+with_application g application = record { memory = g.memory; scope = g.scope; recorder = g.recorder; application = application; tables = g.tables }
 
 -- reset: nothing is set up; the memory is as it was lent. "The gate registers up to 16 tables at reset" (2026-03)
 abbrev pub registered : List Table → List ℕ → Gate
-registered tables memory = record { memory = memory; scope = no_scope; recorder = noRecorder; application = none; tables = tables }
+registered tables memory = record { memory = memory; scope = no_scope; recorder = no_recorder; application = none; tables = tables }
 
 -- a reset with no tables
 abbrev pub fresh : List ℕ → Gate

@@ -1,6 +1,6 @@
 -- What happens to a gate since reset: bytes come over the line, and something happens beside them.
 use Rattle.std.specs.Prelude.{List, [], ◌∷◌, ◌++◌, ℕ}
-use Rattle.document.specs.Message.{Message, finishedBy}
+use Rattle.document.specs.Message.{Message, finished_by}
 use Rattle.document.specs.Answer.{Answer}
 use Rattle.document.specs.Gate.{Gate}
 use Rattle.document.specs.Commands.{answered}
@@ -17,9 +17,9 @@ pub record Since : Type 0 where
   pub answers : List Answer
 
 -- "The answer comes with the sum byte's last wire byte, once."
-abbrev pub afterMessages : Since → List Message → Since
-afterMessages s [] = s
-afterMessages s (m ∷ ms) =
+abbrev pub after_messages : Since → List Message → Since
+after_messages s [] = s
+after_messages s (m ∷ ms) =
     record {
       bytes = s.bytes;
       gate = (answered s.gate m).gate;
@@ -28,15 +28,15 @@ afterMessages s (m ∷ ms) =
 
 abbrev pub after : Since → Happening → Since
 after s (byte b) =
-    afterMessages
+    after_messages
     (record { bytes = s.bytes ++ (b ∷ []); gate = s.gate; answers = s.answers })
-    (finishedBy s.bytes b)
+    (finished_by s.bytes b)
 after s (aside a) = record { bytes = s.bytes; gate = beside s.gate a; answers = s.answers }
 
-abbrev pub afterAll : Since → List Happening → Since
-afterAll s [] = s
-afterAll s (h ∷ hs) = afterAll (after s h) hs
+abbrev pub after_all : Since → List Happening → Since
+after_all s [] = s
+after_all s (h ∷ hs) = after_all (after s h) hs
 
 -- reset
-abbrev pub fromReset : Gate → Since
-fromReset g = record { bytes = []; gate = g; answers = [] }
+abbrev pub from_reset : Gate → Since
+from_reset g = record { bytes = []; gate = g; answers = [] }

@@ -4,13 +4,13 @@ use mathlib.Core.List.List.{[] as none, ◌∷◌ as ◌then◌}
 use Prim.Native.Char.{code}
 use Prim.Native.String.{String, [], ◌∷◌, ◌++◌}
 use Rattle.document.specs.Hex.{hex}
-use Rattle.document.specs.Services.{serviceOf}
+use Rattle.document.specs.Services.{service_of}
 use Rattle.document.specs.Kinds.{Kind, kind_of}
 use Rattle.document.specs.Kinds.Kind.{fast, standard, unserved}
 use Rattle.document.specs.CallRows.{Line, line, below}
 
-abbrev pub kindRows : String
-kindRows =
+abbrev pub kind_rows : String
+kind_rows =
     ".ssssss.ssss...."
     ++ "ss.............."
     ++ "................"
@@ -32,25 +32,25 @@ abbrev written : ℕ → Kind
 written c = cond (eqb c 102) fast (cond (eqb c 115) standard unserved)
 
 -- the kinds that a text has, and those that the definition gives from a command on
-abbrev pub kindsIn : String → List Kind
-kindsIn [] = none
-kindsIn (k ∷ s) = written (code k) then kindsIn s
+abbrev pub kinds_in : String → List Kind
+kinds_in [] = none
+kinds_in (k ∷ s) = written (code k) then kinds_in s
 
-abbrev pub kindsFrom : ℕ → String → List Kind
-kindsFrom c [] = none
-kindsFrom c (k ∷ s) = kind_of c then kindsFrom (suc c) s
+abbrev pub kinds_from : ℕ → String → List Kind
+kinds_from c [] = none
+kinds_from c (k ∷ s) = kind_of c then kinds_from (suc c) s
 
 -- ---- of all commands the EX commands, and those of a size of their own with that size
 
-abbrev exIn : List ℕ → List ℕ
-exIn none = none
-exIn (c then cs) = cond (serviceOf c).ex (c then exIn cs) (exIn cs)
+abbrev ex_in : List ℕ → List ℕ
+ex_in none = none
+ex_in (c then cs) = cond (service_of c).ex (c then ex_in cs) (ex_in cs)
 
-abbrev sizesIn : List ℕ → List ℕ
-sizesIn none = none
-sizesIn (c then cs) = cond (eqb (serviceOf c).size 0) (sizesIn cs) (c then ((serviceOf c).size then sizesIn cs))
+abbrev sizes_in : List ℕ → List ℕ
+sizes_in none = none
+sizes_in (c then cs) = cond (eqb (service_of c).size 0) (sizes_in cs) (c then ((service_of c).size then sizes_in cs))
 
-unfoldable pub serviceRows : List Line
-serviceRows =
-    line (exIn (below 256)) (hex "04 05 06 0A 0B C9 E0 E1 E2 E6")
-    then (line (sizesIn (below 256)) (hex "D001 D102 D204 E001 E102 E204 E301 E402 E501 F004 F102") then none)
+unfoldable pub service_rows : List Line
+service_rows =
+    line (ex_in (below 256)) (hex "04 05 06 0A 0B C9 E0 E1 E2 E6")
+    then (line (sizes_in (below 256)) (hex "D001 D102 D204 E001 E102 E204 E301 E402 E501 F004 F102") then none)

@@ -3,8 +3,8 @@
 use Rattle.std.specs.Prelude.{Bool, true, false, List, [], ◌∷◌, ◌++◌, ℕ}
 use Prim.Native.String.{String}
 use Rattle.document.specs.Hex.{hex}
-use Rattle.document.specs.Plan.{Trigger, triggerIn}
-use Rattle.document.specs.Trigger.{triggerValue, isBeyond}
+use Rattle.document.specs.Plan.{Trigger, trigger_in}
+use Rattle.document.specs.Trigger.{trigger_value, is_beyond}
 
 -- the trigger's fields as a setup has them, from its size on; its bytes at the first set; whether it fires
 pub record Level : Type 0 where
@@ -14,7 +14,7 @@ pub record Level : Type 0 where
 
 abbrev level : String → String → String → Bool → Level
 level mode trigger this fires =
-    record { trigger = triggerIn false (hex mode ++ hex "0100 0000 0000 0000" ++ hex trigger); this = hex this; fires = fires }
+    record { trigger = trigger_in false (hex mode ++ hex "0100 0000 0000 0000" ++ hex trigger); this = hex this; fires = fires }
 
 abbrev rising : String → String → Bool → Level
 rising trigger this fires = level "01" trigger this fires
@@ -22,8 +22,8 @@ rising trigger this fires = level "01" trigger this fires
 abbrev falling : String → String → Bool → Level
 falling trigger this fires = level "02" trigger this fires
 
-abbrev pub firesFirst : Level → Bool
-firesFirst l = isBeyond l.trigger (triggerValue l.trigger l.this)
+abbrev pub fires_first : Level → Bool
+fires_first l = is_beyond l.trigger (trigger_value l.trigger l.this)
 
 unfoldable pub levels : List Level
 levels =

@@ -5,8 +5,8 @@ use Rattle.document.specs.Pairing.{Token, paired}
 use Rattle.document.specs.Pairing.Token.{start, literal}
 use Rattle.document.specs.Rows.{Row, hears, puts}
 
-unfoldable pub lineRows : List Row
-lineRows =
+unfoldable pub line_rows : List Row
+line_rows =
     -- "Literals outside a message are dropped.": before a message, and behind its sum byte
     (hears (hex "00 C8 38 2B C8 38 C8 38 2B C8 38") (hex "2B 00 03 00 01 01 00 40 BB" ∷ hex "2B 00 03 00 01 01 00 40 BB" ∷ []) ∷ [])
     -- what happens beside the line leaves a message whole
@@ -32,8 +32,8 @@ lineRows =
     ∷ []
 
 -- long messages, which byte by byte are slow to compute
-unfoldable pub longLineRows : List Row
-longLineRows =
+unfoldable pub long_line_rows : List Row
+long_line_rows =
     -- "Length byte 40 is accepted; 41 with a right sum gives 2B 83 7D", and so does 255, all of whose data are passed over
     (hears (hex "2B 02 40 3D 10 00" ++ replicate 61 0x01 ++ hex "34") (hex "2B 00 00" ∷ []) ∷ [])
     ∷ (hears (hex "2B 02 41 3E 10 00" ++ replicate 62 0x01 ++ hex "31") (hex "2B 83 7D" ∷ []) ∷ [])
@@ -42,8 +42,8 @@ longLineRows =
 
 -- ---- "Bytes since reset are paired from the left.": a start, doubled bytes, and one that waits
 
-abbrev pub pairedBytes : List Token
-pairedBytes = paired (hex "01 2B C8 2B2B 2B2B 2B 00 2B")
+abbrev pub paired_bytes : List Token
+paired_bytes = paired (hex "01 2B C8 2B2B 2B2B 2B 00 2B")
 
 abbrev pub tokens : List Token
 tokens = literal 0x01 ∷ start ∷ literal 0xC8 ∷ literal 0x2B ∷ literal 0x2B ∷ start ∷ literal 0x00 ∷ []

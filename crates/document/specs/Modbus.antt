@@ -1,116 +1,116 @@
 -- Modbus on the second port (2026-07): "Serve functions 3, 6, 16 and 22 on whole frames marked off by the gate."
 use Rattle.std.specs.Prelude.{Bool, true, false, cond, not, ◌||◌, List, [], ◌∷◌, ℕ, ◌+◌, ◌*◌, eqb, ltb, length}
 use Rattle.std.proofs.lemmas.List.Edits.{sets}
-use Rattle.document.specs.Numbers.{done, taken, memoryRefused, roomRefused, stationRefused}
-use Rattle.document.specs.Areas.{memoryEnd, bytes_at}
+use Rattle.document.specs.Numbers.{done, taken, memory_refused, room_refused, station_refused}
+use Rattle.document.specs.Areas.{memory_end, bytes_at}
 use Rattle.document.specs.Refusals.{when, first_of}
-use Rattle.document.specs.CheckSum.{withCheckSum}
-use Rattle.document.specs.Frames.{functionByte, word_in, firstIn, quantityIn, byteCountIn, isStation, isSilenced}
-use Rattle.document.specs.Registers.{registersAt, registersStored, registerMasked, mayReadRegisters, mayWriteRegisters}
+use Rattle.document.specs.CheckSum.{with_check_sum}
+use Rattle.document.specs.Frames.{function_byte, word_in, first_in, quantity_in, byte_count_in, is_station, is_silenced}
+use Rattle.document.specs.Registers.{registers_at, registers_stored, register_masked, may_read_registers, may_write_registers}
 use Rattle.document.specs.declared.Function.{Function}
 use Rattle.document.specs.declared.Function.TheVariants.{ReadRegisters, WriteRegister, WriteRegisters, MaskRegister, Other}
 
-abbrev pub functionOf : ℕ → Function
-functionOf byte =
+abbrev pub function_of : ℕ → Function
+function_of byte =
     cond (eqb byte 3) ReadRegisters
     (cond (eqb byte 6) WriteRegister (cond (eqb byte 16) WriteRegisters (cond (eqb byte 22) MaskRegister Other)))
 
-abbrev pub functionIn : List ℕ → Function
-functionIn frame = functionOf (functionByte frame)
+abbrev pub function_in : List ℕ → Function
+function_in frame = function_of (function_byte frame)
 
 -- ---- exceptions
 
 -- "exception 1 for another function"
-abbrev pub isOther : Function → Bool
-isOther ReadRegisters = false
-isOther WriteRegister = false
-isOther WriteRegisters = false
-isOther MaskRegister = false
-isOther Other = true
+abbrev pub is_other : Function → Bool
+is_other ReadRegisters = false
+is_other WriteRegister = false
+is_other WriteRegisters = false
+is_other MaskRegister = false
+is_other Other = true
 
 -- "a quantity outside 1 to 125 (read) or 1 to 123 (write)"
-abbrev pub isQuantityWrong : ℕ → List ℕ → Bool
-isQuantityWrong most frame = ltb (quantityIn frame) 1 || ltb most (quantityIn frame)
+abbrev pub is_quantity_wrong : ℕ → List ℕ → Bool
+is_quantity_wrong most frame = ltb (quantity_in frame) 1 || ltb most (quantity_in frame)
 
-abbrev pub isLengthWrong : ℕ → List ℕ → Bool
-isLengthWrong right frame = not (eqb (length frame) right)
+abbrev pub is_length_wrong : ℕ → List ℕ → Bool
+is_length_wrong right frame = not (eqb (length frame) right)
 
 -- "then 3 for a quantity .. or a byte count or frame length that doesn't fit"
-abbrev pub isValueWrong : Function → List ℕ → Bool
-isValueWrong ReadRegisters frame = isLengthWrong 8 frame || isQuantityWrong 125 frame
-isValueWrong WriteRegister frame = isLengthWrong 8 frame
-isValueWrong WriteRegisters frame =
-    isLengthWrong (9 + byteCountIn frame) frame
-    || isQuantityWrong 123 frame
-    || not (eqb (byteCountIn frame) (2 * quantityIn frame))
-isValueWrong MaskRegister frame = isLengthWrong 10 frame
-isValueWrong Other frame = false
+abbrev pub is_value_wrong : Function → List ℕ → Bool
+is_value_wrong ReadRegisters frame = is_length_wrong 8 frame || is_quantity_wrong 125 frame
+is_value_wrong WriteRegister frame = is_length_wrong 8 frame
+is_value_wrong WriteRegisters frame =
+    is_length_wrong (9 + byte_count_in frame) frame
+    || is_quantity_wrong 123 frame
+    || not (eqb (byte_count_in frame) (2 * quantity_in frame))
+is_value_wrong MaskRegister frame = is_length_wrong 10 frame
+is_value_wrong Other frame = false
 
 -- "then 2 for an address"
-abbrev pub isAddressWrong : Function → List ℕ → List ℕ → Bool
-isAddressWrong ReadRegisters frame memory = not (mayReadRegisters (firstIn frame) (quantityIn frame))
-isAddressWrong WriteRegister frame memory = not (mayWriteRegisters memory (firstIn frame) 1)
-isAddressWrong WriteRegisters frame memory = not (mayWriteRegisters memory (firstIn frame) (quantityIn frame))
-isAddressWrong MaskRegister frame memory = not (mayWriteRegisters memory (firstIn frame) 1)
-isAddressWrong Other frame memory = false
+abbrev pub is_address_wrong : Function → List ℕ → List ℕ → Bool
+is_address_wrong ReadRegisters frame memory = not (may_read_registers (first_in frame) (quantity_in frame))
+is_address_wrong WriteRegister frame memory = not (may_write_registers memory (first_in frame) 1)
+is_address_wrong WriteRegisters frame memory = not (may_write_registers memory (first_in frame) (quantity_in frame))
+is_address_wrong MaskRegister frame memory = not (may_write_registers memory (first_in frame) 1)
+is_address_wrong Other frame memory = false
 
 -- the first that applies; `done` where none does
-unfoldable pub exceptionTo : Function → List ℕ → List ℕ → ℕ
-exceptionTo function frame memory =
+unfoldable pub exception_to : Function → List ℕ → List ℕ → ℕ
+exception_to function frame memory =
     first_of
-    (when 1 (isOther function)
-    ∷ when 3 (isValueWrong function frame)
-    ∷ when 2 (isAddressWrong function frame memory)
+    (when 1 (is_other function)
+    ∷ when 3 (is_value_wrong function frame)
+    ∷ when 2 (is_address_wrong function frame memory)
     ∷ [])
 
 -- ---- what a function does, and what it answers behind station and function byte
 
-abbrev pub carriedOut : Function → List ℕ → List ℕ → List ℕ
-carriedOut ReadRegisters frame memory = memory
-carriedOut WriteRegister frame memory = registersStored memory (firstIn frame) (bytes_at frame 4 2)
-carriedOut WriteRegisters frame memory = registersStored memory (firstIn frame) (bytes_at frame 7 (2 * quantityIn frame))
-carriedOut MaskRegister frame memory = registerMasked memory (firstIn frame) (word_in frame 4) (word_in frame 6)
-carriedOut Other frame memory = memory
+abbrev pub carried_out : Function → List ℕ → List ℕ → List ℕ
+carried_out ReadRegisters frame memory = memory
+carried_out WriteRegister frame memory = registers_stored memory (first_in frame) (bytes_at frame 4 2)
+carried_out WriteRegisters frame memory = registers_stored memory (first_in frame) (bytes_at frame 7 (2 * quantity_in frame))
+carried_out MaskRegister frame memory = register_masked memory (first_in frame) (word_in frame 4) (word_in frame 6)
+carried_out Other frame memory = memory
 
 -- the registers behind the count of their bytes; a write is told by the fields that it began with
-abbrev pub functionData : Function → List ℕ → List ℕ → List ℕ
-functionData ReadRegisters frame memory = 2 * quantityIn frame ∷ registersAt memory (firstIn frame) (quantityIn frame)
-functionData WriteRegister frame memory = bytes_at frame 2 4
-functionData WriteRegisters frame memory = bytes_at frame 2 4
-functionData MaskRegister frame memory = bytes_at frame 2 6
-functionData Other frame memory = []
+abbrev pub function_data : Function → List ℕ → List ℕ → List ℕ
+function_data ReadRegisters frame memory = 2 * quantity_in frame ∷ registers_at memory (first_in frame) (quantity_in frame)
+function_data WriteRegister frame memory = bytes_at frame 2 4
+function_data WriteRegisters frame memory = bytes_at frame 2 4
+function_data MaskRegister frame memory = bytes_at frame 2 6
+function_data Other frame memory = []
 
 -- ---- a frame
 
 -- an exception has the top bit of the function byte set
-abbrev pub answerTo : ℕ → List ℕ → List ℕ → List ℕ
-answerTo exception frame memory =
-    cond (eqb exception done) (functionByte frame ∷ functionData (functionIn frame) frame memory)
-    ((128 + functionByte frame) ∷ exception ∷ [])
+abbrev pub answer_to : ℕ → List ℕ → List ℕ → List ℕ
+answer_to exception frame memory =
+    cond (eqb exception done) (function_byte frame ∷ function_data (function_in frame) frame memory)
+    ((128 + function_byte frame) ∷ exception ∷ [])
 
 -- no bytes are silence
-unfoldable pub modbusAnswer : ℕ → List ℕ → List ℕ → List ℕ
-modbusAnswer station frame memory =
-    cond (isSilenced station frame) []
-    (withCheckSum (station ∷ answerTo (exceptionTo (functionIn frame) frame memory) frame memory))
+unfoldable pub modbus_answer : ℕ → List ℕ → List ℕ → List ℕ
+modbus_answer station frame memory =
+    cond (is_silenced station frame) []
+    (with_check_sum (station ∷ answer_to (exception_to (function_in frame) frame memory) frame memory))
 
 -- "silence and no change", and none with an exception
-unfoldable pub modbusMemory : ℕ → List ℕ → List ℕ → List ℕ
-modbusMemory station frame memory =
-    cond (isSilenced station frame) memory
-    (cond (eqb (exceptionTo (functionIn frame) frame memory) done) (carriedOut (functionIn frame) frame memory) memory)
+unfoldable pub modbus_memory : ℕ → List ℕ → List ℕ → List ℕ
+modbus_memory station frame memory =
+    cond (is_silenced station frame) memory
+    (cond (eqb (exception_to (function_in frame) frame memory) done) (carried_out (function_in frame) frame memory) memory)
 
 -- ---- the call
 
-abbrev pub modbusRoom : ℕ
-modbusRoom = 256
+abbrev pub modbus_room : ℕ
+modbus_room = 256
 
 -- "call number 3 for an output below 256 bytes, 9 for an own station outside 1 to 247", and 2 as ever; "Lowest number first"
-abbrev pub modbusRefusal : ℕ → List ℕ → List ℕ → ℕ
-modbusRefusal station memory out =
-    cond (not (eqb (length memory) memoryEnd)) memoryRefused
-    (cond (ltb (length out) modbusRoom) roomRefused (cond (not (isStation station)) stationRefused taken))
+abbrev pub modbus_refusal : ℕ → List ℕ → List ℕ → ℕ
+modbus_refusal station memory out =
+    cond (not (eqb (length memory) memory_end)) memory_refused
+    (cond (ltb (length out) modbus_room) room_refused (cond (not (is_station station)) station_refused taken))
 
 -- "Bytes of it behind the answer keep their values; without an answer, all do."
-abbrev pub modbusBuffer : ℕ → List ℕ → List ℕ → List ℕ → List ℕ
-modbusBuffer station frame memory out = sets out 0 (modbusAnswer station frame memory)
+abbrev pub modbus_buffer : ℕ → List ℕ → List ℕ → List ℕ → List ℕ
+modbus_buffer station frame memory out = sets out 0 (modbus_answer station frame memory)

@@ -16,15 +16,15 @@ paired (b ∷ (c ∷ cs)) =
     (literal b ∷ paired (c ∷ cs))
 
 -- what a start opens ends with the next start: "A start drops any unfinished message"
-abbrev pub untilStart : List Token → List ℕ
-untilStart [] = []
-untilStart (start ∷ ts) = []
-untilStart (literal l ∷ ts) = l ∷ untilStart ts
+abbrev pub until_start : List Token → List ℕ
+until_start [] = []
+until_start (start ∷ ts) = []
+until_start (literal l ∷ ts) = l ∷ until_start ts
 
 -- what every start opens, where `whole` says what its literals make; "Literals outside a message are dropped."
 abbrev pub opened : {A : Type 0} → (List ℕ → List A) → List Token → List A
 opened whole [] = []
-opened whole (start ∷ ts) = whole (untilStart ts) ++ opened whole ts
+opened whole (start ∷ ts) = whole (until_start ts) ++ opened whole ts
 opened whole (literal l ∷ ts) = opened whole ts
 
 -- ---- where each start byte stands, counted from 0
@@ -39,8 +39,8 @@ width start = 1
 width (literal l) = cond (eqb l 0x2B) 2 1
 
 -- the same as `opened`, of tokens that begin at a place
-abbrev pub openedAt : {A : Type 0} → (List ℕ → List A) → ℕ → List Token → List (Placed A)
-openedAt whole place [] = []
-openedAt whole place (start ∷ ts) =
-    map (λ a. record { place = place; thing = a }) (whole (untilStart ts)) ++ openedAt whole (place + width start) ts
-openedAt whole place (literal l ∷ ts) = openedAt whole (place + width (literal l)) ts
+abbrev pub opened_at : {A : Type 0} → (List ℕ → List A) → ℕ → List Token → List (Placed A)
+opened_at whole place [] = []
+opened_at whole place (start ∷ ts) =
+    map (λ a. record { place = place; thing = a }) (whole (until_start ts)) ++ opened_at whole (place + width start) ts
+opened_at whole place (literal l ∷ ts) = opened_at whole (place + width (literal l)) ts

@@ -1,10 +1,10 @@
 -- The recorder's setup (0x09, 0x0B): its fields, and what is wrong with them.
 use Rattle.std.specs.Prelude.{Bool, cond, not, ◌&&◌, ◌||◌, List, [], ◌∷◌, ℕ, ◌+◌, ◌*◌, length, get_or, take, drop, eqb, ltb}
-use Rattle.document.specs.Numbers.{isIn}
-use Rattle.document.specs.Areas.{mayBeRecorded, bytes_at}
+use Rattle.document.specs.Numbers.{is_in}
+use Rattle.document.specs.Areas.{may_be_recorded, bytes_at}
 use Rattle.document.specs.Values.{number}
 use Rattle.document.specs.declared.Variable.{Variable}
-use Rattle.document.specs.Variables.{addressWidth, countIn, variablesIn, lengthGiven, anySizeZero, countWrong, allMay, setSize}
+use Rattle.document.specs.Variables.{address_width, count_in, variables_in, length_given, any_size_zero, count_wrong, all_may, set_size}
 
 -- which edge of which variable; mode 0 has none
 pub record Trigger : Type 0 where
@@ -17,7 +17,7 @@ pub record Trigger : Type 0 where
 -- what a setup fixes
 pub record Plan : Type 0 where
   pub samples : ℕ
-  pub postTrigger : ℕ
+  pub post_trigger : ℕ
   pub divider : ℕ
   pub trigger : Trigger
   pub variables : List Variable
@@ -25,92 +25,92 @@ pub record Plan : Type 0 where
 -- ---- the fields: "trigger mode 1 byte, samples 2, post-trigger 2, time divider 2, trigger address, trigger size 1,
 -- sign 1, threshold 4 .., then as 0x08"
 
-abbrev pub modeField : List ℕ → ℕ
-modeField body = get_or body 0 0
+abbrev pub mode_field : List ℕ → ℕ
+mode_field body = get_or body 0 0
 
-abbrev pub samplesField : List ℕ → ℕ
-samplesField body = number (bytes_at body 1 2)
+abbrev pub samples_field : List ℕ → ℕ
+samples_field body = number (bytes_at body 1 2)
 
-abbrev pub postTriggerField : List ℕ → ℕ
-postTriggerField body = number (bytes_at body 3 2)
+abbrev pub post_trigger_field : List ℕ → ℕ
+post_trigger_field body = number (bytes_at body 3 2)
 
-abbrev pub dividerField : List ℕ → ℕ
-dividerField body = number (bytes_at body 5 2)
+abbrev pub divider_field : List ℕ → ℕ
+divider_field body = number (bytes_at body 5 2)
 
-abbrev pub triggerAddressField : Bool → List ℕ → ℕ
-triggerAddressField ex body = number (bytes_at body 7 (addressWidth ex))
+abbrev pub trigger_address_field : Bool → List ℕ → ℕ
+trigger_address_field ex body = number (bytes_at body 7 (address_width ex))
 
-abbrev pub triggerSizeField : Bool → List ℕ → ℕ
-triggerSizeField ex body = get_or body (7 + addressWidth ex) 0
+abbrev pub trigger_size_field : Bool → List ℕ → ℕ
+trigger_size_field ex body = get_or body (7 + address_width ex) 0
 
-abbrev pub signField : Bool → List ℕ → ℕ
-signField ex body = get_or body (8 + addressWidth ex) 0
+abbrev pub sign_field : Bool → List ℕ → ℕ
+sign_field ex body = get_or body (8 + address_width ex) 0
 
 -- "only the first 'trigger size' bytes count"
-abbrev pub thresholdField : Bool → List ℕ → ℕ
-thresholdField ex body = number (take (triggerSizeField ex body) (bytes_at body (9 + addressWidth ex) 4))
+abbrev pub threshold_field : Bool → List ℕ → ℕ
+threshold_field ex body = number (take (trigger_size_field ex body) (bytes_at body (9 + address_width ex) 4))
 
 -- where the count stands
-abbrev pub headWidth : Bool → ℕ
-headWidth ex = 13 + addressWidth ex
+abbrev pub head_width : Bool → ℕ
+head_width ex = 13 + address_width ex
 
-abbrev pub variablesPart : Bool → List ℕ → List ℕ
-variablesPart ex body = drop (headWidth ex) body
+abbrev pub variables_part : Bool → List ℕ → List ℕ
+variables_part ex body = drop (head_width ex) body
 
-abbrev pub recordedIn : Bool → List ℕ → List Variable
-recordedIn ex body = variablesIn ex (variablesPart ex body)
+abbrev pub recorded_in : Bool → List ℕ → List Variable
+recorded_in ex body = variables_in ex (variables_part ex body)
 
 -- "With mode 0 the trigger's fields are not looked at."
-abbrev pub looksAtTrigger : List ℕ → Bool
-looksAtTrigger body = not (eqb (modeField body) 0)
+abbrev pub looks_at_trigger : List ℕ → Bool
+looks_at_trigger body = not (eqb (mode_field body) 0)
 
-abbrev pub noTrigger : Trigger
-noTrigger = record { mode = 0; address = 0; size = 0; sign = 0; threshold = 0 }
+abbrev pub no_trigger : Trigger
+no_trigger = record { mode = 0; address = 0; size = 0; sign = 0; threshold = 0 }
 
-abbrev pub triggerIn : Bool → List ℕ → Trigger
-triggerIn ex body =
-    cond (looksAtTrigger body)
+abbrev pub trigger_in : Bool → List ℕ → Trigger
+trigger_in ex body =
+    cond (looks_at_trigger body)
     (record {
-      mode = modeField body;
-      address = triggerAddressField ex body;
-      size = triggerSizeField ex body;
-      sign = signField ex body;
-      threshold = thresholdField ex body;
+      mode = mode_field body;
+      address = trigger_address_field ex body;
+      size = trigger_size_field ex body;
+      sign = sign_field ex body;
+      threshold = threshold_field ex body;
     })
-    noTrigger
+    no_trigger
 
-unfoldable pub planIn : Bool → List ℕ → Plan
-planIn ex body =
+unfoldable pub plan_in : Bool → List ℕ → Plan
+plan_in ex body =
     record {
-      samples = samplesField body;
-      postTrigger = postTriggerField body;
-      divider = dividerField body;
-      trigger = triggerIn ex body;
-      variables = recordedIn ex body;
+      samples = samples_field body;
+      post_trigger = post_trigger_field body;
+      divider = divider_field body;
+      trigger = trigger_in ex body;
+      variables = recorded_in ex body;
     }
 
 -- ---- what is refused
 
 -- "a data length that is not the one its fields give (or too short to hold them), a trigger mode above 2, or, with mode 1
 -- or 2, a sign field above 1"
-abbrev pub recorderLayoutWrong : Bool → List ℕ → Bool
-recorderLayoutWrong ex body =
-    not (eqb (length body) (headWidth ex + lengthGiven ex (variablesPart ex body)))
-    || ltb 2 (modeField body)
-    || looksAtTrigger body && ltb 1 (signField ex body)
+abbrev pub recorder_layout_wrong : Bool → List ℕ → Bool
+recorder_layout_wrong ex body =
+    not (eqb (length body) (head_width ex + length_given ex (variables_part ex body)))
+    || ltb 2 (mode_field body)
+    || looks_at_trigger body && ltb 1 (sign_field ex body)
 
 -- "a size of 0; a variable count of 0 or above 8; 0 samples; samples times set size above 4,096; with mode 1 or 2, a
 -- trigger size other than 1, 2, 4"
-abbrev pub recorderSizeWrong : Bool → List ℕ → Bool
-recorderSizeWrong ex body =
-    anySizeZero (recordedIn ex body)
-    || countWrong (countIn (variablesPart ex body))
-    || eqb (samplesField body) 0
-    || ltb 4096 (samplesField body * setSize (recordedIn ex body))
-    || looksAtTrigger body && not (isIn (triggerSizeField ex body) (1 ∷ 2 ∷ 4 ∷ []))
+abbrev pub recorder_size_wrong : Bool → List ℕ → Bool
+recorder_size_wrong ex body =
+    any_size_zero (recorded_in ex body)
+    || count_wrong (count_in (variables_part ex body))
+    || eqb (samples_field body) 0
+    || ltb 4096 (samples_field body * set_size (recorded_in ex body))
+    || looks_at_trigger body && not (is_in (trigger_size_field ex body) (1 ∷ 2 ∷ 4 ∷ []))
 
 -- "Recorded variables and trigger must end at or below 12,288."
-abbrev pub recorderRangeWrong : Bool → List ℕ → Bool
-recorderRangeWrong ex body =
-    not (allMay mayBeRecorded (recordedIn ex body))
-    || looksAtTrigger body && not (mayBeRecorded (triggerAddressField ex body) (triggerSizeField ex body))
+abbrev pub recorder_range_wrong : Bool → List ℕ → Bool
+recorder_range_wrong ex body =
+    not (all_may may_be_recorded (recorded_in ex body))
+    || looks_at_trigger body && not (may_be_recorded (trigger_address_field ex body) (trigger_size_field ex body))

@@ -3,8 +3,8 @@ use Rattle.std.specs.Prelude.{List, [], ◌∷◌, ◌++◌, replicate}
 use Rattle.document.specs.Hex.{hex}
 use Rattle.document.specs.Rows.{Row, asks, sends, puts}
 
-unfoldable pub readRows : List Row
-readRows =
+unfoldable pub read_rows : List Row
+read_rows =
     -- "then "LOG GATE" and 17 zeros (35 bytes)"; "0xC8: the first six."
     (sends (hex "C0") (hex "00 03 00 01 01 00 40 00 10 01 40 4C 4F 47 20 47 41 54 45" ++ replicate 17 0) ∷ asks "C8" "00 03 00 01 01 00 40" ∷ [])
     -- "1, 2, 4 bytes at an address", lowest first

@@ -2,27 +2,27 @@
 use Rattle.std.specs.Prelude.{List, [], ◌∷◌, ◌++◌, ℕ, suc, replicate, length}
 use Prim.Native.String.{String}
 use Rattle.document.specs.Hex.{hex}
-use Rattle.document.specs.AnswerReader.{Brought, beginRefusal, readRoomRefusal, readRefusal, readBuffer, brought}
+use Rattle.document.specs.AnswerReader.{Brought, begin_refusal, read_room_refusal, read_refusal, read_buffer, brought}
 use Rattle.document.specs.AnswerReader.Brought.{nothing, answer, wrong}
 use Rattle.document.specs.CallRows.{Line}
 
 -- ---- a byte's place, counted from 0; the number that answers it; then a status, and the buffer
 
-abbrev asBytes : ℕ → Brought → List ℕ
-asBytes place nothing = []
-asBytes place (answer a) = place ∷ readRefusal (answer a) ∷ a.status ∷ readBuffer (answer a) (hex "AAAA")
-asBytes place wrong = place ∷ readRefusal wrong ∷ readBuffer wrong (hex "AAAA")
+abbrev as_bytes : ℕ → Brought → List ℕ
+as_bytes place nothing = []
+as_bytes place (answer a) = place ∷ read_refusal (answer a) ∷ a.status ∷ read_buffer (answer a) (hex "AAAA")
+as_bytes place wrong = place ∷ read_refusal wrong ∷ read_buffer wrong (hex "AAAA")
 
-abbrev broughtFrom : ℕ → List ℕ → List ℕ → List ℕ
-broughtFrom expected before [] = []
-broughtFrom expected before (b ∷ bs) =
-    asBytes (length before) (brought expected before b) ++ broughtFrom expected (before ++ (b ∷ [])) bs
+abbrev brought_from : ℕ → List ℕ → List ℕ → List ℕ
+brought_from expected before [] = []
+brought_from expected before (b ∷ bs) =
+    as_bytes (length before) (brought expected before b) ++ brought_from expected (before ++ (b ∷ [])) bs
 
 abbrev reads : ℕ → String → String → Line
-reads expected bytes says = record { gives = broughtFrom expected [] (hex bytes); says = hex says }
+reads expected bytes says = record { gives = brought_from expected [] (hex bytes); says = hex says }
 
-unfoldable pub readerRows : List Line
-readerRows =
+unfoldable pub reader_rows : List Line
+reader_rows =
     reads 1 "2B 00 7F 81" "03 00 00 7FAA"
     ∷ reads 0 "2B 00 00" "02 00 00 AAAA"
     ∷ reads 2 "2B 02 01 02 FB" "04 00 02 0102"
@@ -40,8 +40,8 @@ readerRows =
     ∷ reads 1 "2B 81 7E 2B 00 7F 81 81" "02 06 AAAA 06 00 00 7FAA"
     -- "5 an expected length above 64"; "the answer reader needs 64 for data"
     ∷ record {
-      gives = beginRefusal 0 ∷ beginRefusal 64 ∷ beginRefusal 65 ∷ readRefusal nothing ∷ readBuffer nothing (hex "AA");
+      gives = begin_refusal 0 ∷ begin_refusal 64 ∷ begin_refusal 65 ∷ read_refusal nothing ∷ read_buffer nothing (hex "AA");
       says = hex "00 00 05 00 AA";
     }
-    ∷ record { gives = readRoomRefusal (replicate 63 0) ∷ readRoomRefusal (replicate 64 0) ∷ readRoomRefusal (replicate 65 0) ∷ []; says = hex "03 00 00" }
+    ∷ record { gives = read_room_refusal (replicate 63 0) ∷ read_room_refusal (replicate 64 0) ∷ read_room_refusal (replicate 65 0) ∷ []; says = hex "03 00 00" }
     ∷ []

@@ -5,8 +5,8 @@ use Rattle.document.specs.Hex.{hex}
 use Rattle.document.specs.Message.{Message, heard}
 use Rattle.document.specs.Refusals.{Refusal, table}
 use Rattle.document.specs.Gate.{Gate, fresh}
-use Rattle.document.specs.Happenings.{fromReset}
-use Rattle.document.specs.Rows.{zeros, Row, Step, hears, asks, framed, wire, afterSteps}
+use Rattle.document.specs.Happenings.{from_reset}
+use Rattle.document.specs.Rows.{zeros, Row, Step, hears, asks, framed, wire, after_steps}
 
 -- a message after some steps, and all refusals that apply to it, in the table's order
 pub record Faulty : Type 0 where
@@ -30,8 +30,8 @@ pending message faults = record { before = asks "10 01 01" "00" ∷ []; message 
 abbrev longer : ℕ → Faulty → Faulty
 longer n f = record { before = f.before; message = f.message ++ replicate n 0x10; faults = f.faults }
 
-unfoldable pub faultyMessages : List Faulty
-faultyMessages =
+unfoldable pub faulty_messages : List Faulty
+faulty_messages =
     -- alone
     longer 62 (faulty "02 41 3E 1000" "83")
     ∷ faulty "7F 00" "81"
@@ -83,14 +83,14 @@ faultyMessages =
 
 -- ---- the rows: the first of its faults is the answer, and 0x82 where the sum is wrong besides
 
-abbrev pub withRightSum : Faulty → Row
-withRightSum f = f.before ++ (hears (wire f.message) (wire (take 1 f.faults) ∷ []) ∷ [])
+abbrev pub with_right_sum : Faulty → Row
+with_right_sum f = f.before ++ (hears (wire f.message) (wire (take 1 f.faults) ∷ []) ∷ [])
 
-abbrev pub withWrongSum : Faulty → Row
-withWrongSum f = f.before ++ (hears (framed 1 f.message) (wire (0x82 ∷ []) ∷ []) ∷ [])
+abbrev pub with_wrong_sum : Faulty → Row
+with_wrong_sum f = f.before ++ (hears (framed 1 f.message) (wire (0x82 ∷ []) ∷ []) ∷ [])
 
-abbrev pub pairRows : List Faulty → List Row
-pairRows fs = map withRightSum fs ++ map withWrongSum fs
+abbrev pub pair_rows : List Faulty → List Row
+pair_rows fs = map with_right_sum fs ++ map with_wrong_sum fs
 
 -- ---- and the faults are those that apply
 
@@ -102,5 +102,5 @@ abbrev of_all : Gate → List Message → List ℕ
 of_all g [] = []
 of_all g (m ∷ ms) = applying (table g m) ++ of_all g ms
 
-abbrev pub faultsOf : Faulty → List ℕ
-faultsOf f = of_all (afterSteps (fromReset (fresh zeros)) f.before).gate (heard (wire f.message))
+abbrev pub faults_of : Faulty → List ℕ
+faults_of f = of_all (after_steps (from_reset (fresh zeros)) f.before).gate (heard (wire f.message))

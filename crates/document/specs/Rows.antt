@@ -3,9 +3,9 @@ use Rattle.std.specs.Prelude.{cond, List, [], ◌∷◌, ◌++◌, map, ℕ, ◌
 use Prim.Native.String.{String}
 use Rattle.document.specs.Hex.{hex}
 use Rattle.document.specs.Message.{Message, heard}
-use Rattle.document.specs.Answer.{answerOnWire}
+use Rattle.document.specs.Answer.{answer_on_wire}
 use Rattle.document.specs.Gate.{fresh}
-use Rattle.document.specs.Happenings.{Happening, Since, afterMessages, afterAll, fromReset}
+use Rattle.document.specs.Happenings.{Happening, Since, after_messages, after_all, from_reset}
 use Rattle.document.specs.Happenings.Happening.{byte, aside}
 use Rattle.document.specs.Asides.{Aside}
 use Rattle.document.specs.Asides.Aside.{tick, writes, collects, reports, prepares, starts}
@@ -81,40 +81,40 @@ abbrev pub starting : Step
 starting = beside (starts ∷ [])
 
 -- byte 16 takes these values, one at each tick
-abbrev eachTick : List ℕ → List Aside
-eachTick [] = []
-eachTick (b ∷ bs) = writes 16 (b ∷ []) ∷ tick ∷ eachTick bs
+abbrev each_tick : List ℕ → List Aside
+each_tick [] = []
+each_tick (b ∷ bs) = writes 16 (b ∷ []) ∷ tick ∷ each_tick bs
 
 abbrev pub passes : String → Step
-passes values = beside (eachTick (hex values))
+passes values = beside (each_tick (hex values))
 
 -- ---- what a row says
 
-abbrev pub saidBy : Row → List (List ℕ)
-saidBy [] = []
-saidBy (s ∷ ss) = s.answers ++ saidBy ss
+abbrev pub said_by : Row → List (List ℕ)
+said_by [] = []
+said_by (s ∷ ss) = s.answers ++ said_by ss
 
 -- ---- what the definitions make of it, byte by byte
 
-abbrev happeningsOf : Row → List Happening
-happeningsOf [] = []
-happeningsOf (s ∷ ss) = map byte s.bytes ++ map aside s.asides ++ happeningsOf ss
+abbrev happenings_of : Row → List Happening
+happenings_of [] = []
+happenings_of (s ∷ ss) = map byte s.bytes ++ map aside s.asides ++ happenings_of ss
 
-abbrev pub byteByByte : Row → List (List ℕ)
-byteByByte row = map answerOnWire (afterAll (fromReset (fresh zeros)) (happeningsOf row)).answers
+abbrev pub byte_by_byte : Row → List (List ℕ)
+byte_by_byte row = map answer_on_wire (after_all (from_reset (fresh zeros)) (happenings_of row)).answers
 
 -- ---- and step by step: the messages of a step heard by themselves, which is quicker to compute
 
-abbrev toldEach : Since → List Message → Since
-toldEach s [] = s
-toldEach s (m ∷ ms) = toldEach (afterMessages s (m ∷ [])) ms
+abbrev told_each : Since → List Message → Since
+told_each s [] = s
+told_each s (m ∷ ms) = told_each (after_messages s (m ∷ [])) ms
 
-abbrev pub afterSteps : Since → Row → Since
-afterSteps s [] = s
-afterSteps s (t ∷ ts) = afterSteps (afterAll (toldEach s (heard t.bytes)) (map aside t.asides)) ts
+abbrev pub after_steps : Since → Row → Since
+after_steps s [] = s
+after_steps s (t ∷ ts) = after_steps (after_all (told_each s (heard t.bytes)) (map aside t.asides)) ts
 
-abbrev pub stepByStepOver : List ℕ → Row → List (List ℕ)
-stepByStepOver memory row = map answerOnWire (afterSteps (fromReset (fresh memory)) row).answers
+abbrev pub step_by_step_over : List ℕ → Row → List (List ℕ)
+step_by_step_over memory row = map answer_on_wire (after_steps (from_reset (fresh memory)) row).answers
 
-abbrev pub stepByStep : Row → List (List ℕ)
-stepByStep row = stepByStepOver zeros row
+abbrev pub step_by_step : Row → List (List ℕ)
+step_by_step row = step_by_step_over zeros row

@@ -1,10 +1,10 @@
 -- The recorder between two setups: start, stop, tick, start index.
 use Rattle.std.specs.Prelude.{Bool, true, false, cond, ◌||◌, List, ℕ, ◌+◌, ◌-◌, ◌*◌, eqb, ltb}
-use Rattle.document.specs.Areas.{bufferBegin}
+use Rattle.document.specs.Areas.{buffer_begin}
 use Rattle.document.specs.Stores.{stored}
-use Rattle.document.specs.Variables.{setSize, values_of}
+use Rattle.document.specs.Variables.{set_size, values_of}
 use Rattle.document.specs.Plan.{Plan, Trigger}
-use Rattle.document.specs.Trigger.{triggerValue, fires, isBeyond}
+use Rattle.document.specs.Trigger.{trigger_value, fires, is_beyond}
 
 -- how far the trigger has come
 pub data Watch : Type 0 where
@@ -40,56 +40,56 @@ abbrev pub prepared : Run
 prepared = stopped started
 
 -- "The start index is 0 until 'samples' sets are taken, then the place that would be written next."
-abbrev pub startIndex : Run → ℕ
-startIndex r = cond r.full r.place 0
+abbrev pub start_index : Run → ℕ
+start_index r = cond r.full r.place 0
 
 -- ---- a set
 
 -- "Place p begins at byte 12,288 + p × set size"
-abbrev pub placeBegins : Plan → ℕ → ℕ
-placeBegins p place = bufferBegin + place * setSize p.variables
+abbrev pub place_begins : Plan → ℕ → ℕ
+place_begins p place = buffer_begin + place * set_size p.variables
 
 -- "bytes copied in the order of the definitions"
-abbrev pub setOf : Plan → List ℕ → List ℕ
-setOf p memory = values_of memory p.variables
+abbrev pub set_of : Plan → List ℕ → List ℕ
+set_of p memory = values_of memory p.variables
 
 -- "Set k since the start goes to place k modulo 'samples', k counted from 0"
-abbrev pub placeAfter : ℕ → ℕ → ℕ
-placeAfter samples place = cond (eqb (place + 1) samples) 0 (place + 1)
+abbrev pub place_after : ℕ → ℕ → ℕ
+place_after samples place = cond (eqb (place + 1) samples) 0 (place + 1)
 
-abbrev pub fullAfter : ℕ → ℕ → Bool → Bool
-fullAfter samples place full = full || eqb (place + 1) samples
+abbrev pub full_after : ℕ → ℕ → Bool → Bool
+full_after samples place full = full || eqb (place + 1) samples
 
 -- "Then, if no trigger has come, the trigger variable is compared."; 2026-02: the first set for itself, and "Later sets keep
 -- 01's rule."
 abbrev pub comes : Trigger → Watch → ℕ → Bool
-comes t unprimed value = isBeyond t value
+comes t unprimed value = is_beyond t value
 comes t (previous before) value = fires t before value
 comes t (triggered left) value = false
 
 -- "At a trigger, the post-trigger number of further sets is taken"
-abbrev pub lookedAt : Plan → Bool → ℕ → Watch
-lookedAt p come value = cond come (triggered p.postTrigger) (previous value)
+abbrev pub looked_at : Plan → Bool → ℕ → Watch
+looked_at p come value = cond come (triggered p.post_trigger) (previous value)
 
 abbrev pub watched : Plan → Watch → ℕ → Watch
-watched p unprimed value = lookedAt p (comes p.trigger unprimed value) value
-watched p (previous before) value = lookedAt p (comes p.trigger (previous before) value) value
+watched p unprimed value = looked_at p (comes p.trigger unprimed value) value
+watched p (previous before) value = looked_at p (comes p.trigger (previous before) value) value
 watched p (triggered left) value = triggered (left - 1)
 
 -- "the recorder stops with the last. With 0 it stops at that tick."
-abbrev pub goesOn : Watch → Bool
-goesOn unprimed = true
-goesOn (previous value) = true
-goesOn (triggered left) = ltb 0 left
+abbrev pub goes_on : Watch → Bool
+goes_on unprimed = true
+goes_on (previous value) = true
+goes_on (triggered left) = ltb 0 left
 
-abbrev pub setTaken : Plan → Run → List ℕ → Run
-setTaken p r memory =
+abbrev pub set_taken : Plan → Run → List ℕ → Run
+set_taken p r memory =
     record {
-      running = goesOn (watched p r.watch (triggerValue p.trigger memory));
+      running = goes_on (watched p r.watch (trigger_value p.trigger memory));
       wait = p.divider;
-      place = placeAfter p.samples r.place;
-      full = fullAfter p.samples r.place r.full;
-      watch = watched p r.watch (triggerValue p.trigger memory);
+      place = place_after p.samples r.place;
+      full = full_after p.samples r.place r.full;
+      watch = watched p r.watch (trigger_value p.trigger memory);
     }
 
 -- ---- a tick
@@ -98,10 +98,10 @@ abbrev pub waited : Run → Run
 waited r = record { running = r.running; wait = r.wait - 1; place = r.place; full = r.full; watch = r.watch }
 
 -- "A stopped recorder does nothing at it. After a start the first tick takes a set, then every (time divider + 1)th."
-unfoldable pub ranTick : Plan → Run → List ℕ → Run
-ranTick p r memory = cond r.running (cond (eqb r.wait 0) (setTaken p r memory) (waited r)) r
+unfoldable pub ran_tick : Plan → Run → List ℕ → Run
+ran_tick p r memory = cond r.running (cond (eqb r.wait 0) (set_taken p r memory) (waited r)) r
 
 -- "A tick changes only that place."
-unfoldable pub memoryAfterTick : Plan → Run → List ℕ → List ℕ
-memoryAfterTick p r memory =
-    cond r.running (cond (eqb r.wait 0) (stored memory (placeBegins p r.place) (setOf p memory)) memory) memory
+unfoldable pub memory_after_tick : Plan → Run → List ℕ → List ℕ
+memory_after_tick p r memory =
+    cond r.running (cond (eqb r.wait 0) (stored memory (place_begins p r.place) (set_of p memory)) memory) memory

@@ -3,8 +3,8 @@ use Rattle.std.specs.Prelude.{List, [], ◌∷◌, ◌++◌, replicate}
 use Rattle.document.specs.Hex.{hex}
 use Rattle.document.specs.Rows.{Row, asks, sends, puts}
 
-unfoldable pub scopeRows : List Row
-scopeRows =
+unfoldable pub scope_rows : List Row
+scope_rows =
     -- "the variables' bytes in that order", as they are when they are read
     (asks "C5" "88" ∷ asks "08 07 02 02 2000 01 1000" "00" ∷ puts 16 "11" ∷ puts 32 "22 33" ∷ asks "C5" "00 2233 11" ∷ puts 32 "44" ∷ asks "C5" "00 4433 11" ∷ [])
     ∷ (asks "0A 0B 02 02 20000000 01 10000000" "00" ∷ puts 16 "11" ∷ puts 32 "22 33" ∷ asks "C5" "00 2233 11" ∷ [])

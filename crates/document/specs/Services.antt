@@ -72,16 +72,16 @@ commands =
 abbrev unserved : Service
 unserved = record { operation = Unserved; ex = false; size = 0 }
 
-abbrev listedAs : ℕ → List Listed → Service
-listedAs c [] = unserved
-listedAs c (l ∷ ls) = cond (eqb c l.command) l.service (listedAs c ls)
+abbrev listed_as : ℕ → List Listed → Service
+listed_as c [] = unserved
+listed_as c (l ∷ ls) = cond (eqb c l.command) l.service (listed_as c ls)
 
-unfoldable pub serviceOf : ℕ → Service
-serviceOf c = listedAs c commands
+unfoldable pub service_of : ℕ → Service
+service_of c = listed_as c commands
 
-abbrev isIn : ℕ → List Listed → Bool
-isIn c [] = false
-isIn c (l ∷ ls) = eqb c l.command || isIn c ls
+abbrev is_in : ℕ → List Listed → Bool
+is_in c [] = false
+is_in c (l ∷ ls) = eqb c l.command || is_in c ls
 
-abbrev pub isServed : ℕ → Bool
-isServed c = isIn c commands
+abbrev pub is_served : ℕ → Bool
+is_served c = is_in c commands

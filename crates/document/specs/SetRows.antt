@@ -2,64 +2,64 @@
 use Rattle.std.specs.Prelude.{true, false, List, [], ◌∷◌, ◌++◌, map, ℕ, replicate}
 use Prim.Native.String.{String}
 use Rattle.document.specs.Hex.{hex}
-use Rattle.document.specs.Plan.{Plan, noTrigger, planIn}
-use Rattle.document.specs.Recorder.{bufferAnswer}
+use Rattle.document.specs.Plan.{Plan, no_trigger, plan_in}
+use Rattle.document.specs.Recorder.{buffer_answer}
 use Rattle.document.specs.Recorder.Recorder.{planned}
-use Rattle.document.specs.Run.{setOf}
+use Rattle.document.specs.Run.{set_of}
 use Rattle.document.specs.Run.Watch.{unprimed}
-use Rattle.document.specs.Sets.{setsTaken, readRound, last_of}
+use Rattle.document.specs.Sets.{sets_taken, read_round, last_of}
 
 -- ---- every field at its full width: "samples 2, post-trigger 2, time divider 2", "threshold 4"
 
-abbrev pub plainPlan : Plan
-plainPlan =
+abbrev pub plain_plan : Plan
+plain_plan =
     record {
       samples = 0x0201;
-      postTrigger = 0x0403;
+      post_trigger = 0x0403;
       divider = 0x0605;
       trigger = record { mode = 2; address = 0x0807; size = 4; sign = 1; threshold = 0x0D0C0B0A };
       variables = record { size = 0x0E; address = 0x100F } ∷ record { size = 0x11; address = 0x1312 } ∷ [];
     }
 
-abbrev pub exPlan : Plan
-exPlan =
+abbrev pub ex_plan : Plan
+ex_plan =
     record {
       samples = 0x0201;
-      postTrigger = 0x0403;
+      post_trigger = 0x0403;
       divider = 0x0605;
       trigger = record { mode = 1; address = 0x0A090807; size = 2; sign = 0; threshold = 0x0C0B };
       variables = record { size = 0x0E; address = 0x1211100F } ∷ record { size = 0x13; address = 0x17161514 } ∷ [];
     }
 
 -- "With mode 0 the trigger's fields are not looked at."
-abbrev pub plainPlanNoTrigger : Plan
-plainPlanNoTrigger =
-    record { samples = 1; postTrigger = 2; divider = 3; trigger = noTrigger; variables = record { size = 1; address = 16 } ∷ [] }
+abbrev pub plain_plan_no_trigger : Plan
+plain_plan_no_trigger =
+    record { samples = 1; post_trigger = 2; divider = 3; trigger = no_trigger; variables = record { size = 1; address = 16 } ∷ [] }
 
-abbrev pub plansIn : List Plan
-plansIn =
-    planIn false (hex "02 0102 0304 0506 0708 04 01 0A0B0C0D 02 0E 0F10 11 1213")
-    ∷ planIn true (hex "01 0102 0304 0506 0708090A 02 00 0B0C0D0E 02 0E 0F101112 13 14151617")
-    ∷ planIn false (hex "00 0100 0200 0300 0708 04 01 0A0B0C0D 01 01 1000")
+abbrev pub plans_in : List Plan
+plans_in =
+    plan_in false (hex "02 0102 0304 0506 0708 04 01 0A0B0C0D 02 0E 0F10 11 1213")
+    ∷ plan_in true (hex "01 0102 0304 0506 0708090A 02 00 0B0C0D0E 02 0E 0F101112 13 14151617")
+    ∷ plan_in false (hex "00 0100 0200 0300 0708 04 01 0A0B0C0D 01 01 1000")
     ∷ []
 
 -- a start index of two bytes, behind an address of 2 bytes or 4
-abbrev pub bufferAnswers : List (List ℕ)
-bufferAnswers = bufferAnswer 2 full ∷ bufferAnswer 4 full ∷ []
+abbrev pub buffer_answers : List (List ℕ)
+buffer_answers = buffer_answer 2 full ∷ buffer_answer 4 full ∷ []
   where
     full : Rattle.document.specs.Recorder.Recorder
-    full = planned plainPlan (record { running = false; wait = 0; place = 0x0102; full = true; watch = unprimed })
+    full = planned plain_plan (record { running = false; wait = 0; place = 0x0102; full = true; watch = unprimed })
 
 -- ---- a run of a memory of one byte, which is recorded and rises to 0x80: at each tick its value
 
 pub record History : Type 0 where
-  pub postTrigger : ℕ
+  pub post_trigger : ℕ
   pub divider : ℕ
   pub ticks : List ℕ
   pub sets : List ℕ
 
 abbrev pub history : ℕ → ℕ → String → String → History
-history postTrigger divider ticks sets = record { postTrigger = postTrigger; divider = divider; ticks = hex ticks; sets = hex sets }
+history post_trigger divider ticks sets = record { post_trigger = post_trigger; divider = divider; ticks = hex ticks; sets = hex sets }
 
 unfoldable pub histories : List History
 histories =
@@ -79,7 +79,7 @@ abbrev pub plan_of : History → Plan
 plan_of h =
     record {
       samples = 2;
-      postTrigger = h.postTrigger;
+      post_trigger = h.post_trigger;
       divider = h.divider;
       trigger = record { mode = 1; address = 0; size = 1; sign = 0; threshold = 0x80 };
       variables = record { size = 1; address = 0 } ∷ [];
@@ -89,14 +89,14 @@ abbrev single : ℕ → List ℕ
 single b = b ∷ []
 
 abbrev pub taken : History → List (List ℕ)
-taken h = setsTaken (plan_of h) (map single h.ticks)
+taken h = sets_taken (plan_of h) (map single h.ticks)
 
 abbrev pub written : History → List (List ℕ)
 written h = map single h.sets
 
 -- "reading round from it": from place 1 of 2
 abbrev pub rounds : List (List ℕ)
-rounds = readRound (plan_of (history 0 0 "" "")) (replicate 12288 0 ++ hex "10 20 30") 1 3
+rounds = read_round (plan_of (history 0 0 "" "")) (replicate 12288 0 ++ hex "10 20 30") 1 3
 
 -- "the last sets of that history"
 abbrev pub lasts : List (List ℕ)
@@ -104,14 +104,14 @@ lasts = last_of 2 (map single (hex "10 20 30"))
 
 -- "bytes copied in the order of the definitions": one of two bytes, and one before it
 abbrev pub copied : List (List ℕ)
-copied = setOf twoAndOne (hex "10 20 30") ∷ []
+copied = set_of two_and_one (hex "10 20 30") ∷ []
   where
-    twoAndOne : Plan
-    twoAndOne =
+    two_and_one : Plan
+    two_and_one =
         record {
           samples = 1;
-          postTrigger = 0;
+          post_trigger = 0;
           divider = 0;
-          trigger = noTrigger;
+          trigger = no_trigger;
           variables = record { size = 2; address = 1 } ∷ record { size = 1; address = 0 } ∷ [];
         }

@@ -12,8 +12,8 @@ accepted setup = asks setup "00" ∷ asks "C3" "01" ∷ []
 abbrev refused : String → String → Row
 refused status setup = asks setup status ∷ asks "C3" "88" ∷ []
 
-unfoldable pub setupRows : List Row
-setupRows =
+unfoldable pub setup_rows : List Row
+setup_rows =
     accepted "09 13 00 0400 0000 0000 0000 00 00 00000000 01 01 1000"
     ∷ accepted "0B 17 00 0400 0000 0000 00000000 00 00 00000000 01 01 10000000"
     -- "a data length that is not the one its fields give (or too short to hold them)"

@@ -14,12 +14,12 @@ masked (suc k) old value mask =
     cond (eqb (mask % 2) 1) (value % 2) (old % 2) + 2 * masked k (old / 2) (value / 2) (mask / 2)
 
 -- byte by byte, "then as many mask bytes"
-abbrev pub maskedBytes : List ℕ → List ℕ → List ℕ → List ℕ
-maskedBytes [] vs ms = []
-maskedBytes (o ∷ os) [] ms = []
-maskedBytes (o ∷ os) (v ∷ vs) [] = []
-maskedBytes (o ∷ os) (v ∷ vs) (m ∷ ms) = masked 8 o v m ∷ maskedBytes os vs ms
+abbrev pub masked_bytes : List ℕ → List ℕ → List ℕ → List ℕ
+masked_bytes [] vs ms = []
+masked_bytes (o ∷ os) [] ms = []
+masked_bytes (o ∷ os) (v ∷ vs) [] = []
+masked_bytes (o ∷ os) (v ∷ vs) (m ∷ ms) = masked 8 o v m ∷ masked_bytes os vs ms
 
-abbrev pub maskStored : List ℕ → ℕ → List ℕ → List ℕ → List ℕ
-maskStored memory address values masks =
-    stored memory address (maskedBytes (bytes_at memory address (length values)) values masks)
+abbrev pub mask_stored : List ℕ → ℕ → List ℕ → List ℕ → List ℕ
+mask_stored memory address values masks =
+    stored memory address (masked_bytes (bytes_at memory address (length values)) values masks)

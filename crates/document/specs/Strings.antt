@@ -2,18 +2,18 @@
 use Rattle.std.specs.Prelude.{Bool, true, false, cond, List, [], ◌∷◌, ℕ, suc, drop, eqb}
 
 -- how many bytes stand before the first zero
-unfoldable pub beforeZero : List ℕ → ℕ
-beforeZero [] = 0
-beforeZero (b ∷ bs) = cond (eqb b 0) 0 (suc (beforeZero bs))
+unfoldable pub before_zero : List ℕ → ℕ
+before_zero [] = 0
+before_zero (b ∷ bs) = cond (eqb b 0) 0 (suc (before_zero bs))
 
-unfoldable pub hasZero : List ℕ → Bool
-hasZero [] = false
-hasZero (b ∷ bs) = cond (eqb b 0) true (hasZero bs)
+unfoldable pub has_zero : List ℕ → Bool
+has_zero [] = false
+has_zero (b ∷ bs) = cond (eqb b 0) true (has_zero bs)
 
 -- "the length of a zero-terminated string", without the zero
-abbrev pub stringLength : List ℕ → ℕ → ℕ
-stringLength memory address = beforeZero (drop address memory)
+abbrev pub string_length : List ℕ → ℕ → ℕ
+string_length memory address = before_zero (drop address memory)
 
 -- "no zero before memory's end" is where this is false
-abbrev pub stringEnds : List ℕ → ℕ → Bool
-stringEnds memory address = hasZero (drop address memory)
+abbrev pub string_ends : List ℕ → ℕ → Bool
+string_ends memory address = has_zero (drop address memory)

@@ -6,9 +6,9 @@ total [] = 0
 total (b ∷ bs) = b + total bs
 
 -- "add up to 0 modulo 256"
-abbrev pub addsUp : List ℕ → Bool
-addsUp bs = eqb (total bs % 256) 0
+abbrev pub adds_up : List ℕ → Bool
+adds_up bs = eqb (total bs % 256) 0
 
 -- the byte that makes these add up
-abbrev pub sumByteOf : List ℕ → ℕ
-sumByteOf bs = (256 - total bs % 256) % 256
+abbrev pub sum_byte_of : List ℕ → ℕ
+sum_byte_of bs = (256 - total bs % 256) % 256

@@ -6,15 +6,15 @@ use Rattle.document.specs.Rows.{Row, Step, asks, sends, puts, passes}
 
 -- 2 places; the post-trigger and the time divider
 abbrev runs : String → String → Step
-runs postTrigger divider =
-    sends (hex "09 13 01 0200" ++ hex postTrigger ++ hex divider ++ hex "1000 01 00 80000000 01 01 1000") (hex "00")
+runs post_trigger divider =
+    sends (hex "09 13 01 0200" ++ hex post_trigger ++ hex divider ++ hex "1000 01 00 80000000 01 01 1000") (hex "00")
 
 -- the same falling to 0x80, with post-trigger 0
 abbrev falls : Step
 falls = asks "09 13 02 0200 0000 0000 1000 01 00 80000000 01 01 1000" "00"
 
-unfoldable pub triggerRows : List Row
-triggerRows =
+unfoldable pub trigger_rows : List Row
+trigger_rows =
     -- "With 0 it stops at that tick.": its set is taken, and none behind it
     (runs "0000" "0000" ∷ passes "10 90 91" ∷ asks "C3" "02" ∷ asks "D2 0030" "00 1090 0000" ∷ [])
     -- "the post-trigger number of further sets is taken; the recorder stops with the last"

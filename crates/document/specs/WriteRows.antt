@@ -2,8 +2,8 @@
 use Rattle.std.specs.Prelude.{List, [], ◌∷◌}
 use Rattle.document.specs.Rows.{Row, asks, puts}
 
-unfoldable pub writeRows : List Row
-writeRows =
+unfoldable pub write_rows : List Row
+write_rows =
     -- "0xE3 carries a fourth byte that is ignored."
     (asks "E3 1000 05 77" "00" ∷ asks "D2 0F00" "00 00 05 00 00" ∷ [])
     ∷ (asks "E4 1000 0102" "00" ∷ asks "D2 0F00" "00 00 0102 00" ∷ asks "F0 1200 0A0B0C0D" "00" ∷ asks "01 03 08 0F00" "00 00 0102 0A0B0C0D 00" ∷ [])

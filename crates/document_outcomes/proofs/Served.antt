@@ -5,82 +5,82 @@ use mathlib.Core.List.{List, []}
 use Prim.Native.Nat.{ℕ}
 use borrow.Author.Tests.{eqb-true, eqb-false}
 use lib.Dec.{eqb}
-use Rattle.document.specs.Numbers.{done, isStatus, isError}
-use Rattle.document.specs.Stores.{stored, maskStored}
-use Rattle.document.specs.Fields.{sizeField, addressField, dataField, maskField}
+use Rattle.document.specs.Numbers.{done, is_status, is_error}
+use Rattle.document.specs.Stores.{stored, mask_stored}
+use Rattle.document.specs.Fields.{size_field, address_field, data_field, mask_field}
 use Rattle.document.specs.Gate.{Gate}
-use Rattle.document.specs.Permission.{mayBeWritten}
-use Rattle.document.specs.Refusals.{servedLines, first_of}
+use Rattle.document.specs.Permission.{may_be_written}
+use Rattle.document.specs.Refusals.{served_lines, first_of}
 use Rattle.document.specs.Commands.{served}
-use Rattle.document.specs.AnswerWriter.{answerFormed}
+use Rattle.document.specs.AnswerWriter.{answer_formed}
 use Rattle.document.specs.declared.Service.{Service}
 use Rattle.document.proofs.Cases.{split, neither}
-use Rattle.document_outcomes.specs.Changes.{Change, changeOf, changed, Accepted, Refused, leavesMemory}
-use Rattle.document_outcomes.specs.Changes.Change.{nothing, store, maskedStore, scopeSetUp, recorderPrepareAndStart, recorderStart, recorderStop, commandSent}
-use Rattle.document_outcomes.proofs.Firsts.{first-known}
+use Rattle.document_outcomes.specs.Changes.{Change, change_of, changed, Accepted, Refused, leaves_memory}
+use Rattle.document_outcomes.specs.Changes.Change.{nothing, store, masked_store, scope_set_up, recorder_prepare_and_start, recorder_start, recorder_stop, command_sent}
+use Rattle.document_outcomes.proofs.Firsts.{first_known}
 use Rattle.document_outcomes.proofs.Carried.{Carried, carried}
 
 -- a known status can stand alone
-pub alone-formed : (status : ℕ) → isStatus status ≡ true → answerFormed (record { status = status; body = [] }) ≡ true
-alone-formed status known = rw (known, and-false (isError status)) refl
+pub alone_formed : (status : ℕ) → is_status status ≡ true → answer_formed (record { status = status; body = [] }) ≡ true
+alone_formed status known = rw (known, and-false (is_error status)) refl
 
 module _ (g : Gate) (s : Service) (body : List ℕ) where
   abbrev change : Change
-  change = changeOf s.operation
+  change = change_of s.operation
 
   all : Carried s.operation g s body
   all = carried s.operation g s body
 
-  pub served-either : (P : Gate → Type 0) → (Refused change g s body → P g) → (Accepted change g s body → P (changed change g s body))
+  pub served_either : (P : Gate → Type 0) → (Refused change g s body → P g) → (Accepted change g s body → P (changed change g s body))
       → P (served g s body).gate
   unfolding served
-  served-either P same differs =
-      split (eqb (first_of (servedLines g s body)) done)
+  served_either P same differs =
+      split (eqb (first_of (served_lines g s body)) done)
       (λ none. rw none (subst P (sym all.gate) (differs (all.accepted (eqb-true _ _ none)))))
       (λ some. rw some (same (all.refused (eqb-false _ _ some))))
 
-  pub served-gate : (P : Gate → Type 0) → P g → (Accepted change g s body → P (changed change g s body)) → P (served g s body).gate
-  served-gate P same differs = served-either P (λ refused. same) differs
+  pub served_gate : (P : Gate → Type 0) → P g → (Accepted change g s body → P (changed change g s body)) → P (served g s body).gate
+  served_gate P same differs = served_either P (λ refused. same) differs
 
-  pub served-formed : answerFormed (served g s body).answer ≡ true
+  pub served_formed : answer_formed (served g s body).answer ≡ true
   unfolding served
-  served-formed =
-      split (eqb (first_of (servedLines g s body)) done)
+  served_formed =
+      split (eqb (first_of (served_lines g s body)) done)
       (λ none. rw none (all.answer (eqb-true _ _ none)).formed)
-      (λ some. rw some (alone-formed (first_of (servedLines g s body)) (first-known (servedLines g s body) all.known)))
+      (λ some. rw some (alone_formed (first_of (served_lines g s body)) (first_known (served_lines g s body) all.known)))
 
   -- ---- what is left as it was
 
-  pub served-same : change ≡ nothing → (served g s body).gate ≡ g
-  served-same e = served-gate (λ (q : Gate). q ≡ g) refl (λ accepted. ap (λ (c : Change). changed c g s body) e)
+  pub served_same : change ≡ nothing → (served g s body).gate ≡ g
+  served_same e = served_gate (λ (q : Gate). q ≡ g) refl (λ accepted. ap (λ (c : Change). changed c g s body) e)
 
-  memory_kept : (c : Change) → leavesMemory c ≡ true → (changed c g s body).memory ≡ g.memory
+  memory_kept : (c : Change) → leaves_memory c ≡ true → (changed c g s body).memory ≡ g.memory
   memory_kept nothing leaves = refl
   memory_kept store leaves = neither leaves
-  memory_kept maskedStore leaves = neither leaves
-  memory_kept scopeSetUp leaves = refl
-  memory_kept recorderPrepareAndStart leaves = refl
-  memory_kept recorderStart leaves = refl
-  memory_kept recorderStop leaves = refl
-  memory_kept commandSent leaves = refl
+  memory_kept masked_store leaves = neither leaves
+  memory_kept scope_set_up leaves = refl
+  memory_kept recorder_prepare_and_start leaves = refl
+  memory_kept recorder_start leaves = refl
+  memory_kept recorder_stop leaves = refl
+  memory_kept command_sent leaves = refl
 
-  pub served-memory-kept : leavesMemory change ≡ true → (served g s body).gate.memory ≡ g.memory
-  served-memory-kept leaves = served-gate (λ (q : Gate). q.memory ≡ g.memory) refl (λ accepted. memory_kept change leaves)
+  pub served_memory_kept : leaves_memory change ≡ true → (served g s body).gate.memory ≡ g.memory
+  served_memory_kept leaves = served_gate (λ (q : Gate). q.memory ≡ g.memory) refl (λ accepted. memory_kept change leaves)
 
   -- ---- what holds of the memory, and of it with a permitted range stored, holds of the memory that is left
 
   module _ (P : List ℕ → Type 0) (same : P g.memory)
-      (plain : mayBeWritten g (addressField s body) (sizeField s body) ≡ true → P (stored g.memory (addressField s body) (dataField s body)))
-      (masked : mayBeWritten g (addressField s body) (sizeField s body) ≡ true → P (maskStored g.memory (addressField s body) (dataField s body) (maskField s body))) where
-    pub memory-changed : (c : Change) → Accepted c g s body → P (changed c g s body).memory
-    memory-changed nothing accepted = same
-    memory-changed store accepted = plain accepted
-    memory-changed maskedStore accepted = masked accepted
-    memory-changed scopeSetUp accepted = same
-    memory-changed recorderPrepareAndStart accepted = same
-    memory-changed recorderStart accepted = same
-    memory-changed recorderStop accepted = same
-    memory-changed commandSent accepted = same
+      (plain : may_be_written g (address_field s body) (size_field s body) ≡ true → P (stored g.memory (address_field s body) (data_field s body)))
+      (masked : may_be_written g (address_field s body) (size_field s body) ≡ true → P (mask_stored g.memory (address_field s body) (data_field s body) (mask_field s body))) where
+    pub memory_changed : (c : Change) → Accepted c g s body → P (changed c g s body).memory
+    memory_changed nothing accepted = same
+    memory_changed store accepted = plain accepted
+    memory_changed masked_store accepted = masked accepted
+    memory_changed scope_set_up accepted = same
+    memory_changed recorder_prepare_and_start accepted = same
+    memory_changed recorder_start accepted = same
+    memory_changed recorder_stop accepted = same
+    memory_changed command_sent accepted = same
 
-    pub served-memory : P (served g s body).gate.memory
-    served-memory = served-gate (λ (q : Gate). P q.memory) same (memory-changed change)
+    pub served_memory : P (served g s body).gate.memory
+    served_memory = served_gate (λ (q : Gate). P q.memory) same (memory_changed change)

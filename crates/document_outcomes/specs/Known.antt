@@ -2,5 +2,5 @@
 use Rattle.document.specs.declared.Operation.{Operation}
 use Rattle.document.specs.declared.Service.{Service}
 
-abbrev pub knownAs : Operation → Service → Service
-knownAs operation s = record { operation = operation; ex = s.ex; size = s.size }
+abbrev pub known_as : Operation → Service → Service
+known_as operation s = record { operation = operation; ex = s.ex; size = s.size }

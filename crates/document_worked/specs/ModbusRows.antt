@@ -4,14 +4,14 @@ use Rattle.std.specs.Prelude.{List, [], ◌∷◌, ◌++◌, map, ℕ, replicate
 use Prim.Native.String.{String}
 use Rattle.document.specs.Hex.{hex}
 use Rattle.document.specs.Areas.{bytes_at}
-use Rattle.document.specs.Modbus.{modbusAnswer, modbusMemory, modbusRefusal}
+use Rattle.document.specs.Modbus.{modbus_answer, modbus_memory, modbus_refusal}
 use Rattle.document.specs.Rows.{zeros}
 use Rattle.document.specs.CallRows.{Line, line, lent}
 use Rattle.document.specs.ModbusRows.{summed, four, answers, leaves, silent, excepts}
 
 -- the check sum: known values
-unfoldable pub checkSumRows : List Line
-checkSumRows =
+unfoldable pub check_sum_rows : List Line
+check_sum_rows =
     -- the nine characters "123456789" give 0x4B37
     summed "313233343536373839" "313233343536373839 374B"
     ∷ summed "11 03 006B 0003" "11 03 006B 0003 7687"
@@ -19,8 +19,8 @@ checkSumRows =
     ∷ []
 
 -- "A frame below 4 or above 256 bytes, a wrong check sum, another station, a broadcast or a function byte above 127"
-unfoldable pub silenceRows : List Line
-silenceRows =
+unfoldable pub silence_rows : List Line
+silence_rows =
     excepts (hex "11 03 4DE1") "11 83 03 00F4"
     ∷ silent (hex "11 06 0001 0003 9B9A")
     ∷ silent (hex "12 03 0000 0001 86A9")
@@ -30,20 +30,20 @@ silenceRows =
     ∷ []
 
 -- the longest: of 256 bytes, and of 255
-unfoldable pub longRows : List Line
-longRows =
-    line (modbusAnswer 0x11 (hex "11 03" ++ replicate 252 0 ++ hex "1CCE") four) (hex "11 83 03 00F4")
+unfoldable pub long_rows : List Line
+long_rows =
+    line (modbus_answer 0x11 (hex "11 03" ++ replicate 252 0 ++ hex "1CCE") four) (hex "11 83 03 00F4")
     -- the most registers that are read and written at once: 125 in an answer of 255 bytes, 123 in a frame of 255
-    ∷ line (modbusAnswer 0x11 (hex "11 03 0000 007D 877B") (replicate 252 0x55)) (hex "11 03 FA" ++ replicate 250 0x55 ++ hex "15D6")
-    ∷ line (modbusAnswer 0x11 many (replicate 248 0) ++ modbusMemory 0x11 many (replicate 248 0)) (hex "11 10 0000 007B 82BA" ++ replicate 246 0x55 ++ hex "0000")
+    ∷ line (modbus_answer 0x11 (hex "11 03 0000 007D 877B") (replicate 252 0x55)) (hex "11 03 FA" ++ replicate 250 0x55 ++ hex "15D6")
+    ∷ line (modbus_answer 0x11 many (replicate 248 0) ++ modbus_memory 0x11 many (replicate 248 0)) (hex "11 10 0000 007B 82BA" ++ replicate 246 0x55 ++ hex "0000")
     ∷ []
   where
     many : List ℕ
     many = hex "11 10 0000 007B F6" ++ replicate 246 0x55 ++ hex "D431"
 
 -- "Serve functions 3, 6, 16 and 22"
-unfoldable pub functionRows : List Line
-functionRows =
+unfoldable pub function_rows : List Line
+function_rows =
     answers "11 03 0000 0001 869A" "11 03 02 0201 B927"
     ∷ leaves "11 03 0001 0003 569B" "0102 0304 1200 FEFF"
     ∷ answers "11 10 0001 0002 04 ABCD 5678 E8FA" "11 10 0001 0002 1298"
@@ -57,8 +57,8 @@ functionRows =
 
 -- ---- "exception 1 for another function, then 3 .., then 2 for an address"
 
-unfoldable pub exceptionRows : List Line
-exceptionRows =
+unfoldable pub exception_rows : List Line
+exception_rows =
     -- 1, whatever follows
     excepts (hex "11 00 0000 0001 C29A") "11 80 01 81C5"
     ∷ excepts (hex "11 01 0000 0001 FF5A") "11 81 01 8055"
@@ -102,14 +102,14 @@ exceptionRows =
 
 -- what the last four variables are then, and the first byte behind them
 abbrev lasts : String → String → Line
-lasts frame last = line (bytes_at (modbusMemory 0x11 (hex frame) (replicate 8193 0)) 8188 5) (hex last)
+lasts frame last = line (bytes_at (modbus_memory 0x11 (hex frame) (replicate 8193 0)) 8188 5) (hex last)
 
 -- the same where the memory ends, and where its variables do
-unfoldable pub endRows : List Line
-endRows =
-    line (modbusAnswer 0x11 (hex "11 03 1FFF 0001 B17E") zeros) (hex "11 03 02 0000 7987")
+unfoldable pub end_rows : List Line
+end_rows =
+    line (modbus_answer 0x11 (hex "11 03 1FFF 0001 B17E") zeros) (hex "11 03 02 0000 7987")
     -- a read from the variables on into the calibration area
-    ∷ line (modbusAnswer 0x11 (hex "11 03 0FFF 0002 F5BF") (replicate 8190 0 ++ hex "A1A2 B1B2")) (hex "11 03 04 A2A1 B2B1 2D7C")
+    ∷ line (modbus_answer 0x11 (hex "11 03 0FFF 0002 F5BF") (replicate 8190 0 ++ hex "A1A2 B1B2")) (hex "11 03 04 A2A1 B2B1 2D7C")
     ∷ lasts "11 06 0FFF 0102 382F" "0000 0201 00"
     ∷ lasts "11 10 0FFE 0002 04 0102 0304 C958" "0201 0403 00"
     ∷ lasts "11 10 0FFF 0002 04 0102 0304 0894" "0000 0000 00"
@@ -118,9 +118,9 @@ endRows =
 
 -- ---- the call: "3 for an output below 256 bytes, 9 for an own station outside 1 to 247"; "Lowest number first"
 
-unfoldable pub modbusCallRows : List Line
-modbusCallRows =
-    line (map (λ (s : ℕ). modbusRefusal s (lent 16384) (lent 256)) (0 ∷ 1 ∷ 17 ∷ 247 ∷ 248 ∷ 255 ∷ 257 ∷ [])) (hex "09 00 00 00 09 09 09")
-    ∷ line (modbusRefusal 1 (lent 16384) (lent 255) ∷ modbusRefusal 1 (lent 16383) (lent 256) ∷ modbusRefusal 1 (lent 16385) (lent 256) ∷ []) (hex "03 02 02")
-    ∷ line (modbusRefusal 0 [] [] ∷ modbusRefusal 0 (lent 16384) [] ∷ []) (hex "02 03")
+unfoldable pub modbus_call_rows : List Line
+modbus_call_rows =
+    line (map (λ (s : ℕ). modbus_refusal s (lent 16384) (lent 256)) (0 ∷ 1 ∷ 17 ∷ 247 ∷ 248 ∷ 255 ∷ 257 ∷ [])) (hex "09 00 00 00 09 09 09")
+    ∷ line (modbus_refusal 1 (lent 16384) (lent 255) ∷ modbus_refusal 1 (lent 16383) (lent 256) ∷ modbus_refusal 1 (lent 16385) (lent 256) ∷ []) (hex "03 02 02")
+    ∷ line (modbus_refusal 0 [] [] ∷ modbus_refusal 0 (lent 16384) [] ∷ []) (hex "02 03")
     ∷ []

@@ -14,8 +14,8 @@ wide = types ++ replicate 12300 2
 abbrev pub named : List ℕ
 named = replicate 16 1 ++ hex "636F696C 00" ++ replicate 11 1 ++ hex "E1 00" ++ replicate 8158 1 ++ entry "2000" "0B00" ++ replicate 8182 1 ++ hex "00 41"
 
-unfoldable pub nameRows : List Row
-nameRows =
+unfoldable pub name_rows : List Row
+name_rows =
     -- the steps of source document 000: the table, its entry, the name's length, the name
     (asks "01 03 08 0020" "00 1000 2000 1200 0B00" ∷ asks "D4 1000" "00 0400" ∷ asks "01 03 04 1000" "00 636F696C" ∷ [])
     -- an empty string, and parts of one, with addresses of 2 bytes and of 4

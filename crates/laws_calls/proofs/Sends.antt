@@ -6,41 +6,41 @@ use native.Mathlib.Omega.{arith}
 use borrow.Author.Tests.{ne_eqb}
 use lib.ListN.{length}
 use lib.Seq.{sets}
-use Rattle.document.specs.Application.{newCommand}
-use Rattle.document.specs.Frames.{isSilenced}
-use Rattle.document.specs.Modbus.{functionIn, exceptionTo, answerTo, modbusAnswer, modbusRoom}
+use Rattle.document.specs.Application.{new_command}
+use Rattle.document.specs.Frames.{is_silenced}
+use Rattle.document.specs.Modbus.{function_in, exception_to, answer_to, modbus_answer, modbus_room}
 use Rattle.document.proofs.Cases.{split}
-use Rattle.line_wire.proofs.Left.{sets-front}
+use Rattle.line_wire.proofs.Left.{sets_front}
 use Rattle.state_block.specs.Layout.{decoded}
-use Rattle.call_modbus.proofs.Sealed.{sealed-length}
-use Rattle.call_modbus.proofs.Responses.{answer-short}
-use Rattle.laws_happenings.specs.Asides.{ifAny, waitingIn}
-use Rattle.laws_calls.specs.Calls.{Call, Lent, handedOut, commandIn, leaves, sends}
+use Rattle.call_modbus.proofs.Sealed.{sealed_length}
+use Rattle.call_modbus.proofs.Responses.{answer_short}
+use Rattle.laws_happenings.specs.Asides.{if_any, waiting_in}
+use Rattle.laws_calls.specs.Calls.{Call, Lent, handed_out, command_in, leaves, sends}
 
 -- what fits stands at the front of the buffer
-front-handed : (new buffer : List ℕ) → length new ≤ length buffer → handedOut (length new) (sets buffer 0 new) ≡ ifAny new
-front-handed [] buffer fits = refl
-front-handed (code ∷ arguments) buffer fits =
-    rw (ne_eqb (suc (length arguments)) 0 (λ e. omega (arith, e))) (ap (λ (l : List ℕ). l ∷ []) (sets-front (code ∷ arguments) buffer fits))
+front_handed : (new buffer : List ℕ) → length new ≤ length buffer → handed_out (length new) (sets buffer 0 new) ≡ if_any new
+front_handed [] buffer fits = refl
+front_handed (code ∷ arguments) buffer fits =
+    rw (ne_eqb (suc (length arguments)) 0 (λ e. omega (arith, e))) (ap (λ (l : List ℕ). l ∷ []) (sets_front (code ∷ arguments) buffer fits))
 
 -- an answer of the second port has room in the 256 bytes that its call asks for
-pub modbus-fits : (station : ℕ) (bytes memory : List ℕ) → length (modbusAnswer station bytes memory) ≤ modbusRoom
-unfolding modbusAnswer
-modbus-fits station bytes memory =
-    let answer : List ℕ = station ∷ answerTo (exceptionTo (functionIn bytes) bytes memory) bytes memory in
-    split (isSilenced station bytes) (λ quiet. rw quiet (omega arith))
-    (λ loud. rw loud (omega (arith, answer-short bytes memory, sealed-length answer)))
+pub modbus_fits : (station : ℕ) (bytes memory : List ℕ) → length (modbus_answer station bytes memory) ≤ modbus_room
+unfolding modbus_answer
+modbus_fits station bytes memory =
+    let answer : List ℕ = station ∷ answer_to (exception_to (function_in bytes) bytes memory) bytes memory in
+    split (is_silenced station bytes) (λ quiet. rw quiet (omega arith))
+    (λ loud. rw loud (omega (arith, answer_short bytes memory, sealed_length answer)))
 
 module _ (l : Lent) where
-  pub collect-sends : length (newCommand (commandIn (decoded l.block))) ≤ length l.buffer
-      → sends Call.collect (leaves Call.collect l) ≡ record { answers = []; commands = waitingIn (commandIn (decoded l.block)); modbus-answers = [] }
-  collect-sends fits =
-      ap (λ (new : List (List ℕ)). record { answers = []; commands = new; modbus-answers = [] })
-      (front-handed (newCommand (commandIn (decoded l.block))) l.buffer fits)
+  pub collect_sends : length (new_command (command_in (decoded l.block))) ≤ length l.buffer
+      → sends Call.collect (leaves Call.collect l) ≡ record { answers = []; commands = waiting_in (command_in (decoded l.block)); modbus_answers = [] }
+  collect_sends fits =
+      ap (λ (new : List (List ℕ)). record { answers = []; commands = new; modbus_answers = [] })
+      (front_handed (new_command (command_in (decoded l.block))) l.buffer fits)
 
-  pub frame-sends : (station : ℕ) (bytes : List ℕ) → modbusRoom ≤ length l.buffer
+  pub frame_sends : (station : ℕ) (bytes : List ℕ) → modbus_room ≤ length l.buffer
       → sends (Call.frame station bytes) (leaves (Call.frame station bytes) l)
-      ≡ record { answers = []; commands = []; modbus-answers = ifAny (modbusAnswer station bytes l.memory) }
-  frame-sends station bytes room =
-      ap (λ (new : List (List ℕ)). record { answers = []; commands = []; modbus-answers = new })
-      (front-handed (modbusAnswer station bytes l.memory) l.buffer (omega (arith, modbus-fits station bytes l.memory, room)))
+      ≡ record { answers = []; commands = []; modbus_answers = if_any (modbus_answer station bytes l.memory) }
+  frame_sends station bytes room =
+      ap (λ (new : List (List ℕ)). record { answers = []; commands = []; modbus_answers = new })
+      (front_handed (modbus_answer station bytes l.memory) l.buffer (omega (arith, modbus_fits station bytes l.memory, room)))

@@ -6,17 +6,17 @@ use Prim.Native.Nat.{ℕ}
 use borrow.Author.Tests.{eqb-true, eq-eqb, ne_eqb}
 use lib.Dec.{eqb, leb}
 use lib.ListN.{length}
-use Rattle.document.specs.Numbers.{taken, stateRefused}
+use Rattle.document.specs.Numbers.{taken, state_refused}
 use Rattle.document.proofs.Cases.{split}
 use Rattle.line_wire.specs.declared.Written.{Written}
 use Rattle.call_application.specs.declared.Collected.{Collected}
-use Rattle.state_block.specs.Places.{stateLength}
+use Rattle.state_block.specs.Places.{state_length}
 use Rattle.call_panel.specs.declared.Said.{Said}
 use Rattle.call_byte.specs.declared.Taken.{Taken}
 use Rattle.call_block.specs.declared.BlockTaken.{BlockTaken}
 use Rattle.laws_calls.specs.Calls.{Call, Lent, Left, Outcome, number_of, leaves, kept, outcome, CallRefused}
 use Rattle.laws_calls.specs.Promised.{Promised}
-use Rattle.laws_calls.specs.Promised.Promised.{by_byte, by-block, by-tick, by-collect, by-report, by-prepare, by-start, by-modbus, by_register, by-reset}
+use Rattle.laws_calls.specs.Promised.Promised.{by_byte, by_block, by_tick, by_collect, by_report, by_prepare, by_start, by_modbus, by_register, by_reset}
 
 -- ---- by a test
 
@@ -31,7 +31,7 @@ unlent true x = refl
 unlent false x = refl
 
 -- a test and the number by which it is told
-decided : {A : Type 0} (t : Bool) (x y : A) → cond t x y ≡ cond (eqb (cond t taken stateRefused) taken) x y
+decided : {A : Type 0} (t : Bool) (x y : A) → cond t x y ≡ cond (eqb (cond t taken state_refused) taken) x y
 decided true x y = refl
 decided false x y = refl
 
@@ -64,44 +64,44 @@ module _ (l : Lent) where
   pub settled : (c : Call) (o : Outcome) → Promised l c o → o ≡ outcome c l
   settled c o (by_byte b r after left told p) =
       done c r.refusal o.left (number_in c (λ (x : Taken). x.refusal) r _ _ refl refl p.result)
-      (part (λ (x : Taken). x.length ∷ []) (fine c) r _ _ p.result) p.state p.memory-left p.buffer-told
-  settled c o (by-block bytes r after left told p) =
+      (part (λ (x : Taken). x.length ∷ []) (fine c) r _ _ p.result) p.state p.memory_left p.buffer_told
+  settled c o (by_block bytes r after left told p) =
       done c r.refusal o.left (number_in c (λ (x : BlockTaken). x.refusal) r _ _ refl refl p.result)
-      (part (λ (x : BlockTaken). x.taken ∷ x.written ∷ []) (fine c) r _ _ p.result) p.state p.memory-left p.buffer-told
-  settled c o (by-tick r after left p) = done c r o.left p.result (unlent (fine c) []) p.state p.memory-left (unlent (fine c) l.buffer)
-  settled c o (by-collect r after told p) =
+      (part (λ (x : BlockTaken). x.taken ∷ x.written ∷ []) (fine c) r _ _ p.result) p.state p.memory_left p.buffer_told
+  settled c o (by_tick r after left p) = done c r o.left p.result (unlent (fine c) []) p.state p.memory_left (unlent (fine c) l.buffer)
+  settled c o (by_collect r after told p) =
       done c r.refusal o.left (number_in c (λ (x : Collected). x.refusal) r _ _ refl refl p.result)
-      (part (λ (x : Collected). x.length ∷ []) (fine c) r _ _ p.result) p.state (unlent (fine c) l.memory) p.buffer-told
-  settled c o (by-report result r after p) =
+      (part (λ (x : Collected). x.length ∷ []) (fine c) r _ _ p.result) p.state (unlent (fine c) l.memory) p.buffer_told
+  settled c o (by_report result r after p) =
       done c r o.left p.number (unlent (fine c) []) p.state (unlent (fine c) l.memory) (unlent (fine c) l.buffer)
-  settled c o (by-prepare setup r after p) =
+  settled c o (by_prepare setup r after p) =
       done c r.refusal o.left (number_in c (λ (x : Said). x.refusal) r _ _ refl refl (p.result []))
       (part (λ (x : Said). x.status ∷ []) (fine c) r _ _ (p.result [])) p.state (unlent (fine c) l.memory) (unlent (fine c) l.buffer)
-  settled c o (by-start r after p) =
+  settled c o (by_start r after p) =
       done c r.refusal o.left (number_in c (λ (x : Said). x.refusal) r _ _ refl refl (p.result []))
       (part (λ (x : Said). x.status ∷ []) (fine c) r _ _ (p.result [])) p.state (unlent (fine c) l.memory) (unlent (fine c) l.buffer)
-  settled c o (by-modbus station bytes r left told p) =
+  settled c o (by_modbus station bytes r left told p) =
       done c r.refusal o.left (number_in c (λ (x : Written). x.refusal) r _ _ refl refl p.result)
-      (part (λ (x : Written). x.length ∷ []) (fine c) r _ _ p.result) (unlent (fine c) l.block) p.memory-left p.buffer-told
+      (part (λ (x : Written). x.length ∷ []) (fine c) r _ _ p.result) (unlent (fine c) l.block) p.memory_left p.buffer_told
   settled c o (by_register list r after p) =
       done c r o.left p.number (unlent (fine c) []) p.state (unlent (fine c) l.memory) (unlent (fine c) l.buffer)
-  settled c o (by-reset r after p) =
-      done c r o.left p.result (unlent (fine c) []) (p.state ∙ decided (leb stateLength (length l.block)) _ _) (unlent (fine c) l.memory) (unlent (fine c) l.buffer)
+  settled c o (by_reset r after p) =
+      done c r o.left p.result (unlent (fine c) []) (p.state ∙ decided (leb state_length (length l.block)) _ _) (unlent (fine c) l.memory) (unlent (fine c) l.buffer)
 
   -- ---- what follows, of every call
 
   -- "show that two outcomes allowed by one promise are equal": the result and every lent byte
-  pub one-outcome : (c : Call) (o k : Outcome) → Promised l c o → Promised l c k → o ≡ k
-  one-outcome c o k p q = settled c o p ∙ sym (settled c k q)
+  pub one_outcome : (c : Call) (o k : Outcome) → Promised l c o → Promised l c k → o ≡ k
+  one_outcome c o k p q = settled c o p ∙ sym (settled c k q)
 
-  pub taken-leaves : (c : Call) (o : Outcome) → Promised l c o → o.number ≡ taken → o.left ≡ leaves c l
-  taken-leaves c o p right =
+  pub taken_leaves : (c : Call) (o : Outcome) → Promised l c o → o.number ≡ taken → o.left ≡ leaves c l
+  taken_leaves c o p right =
       let same = settled c o p in
       let number : number_of c l ≡ taken = sym (ap (λ (x : Outcome). x.number) same) ∙ right in
       ap (λ (x : Outcome). x.left) same ∙ ap (λ (t : Bool). cond t (leaves c l) (kept c l)) (eq-eqb (number_of c l) taken number)
 
-  pub call-refused : (c : Call) (o : Outcome) → Promised l c o → CallRefused c l o
-  call-refused c o p =
+  pub call_refused : (c : Call) (o : Outcome) → Promised l c o → CallRefused c l o
+  call_refused c o p =
       let same = settled c o p in
       let number = ap (λ (x : Outcome). x.number) same in
       record {

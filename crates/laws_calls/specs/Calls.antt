@@ -2,28 +2,28 @@
 -- goes out with it, and what it asks for. All that is said of a call in a run is read off its row.
 use Rattle.std.specs.Prelude.{◌≡◌, Bool, true, false, cond, ◌&&◌, List, [], ◌∷◌, ℕ, eqb, leb, length, take, get_or}
 use Rattle.std.proofs.lemmas.List.Edits.{sets}
-use Rattle.document.specs.Numbers.{answerRoom, mostData, notServed, taken, stateRefused}
-use Rattle.document.specs.Recorder.{tickedMemory}
-use Rattle.document.specs.Application.{Application, newCommand, collectBuffer, isCollected}
-use Rattle.document.specs.Tables.{registerRefusal}
-use Rattle.document.specs.Panel.{panelPrepares, panelStarts}
-use Rattle.document.specs.Frames.{isStation}
-use Rattle.document.specs.Modbus.{modbusAnswer, modbusMemory, modbusRoom, modbusRefusal, modbusBuffer}
+use Rattle.document.specs.Numbers.{answer_room, most_data, not_served, taken, state_refused}
+use Rattle.document.specs.Recorder.{ticked_memory}
+use Rattle.document.specs.Application.{Application, new_command, collect_buffer, is_collected}
+use Rattle.document.specs.Tables.{register_refusal}
+use Rattle.document.specs.Panel.{panel_prepares, panel_starts}
+use Rattle.document.specs.Frames.{is_station}
+use Rattle.document.specs.Modbus.{modbus_answer, modbus_memory, modbus_room, modbus_refusal, modbus_buffer}
 use Rattle.document.specs.Gate.{Gate}
-use Rattle.recorder_state.specs.State.{recorderOf}
-use Rattle.application_state.specs.State.{applicationOf}
-use Rattle.tables_state.specs.State.{registeredList}
-use Rattle.state_parts.specs.State.{Target, gateOf}
-use Rattle.state_parts.specs.Bounds.{freshWith, fresh}
-use Rattle.state_block.specs.Places.{stateLength}
+use Rattle.recorder_state.specs.State.{recorder_of}
+use Rattle.application_state.specs.State.{application_of}
+use Rattle.tables_state.specs.State.{registered_list}
+use Rattle.state_parts.specs.State.{Target, gate_of}
+use Rattle.state_parts.specs.Bounds.{fresh_with, fresh}
+use Rattle.state_block.specs.Places.{state_length}
 use Rattle.state_block.specs.Layout.{decoded, encoded}
-use Rattle.call_checks.specs.Promises.{byteNumber, tickNumber, collectNumber, reportNumber, panelNumber}
+use Rattle.call_checks.specs.Promises.{byte_number, tick_number, collect_number, report_number, panel_number}
 use Rattle.state_byte.specs.Turn.{Turn, turn}
 use Rattle.state_byte.specs.Walk.{Walk, begun, walked}
-use Rattle.call_tick.specs.Promises.{tickedTarget}
-use Rattle.call_application.specs.Promises.{collectedTarget, reportedTarget}
-use Rattle.call_register.specs.Promises.{registerNumber}
-use Rattle.call_panel.specs.Promises.{preparedTarget, startedTarget}
+use Rattle.call_tick.specs.Promises.{ticked_target}
+use Rattle.call_application.specs.Promises.{collected_target, reported_target}
+use Rattle.call_register.specs.Promises.{register_number}
+use Rattle.call_panel.specs.Promises.{prepared_target, started_target}
 
 pub data Call : Type 0 where
   byte : ℕ → Call
@@ -61,29 +61,29 @@ pub record Left : Type 0 where
 pub record Sent : Type 0 where
   pub answers : List ℕ
   pub commands : List (List ℕ)
-  pub modbus-answers : List (List ℕ)
+  pub modbus_answers : List (List ℕ)
 
-abbrev pub nothingSent : Sent
-nothingSent = record { answers = []; commands = []; modbus-answers = [] }
+abbrev pub nothing_sent : Sent
+nothing_sent = record { answers = []; commands = []; modbus_answers = [] }
 
 -- a command, and an answer of the second port, is the first bytes of the lent buffer, as many as the call says; a length of 0 is none
-abbrev pub handedOut : ℕ → List ℕ → List (List ℕ)
-handedOut n told = cond (eqb n 0) [] (take n told ∷ [])
+abbrev pub handed_out : ℕ → List ℕ → List (List ℕ)
+handed_out n told = cond (eqb n 0) [] (take n told ∷ [])
 
 -- an answer is the first bytes of the lent buffer, as many as the call says
 abbrev pub answered : ℕ → List ℕ → Sent
-answered n told = record { answers = take n told; commands = []; modbus-answers = [] }
+answered n told = record { answers = take n told; commands = []; modbus_answers = [] }
 
 -- the length that a call says
 abbrev pub length_of : Left → ℕ
 length_of x = get_or x.said 0 0
 
 -- how many bytes a block says that it took, and wrote
-abbrev pub tookOf : Left → ℕ
-tookOf x = get_or x.said 0 0
+abbrev pub took_of : Left → ℕ
+took_of x = get_or x.said 0 0
 
-abbrev pub wroteOf : Left → ℕ
-wroteOf x = get_or x.said 1 0
+abbrev pub wrote_of : Left → ℕ
+wrote_of x = get_or x.said 1 0
 
 -- ---- what is looked at, and what is done
 
@@ -107,21 +107,21 @@ storing f t said = record { said = said; state = t; memory = f.memory; buffer = 
 abbrev pub turned : Turn → Done
 turned u = record { said = u.length ∷ []; state = u.next; memory = u.memory; buffer = u.buffer }
 
-abbrev pub walkedOver : Walk → Done
-walkedOver w = record { said = w.taken ∷ w.written ∷ []; state = w.next; memory = w.memory; buffer = w.buffer }
+abbrev pub walked_over : Walk → Done
+walked_over w = record { said = w.taken ∷ w.written ∷ []; state = w.next; memory = w.memory; buffer = w.buffer }
 
-abbrev pub commandIn : Target → Application
-commandIn t = applicationOf t.instruments.application
+abbrev pub command_in : Target → Application
+command_in t = application_of t.instruments.application
 
-abbrev pub gateFound : Found → Gate
-gateFound f = gateOf f.state.instruments f.memory
+abbrev pub gate_found : Found → Gate
+gate_found f = gate_of f.state.instruments f.memory
 
 -- ---- the rows
 
 pub record Row : Type 0 where
   -- whether it is lent the block, and the memory
-  pub on-block : Bool
-  pub on-memory : Bool
+  pub on_block : Bool
+  pub on_memory : Bool
   -- what it brings, of which all are bytes
   pub brings : List ℕ
   -- the number that refuses it, or 0
@@ -137,7 +137,7 @@ pub record Row : Type 0 where
   pub due : Target → List ℕ → Bool
 
 abbrev silent : List ℕ → List ℕ → Sent
-silent said told = nothingSent
+silent said told = nothing_sent
 
 abbrev always : Target → List ℕ → Bool
 always t memory = true
@@ -145,39 +145,39 @@ always t memory = true
 abbrev pub row : Call → Row
 row (byte b) =
     record {
-      on-block = true;
-      on-memory = true;
+      on_block = true;
+      on_memory = true;
       brings = b ∷ [];
-      number = λ l. byteNumber l.block l.memory l.buffer;
+      number = λ l. byte_number l.block l.memory l.buffer;
       does = λ f. turned (turn f.state b f.memory f.buffer);
       denied = 0 ∷ [];
       sends = λ said told. answered (get_or said 0 0) told;
-      room = answerRoom;
+      room = answer_room;
       due = always;
     }
 row (receive bytes) =
     record {
-      on-block = true;
-      on-memory = true;
+      on_block = true;
+      on_memory = true;
       brings = bytes;
-      number = λ l. byteNumber l.block l.memory l.buffer;
-      does = λ f. walkedOver (walked (begun f.state f.memory f.buffer) bytes);
+      number = λ l. byte_number l.block l.memory l.buffer;
+      does = λ f. walked_over (walked (begun f.state f.memory f.buffer) bytes);
       denied = 0 ∷ 0 ∷ [];
       sends = λ said told. answered (get_or said 1 0) told;
-      room = answerRoom;
+      room = answer_room;
       due = always;
     }
 row tick =
     record {
-      on-block = true;
-      on-memory = true;
+      on_block = true;
+      on_memory = true;
       brings = [];
-      number = λ l. tickNumber l.block l.memory;
+      number = λ l. tick_number l.block l.memory;
       does = λ f.
           record {
             said = [];
-            state = tickedTarget f.state f.memory;
-            memory = tickedMemory (recorderOf f.state.instruments.recorder) f.memory;
+            state = ticked_target f.state f.memory;
+            memory = ticked_memory (recorder_of f.state.instruments.recorder) f.memory;
             buffer = f.buffer;
           };
       denied = [];
@@ -187,95 +187,95 @@ row tick =
     }
 row collect =
     record {
-      on-block = true;
-      on-memory = false;
+      on_block = true;
+      on_memory = false;
       brings = [];
-      number = λ l. collectNumber l.block l.buffer;
+      number = λ l. collect_number l.block l.buffer;
       does = λ f.
           record {
-            said = length (newCommand (commandIn f.state)) ∷ [];
-            state = collectedTarget f.state;
+            said = length (new_command (command_in f.state)) ∷ [];
+            state = collected_target f.state;
             memory = f.memory;
-            buffer = collectBuffer (commandIn f.state) f.buffer;
+            buffer = collect_buffer (command_in f.state) f.buffer;
           };
       denied = 0 ∷ [];
-      sends = λ said told. record { answers = []; commands = handedOut (get_or said 0 0) told; modbus-answers = [] };
-      room = mostData;
+      sends = λ said told. record { answers = []; commands = handed_out (get_or said 0 0) told; modbus_answers = [] };
+      room = most_data;
       due = always;
     }
 row (report result) =
     record {
-      on-block = true;
-      on-memory = false;
+      on_block = true;
+      on_memory = false;
       brings = result ∷ [];
-      number = λ l. reportNumber l.block result;
-      does = λ f. storing f (reportedTarget result f.state) [];
+      number = λ l. report_number l.block result;
+      does = λ f. storing f (reported_target result f.state) [];
       denied = [];
       sends = silent;
       room = 0;
       -- a report waits for its command
-      due = λ t memory. leb result 0xFD && isCollected (commandIn t);
+      due = λ t memory. leb result 0xFD && is_collected (command_in t);
     }
 row (prepare setup) =
     record {
-      on-block = true;
-      on-memory = false;
+      on_block = true;
+      on_memory = false;
       brings = setup;
-      number = λ l. panelNumber l.block;
-      does = λ f. storing f (preparedTarget setup f.state) ((panelPrepares (gateFound f) setup).answer.status ∷ []);
-      denied = notServed ∷ [];
+      number = λ l. panel_number l.block;
+      does = λ f. storing f (prepared_target setup f.state) ((panel_prepares (gate_found f) setup).answer.status ∷ []);
+      denied = not_served ∷ [];
       sends = silent;
       room = 0;
       due = always;
     }
 row start =
     record {
-      on-block = true;
-      on-memory = false;
+      on_block = true;
+      on_memory = false;
       brings = [];
-      number = λ l. panelNumber l.block;
-      does = λ f. storing f (startedTarget f.state) ((panelStarts (gateFound f)).answer.status ∷ []);
-      denied = notServed ∷ [];
+      number = λ l. panel_number l.block;
+      does = λ f. storing f (started_target f.state) ((panel_starts (gate_found f)).answer.status ∷ []);
+      denied = not_served ∷ [];
       sends = silent;
       room = 0;
       due = always;
     }
 row (frame station bytes) =
     record {
-      on-block = false;
-      on-memory = true;
+      on_block = false;
+      on_memory = true;
       brings = bytes;
-      number = λ l. modbusRefusal station l.memory l.buffer;
+      number = λ l. modbus_refusal station l.memory l.buffer;
       does = λ f.
           record {
-            said = length (modbusAnswer station bytes f.memory) ∷ [];
+            said = length (modbus_answer station bytes f.memory) ∷ [];
             state = f.state;
-            memory = modbusMemory station bytes f.memory;
-            buffer = modbusBuffer station bytes f.memory f.buffer;
+            memory = modbus_memory station bytes f.memory;
+            buffer = modbus_buffer station bytes f.memory f.buffer;
           };
       denied = 0 ∷ [];
-      sends = λ said told. record { answers = []; commands = []; modbus-answers = handedOut (get_or said 0 0) told };
-      room = modbusRoom;
-      due = λ t memory. isStation station;
+      sends = λ said told. record { answers = []; commands = []; modbus_answers = handed_out (get_or said 0 0) told };
+      room = modbus_room;
+      due = λ t memory. is_station station;
     }
 row (register list) =
     record {
-      on-block = true;
-      on-memory = true;
+      on_block = true;
+      on_memory = true;
       brings = list;
-      number = λ l. registerNumber l.block l.memory list;
-      does = λ f. storing f (freshWith (registeredList list)) [];
+      number = λ l. register_number l.block l.memory list;
+      does = λ f. storing f (fresh_with (registered_list list)) [];
       denied = [];
       sends = silent;
       room = 0;
-      due = λ t memory. eqb (registerRefusal memory list) taken;
+      due = λ t memory. eqb (register_refusal memory list) taken;
     }
 row reset =
     record {
-      on-block = true;
-      on-memory = false;
+      on_block = true;
+      on_memory = false;
       brings = [];
-      number = λ l. cond (leb stateLength (length l.block)) taken stateRefused;
+      number = λ l. cond (leb state_length (length l.block)) taken state_refused;
       does = λ f. storing f fresh [];
       denied = [];
       sends = silent;
@@ -284,25 +284,25 @@ row reset =
     }
 
 -- what it is not lent it does not look at, and leaves
-abbrev pub foundBy : Call → Lent → Found
-foundBy c l =
+abbrev pub found_by : Call → Lent → Found
+found_by c l =
     record {
-      state = cond (row c).on-block (decoded l.block) fresh;
-      memory = cond (row c).on-memory l.memory [];
+      state = cond (row c).on_block (decoded l.block) fresh;
+      memory = cond (row c).on_memory l.memory [];
       buffer = l.buffer;
     }
 
-abbrev pub doneBy : Call → Lent → Done
-doneBy c l = (row c).does (foundBy c l)
+abbrev pub done_by : Call → Lent → Done
+done_by c l = (row c).does (found_by c l)
 
 -- a state is stored in the block, and the bytes behind it stay as they were
 abbrev pub leaves : Call → Lent → Left
 leaves c l =
     record {
-      said = (doneBy c l).said;
-      block = cond (row c).on-block (sets l.block 0 (encoded (doneBy c l).state)) l.block;
-      memory = cond (row c).on-memory (doneBy c l).memory l.memory;
-      buffer = (doneBy c l).buffer;
+      said = (done_by c l).said;
+      block = cond (row c).on_block (sets l.block 0 (encoded (done_by c l).state)) l.block;
+      memory = cond (row c).on_memory (done_by c l).memory l.memory;
+      buffer = (done_by c l).buffer;
     }
 
 abbrev pub number_of : Call → Lent → ℕ

@@ -24,17 +24,17 @@ came number said block memory buffer =
 pub data Promised (l : Lent) : Call → Outcome → Type 0 where
   by_byte : (b : ℕ) (r : Taken) (after left told : List ℕ) → ByteTaken l.block b l.memory l.buffer r after left told
       → Promised l (byte b) (came r.refusal (r.length ∷ []) after left told)
-  by-block : (bytes : List ℕ) (r : BlockTaken) (after left told : List ℕ) → BlockDone l.block bytes l.memory l.buffer r after left told
+  by_block : (bytes : List ℕ) (r : BlockTaken) (after left told : List ℕ) → BlockDone l.block bytes l.memory l.buffer r after left told
       → Promised l (receive bytes) (came r.refusal (r.taken ∷ r.written ∷ []) after left told)
-  by-tick : (r : ℕ) (after left : List ℕ) → TickTaken l.block l.memory r after left → Promised l tick (came r [] after left l.buffer)
-  by-collect : (r : Collected) (after told : List ℕ) → CollectDone l.block l.buffer r after told
+  by_tick : (r : ℕ) (after left : List ℕ) → TickTaken l.block l.memory r after left → Promised l tick (came r [] after left l.buffer)
+  by_collect : (r : Collected) (after told : List ℕ) → CollectDone l.block l.buffer r after told
       → Promised l collect (came r.refusal (r.length ∷ []) after l.memory told)
-  by-report : (result r : ℕ) (after : List ℕ) → ReportDone l.block result r after → Promised l (report result) (came r [] after l.memory l.buffer)
-  by-prepare : (setup : List ℕ) (r : Said) (after : List ℕ) → PrepareDone l.block setup r after
+  by_report : (result r : ℕ) (after : List ℕ) → ReportDone l.block result r after → Promised l (report result) (came r [] after l.memory l.buffer)
+  by_prepare : (setup : List ℕ) (r : Said) (after : List ℕ) → PrepareDone l.block setup r after
       → Promised l (prepare setup) (came r.refusal (r.status ∷ []) after l.memory l.buffer)
-  by-start : (r : Said) (after : List ℕ) → StartDone l.block r after → Promised l start (came r.refusal (r.status ∷ []) after l.memory l.buffer)
-  by-modbus : (station : ℕ) (bytes : List ℕ) (r : Written) (left told : List ℕ) → ModbusDone station bytes l.memory l.buffer r left told
+  by_start : (r : Said) (after : List ℕ) → StartDone l.block r after → Promised l start (came r.refusal (r.status ∷ []) after l.memory l.buffer)
+  by_modbus : (station : ℕ) (bytes : List ℕ) (r : Written) (left told : List ℕ) → ModbusDone station bytes l.memory l.buffer r left told
       → Promised l (frame station bytes) (came r.refusal (r.length ∷ []) l.block left told)
   by_register : (list : List ℕ) (r : ℕ) (after : List ℕ) → RegisterDone l.block l.memory list r after
       → Promised l (register list) (came r [] after l.memory l.buffer)
-  by-reset : (r : ℕ) (after : List ℕ) → ResetDone l.block r after → Promised l reset (came r [] after l.memory l.buffer)
+  by_reset : (r : ℕ) (after : List ℕ) → ResetDone l.block r after → Promised l reset (came r [] after l.memory l.buffer)

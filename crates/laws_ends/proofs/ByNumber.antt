@@ -7,8 +7,8 @@ use lib.Dec.{eqb}
 use Rattle.document.specs.Numbers.{taken}
 
 module _ {A : Type 0} (refusal : ℕ) (x given kept : A) where
-  pub where-taken : refusal ≡ taken → x ≡ cond (eqb refusal taken) given kept → x ≡ given
-  where-taken e h = h ∙ ap (λ (k : ℕ). cond (eqb k taken) given kept) e
+  pub where_taken : refusal ≡ taken → x ≡ cond (eqb refusal taken) given kept → x ≡ given
+  where_taken e h = h ∙ ap (λ (k : ℕ). cond (eqb k taken) given kept) e
 
-  pub where-refused : (refusal ≡ taken → ⊥) → x ≡ cond (eqb refusal taken) given kept → x ≡ kept
-  where-refused other h = h ∙ ap (λ (k : _). cond k given kept) (ne_eqb refusal taken other)
+  pub where_refused : (refusal ≡ taken → ⊥) → x ≡ cond (eqb refusal taken) given kept → x ≡ kept
+  where_refused other h = h ∙ ap (λ (k : _). cond k given kept) (ne_eqb refusal taken other)

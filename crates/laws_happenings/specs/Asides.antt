@@ -2,14 +2,14 @@
 -- said here and above of an aside is read off its row.
 use Rattle.std.specs.Prelude.{◌≡◌, Bool, true, false, not, ◌&&◌, List, [], ◌∷◌, ℕ, eqb, leb}
 use Rattle.document.specs.Numbers.{done}
-use Rattle.document.specs.Recorder.{isRunning}
-use Rattle.document.specs.Application.{Application, newCommand, isCollected, afterCollect, afterReport}
+use Rattle.document.specs.Recorder.{is_running}
+use Rattle.document.specs.Application.{Application, new_command, is_collected, after_collect, after_report}
 use Rattle.document.specs.Gate.{Gate}
-use Rattle.document.specs.Refusals.{first_of, recorderLines}
-use Rattle.document.specs.Panel.{prepareLines, panelPrepares, panelStarts}
+use Rattle.document.specs.Refusals.{first_of, recorder_lines}
+use Rattle.document.specs.Panel.{prepare_lines, panel_prepares, panel_starts}
 use Rattle.document.specs.Recorder.{Recorder, ticked as tickedRecorder}
-use Rattle.document.specs.Frames.{isStation}
-use Rattle.document.specs.Modbus.{modbusAnswer}
+use Rattle.document.specs.Frames.{is_station}
+use Rattle.document.specs.Modbus.{modbus_answer}
 use Rattle.document.specs.Asides.{Aside}
 use Rattle.document.specs.Asides.Aside.{tick, writes, collects, reports, prepares, starts, frames}
 
@@ -23,20 +23,20 @@ pub data Side : Type 0 where
   -- the mill's controller, on the second port
   controller : Side
 
-abbrev pub isProgram : Side → Bool
-isProgram program = true
-isProgram service = false
-isProgram controller = false
+abbrev pub is_program : Side → Bool
+is_program program = true
+is_program service = false
+is_program controller = false
 
-abbrev pub isService : Side → Bool
-isService program = false
-isService service = true
-isService controller = false
+abbrev pub is_service : Side → Bool
+is_service program = false
+is_service service = true
+is_service controller = false
 
-abbrev pub isController : Side → Bool
-isController program = false
-isController service = false
-isController controller = true
+abbrev pub is_controller : Side → Bool
+is_controller program = false
+is_controller service = false
+is_controller controller = true
 
 -- ---- the application command (2026-01)
 
@@ -45,30 +45,30 @@ pub data CommandStep : Type 0 where
   collected : CommandStep
   reported : ℕ → CommandStep
 
-abbrev pub commandAfter : CommandStep → Application → Application
-commandAfter kept a = a
-commandAfter collected a = afterCollect a
-commandAfter (reported result) a = afterReport result a
+abbrev pub command_after : CommandStep → Application → Application
+command_after kept a = a
+command_after collected a = after_collect a
+command_after (reported result) a = after_report result a
 
 -- a command has its code at least: where there is no byte, there is none
-abbrev pub ifAny : List ℕ → List (List ℕ)
-ifAny [] = []
-ifAny (code ∷ arguments) = (code ∷ arguments) ∷ []
+abbrev pub if_any : List ℕ → List (List ℕ)
+if_any [] = []
+if_any (code ∷ arguments) = (code ∷ arguments) ∷ []
 
 -- the command that a collect would hand out, if one waits
-abbrev pub waitingIn : Application → List (List ℕ)
-waitingIn a = ifAny (newCommand a)
+abbrev pub waiting_in : Application → List (List ℕ)
+waiting_in a = if_any (new_command a)
 
-abbrev pub handedBy : CommandStep → Application → List (List ℕ)
-handedBy kept a = []
-handedBy collected a = waitingIn a
-handedBy (reported result) a = []
+abbrev pub handed_by : CommandStep → Application → List (List ℕ)
+handed_by kept a = []
+handed_by collected a = waiting_in a
+handed_by (reported result) a = []
 
 -- no result comes for a collected command
 abbrev pub NoResultBy : CommandStep → Application → Type 0
 NoResultBy kept a = Unit {0}
 NoResultBy collected a = Unit {0}
-NoResultBy (reported result) a = isCollected a ≡ false
+NoResultBy (reported result) a = is_collected a ≡ false
 
 -- ---- the recorder
 
@@ -78,32 +78,32 @@ pub data RecorderStep : Type 0 where
   prepared : List ℕ → RecorderStep
   started : RecorderStep
 
-abbrev pub isTicked : RecorderStep → Bool
-isTicked stays = false
-isTicked ticked = true
-isTicked (prepared setup) = false
-isTicked started = false
+abbrev pub is_ticked : RecorderStep → Bool
+is_ticked stays = false
+is_ticked ticked = true
+is_ticked (prepared setup) = false
+is_ticked started = false
 
-abbrev pub recorderAfter : RecorderStep → Gate → Recorder
-recorderAfter stays g = g.recorder
-recorderAfter ticked g = tickedRecorder g.recorder g.memory
-recorderAfter (prepared setup) g = (panelPrepares g setup).gate.recorder
-recorderAfter started g = (panelStarts g).gate.recorder
+abbrev pub recorder_after : RecorderStep → Gate → Recorder
+recorder_after stays g = g.recorder
+recorder_after ticked g = tickedRecorder g.recorder g.memory
+recorder_after (prepared setup) g = (panel_prepares g setup).gate.recorder
+recorder_after started g = (panel_starts g).gate.recorder
 
 -- the panel's preparing is accepted (2026-06)
-abbrev pub preparesAnew : Gate → List ℕ → Bool
-preparesAnew g setup = eqb (first_of (prepareLines g setup)) done
+abbrev pub prepares_anew : Gate → List ℕ → Bool
+prepares_anew g setup = eqb (first_of (prepare_lines g setup)) done
 
 -- the panel's start is, and the recorder does not run
-abbrev pub startsAnew : Gate → Bool
-startsAnew g = eqb (first_of (recorderLines g)) done && not (isRunning g.recorder)
+abbrev pub starts_anew : Gate → Bool
+starts_anew g = eqb (first_of (recorder_lines g)) done && not (is_running g.recorder)
 
 -- it sets the recorder up or starts it anew
-abbrev pub isAnew : RecorderStep → Gate → Bool
-isAnew stays g = false
-isAnew ticked g = false
-isAnew (prepared setup) g = preparesAnew g setup
-isAnew started g = startsAnew g
+abbrev pub is_anew : RecorderStep → Gate → Bool
+is_anew stays g = false
+is_anew ticked g = false
+is_anew (prepared setup) g = prepares_anew g setup
+is_anew started g = starts_anew g
 
 -- ---- the rows
 
@@ -135,7 +135,7 @@ row (reports result) =
     record {
       side = service;
       brings = result ∷ [];
-      due = λ a. leb result 0xFD && isCollected a;
+      due = λ a. leb result 0xFD && is_collected a;
       stores = false;
       command = reported result;
       recorder = stays;
@@ -148,18 +148,18 @@ row (frames station frame) =
     record {
       side = controller;
       brings = frame;
-      due = λ a. isStation station;
+      due = λ a. is_station station;
       stores = true;
       command = kept;
       recorder = stays;
-      answer = modbusAnswer station frame;
+      answer = modbus_answer station frame;
     }
 
-abbrev pub isTick : Aside → Bool
-isTick a = isTicked (row a).recorder
+abbrev pub is_tick : Aside → Bool
+is_tick a = is_ticked (row a).recorder
 
-abbrev pub isOwn : Aside → Bool
-isOwn a = isProgram (row a).side
+abbrev pub is_own : Aside → Bool
+is_own a = is_program (row a).side
 
-abbrev pub isFrame : Aside → Bool
-isFrame a = isController (row a).side
+abbrev pub is_frame : Aside → Bool
+is_frame a = is_controller (row a).side

@@ -6,8 +6,8 @@ use Rattle.document.specs.Happenings.Happening.{byte, aside}
 use Rattle.laws_happenings.specs.Asides.{row}
 
 -- a byte more, and nothing else yet
-abbrev pub withByte : Since → ℕ → Since
-withByte s b = record { bytes = s.bytes ++ (b ∷ []); gate = s.gate; answers = s.answers }
+abbrev pub with_byte : Since → ℕ → Since
+with_byte s b = record { bytes = s.bytes ++ (b ∷ []); gate = s.gate; answers = s.answers }
 
 -- the bytes that came
 abbrev pub bytes_of : List Happening → List ℕ
@@ -16,10 +16,10 @@ bytes_of (byte b ∷ hs) = b ∷ bytes_of hs
 bytes_of (aside a ∷ hs) = bytes_of hs
 
 -- all that happened but the bytes
-abbrev pub besideBytes : List Happening → List Happening
-besideBytes [] = []
-besideBytes (byte b ∷ hs) = besideBytes hs
-besideBytes (aside a ∷ hs) = aside a ∷ besideBytes hs
+abbrev pub beside_bytes : List Happening → List Happening
+beside_bytes [] = []
+beside_bytes (byte b ∷ hs) = beside_bytes hs
+beside_bytes (aside a ∷ hs) = aside a ∷ beside_bytes hs
 
 -- every one of them is a byte, at each place
 abbrev pub Bytes : List ℕ → Type 0

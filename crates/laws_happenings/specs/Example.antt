@@ -8,14 +8,14 @@ use Rattle.document.specs.Run.{Run}
 use Rattle.document.specs.Run.Watch.{previous}
 use Rattle.document.specs.Gate.{fresh}
 use Rattle.document.specs.Asides.Aside.{tick, writes, collects, reports, prepares, starts, frames}
-use Rattle.document.specs.Happenings.{Happening, Since, afterAll, fromReset}
+use Rattle.document.specs.Happenings.{Happening, Since, after_all, from_reset}
 use Rattle.document.specs.Happenings.Happening.{byte, aside}
 
 abbrev pub zeros : List ℕ
 zeros = replicate 16384 0
 
 abbrev pub reset : Since
-reset = fromReset (fresh zeros)
+reset = from_reset (fresh zeros)
 
 -- ---- the panel prepares the recorder and starts it
 
@@ -27,7 +27,7 @@ abbrev pub plan : Plan
 plan =
     record {
       samples = 2;
-      postTrigger = 1;
+      post_trigger = 1;
       divider = 0;
       trigger = record { mode = 1; address = 0; size = 1; sign = 0; threshold = 5 };
       variables = record { address = 0; size = 1 } ∷ [];
@@ -37,7 +37,7 @@ abbrev pub before : List Happening
 before = aside (prepares setup) ∷ aside starts ∷ []
 
 abbrev pub begun : Since
-begun = afterAll reset before
+begun = after_all reset before
 
 -- ---- since that start, until the trigger comes
 
@@ -54,8 +54,8 @@ abbrev pub starting : List Happening
 starting = byte 0x2B ∷ byte 0xC1 ∷ []
 
 -- a tick in the midst of it, which takes a set; behind it a frame without a byte, which gets silence
-abbrev pub firstSet : List Happening
-firstSet = aside tick ∷ byte 0x3F ∷ aside (frames 1 []) ∷ []
+abbrev pub first_set : List Happening
+first_set = aside tick ∷ byte 0x3F ∷ aside (frames 1 []) ∷ []
 
 -- an application command but for its last byte, and in the midst of it the controller writes 7 to register 0
 abbrev pub command : Message
@@ -68,14 +68,14 @@ abbrev pub sending : List Happening
 sending = byte 0x2B ∷ byte 0x10 ∷ byte 0x01 ∷ byte 0xF0 ∷ aside (frames 247 rising) ∷ []
 
 abbrev pub earlier : List Happening
-earlier = meanwhile ++ starting ++ firstSet ++ sending ++ (byte 0xFF ∷ [])
+earlier = meanwhile ++ starting ++ first_set ++ sending ++ (byte 0xFF ∷ [])
 
 -- one set is taken, and at the next tick the trigger comes
 abbrev pub risen : Since
-risen = afterAll reset (before ++ earlier)
+risen = after_all reset (before ++ earlier)
 
-abbrev pub oneTaken : Run
-oneTaken = record { running = true; wait = 0; place = 1; full = false; watch = previous 0 }
+abbrev pub one_taken : Run
+one_taken = record { running = true; wait = 0; place = 1; full = false; watch = previous 0 }
 
 -- ---- behind the tick at which it comes
 
@@ -91,16 +91,16 @@ abbrev pub repeating : List Happening
 repeating = byte 0x2B ∷ byte 0x10 ∷ byte 0x01 ∷ byte 0xF0 ∷ []
 
 -- 0xE3 writes 9 to byte 0, nothing is there to collect, and the further set is taken
-abbrev pub lastSet : List Happening
-lastSet =
+abbrev pub last_set : List Happening
+last_set =
     byte 0x2B ∷ byte 0xE3 ∷ byte 0x00 ∷ byte 0x00 ∷ byte 0x09 ∷ byte 0x00 ∷ byte 0x14
     ∷ aside collects ∷ aside tick ∷ []
 
 abbrev pub pending : List Happening
-pending = awaiting ++ (byte 0x3A ∷ repeating) ++ (byte 0xFF ∷ lastSet)
+pending = awaiting ++ (byte 0x3A ∷ repeating) ++ (byte 0xFF ∷ last_set)
 
-abbrev pub untilReport : List Happening
-untilReport = before ++ earlier ++ (aside tick ∷ pending)
+abbrev pub until_report : List Happening
+until_report = before ++ earlier ++ (aside tick ∷ pending)
 
 -- behind its report 0xC6 again but for its last byte; the recorder has stopped
 abbrev pub asking : List Happening
@@ -125,7 +125,7 @@ happened = before ++ since ++ starting ++ (byte 0x3F ∷ [])
 -- ---- two ports, one memory: two more lists, over a memory with another byte, on which the gate's own program writes
 
 abbrev pub stale : Since
-stale = fromReset (fresh (set zeros 8 1))
+stale = from_reset (fresh (set zeros 8 1))
 
 -- the same with further frames: a silent one, and some that write 5 to register 3, and 0 again before a command is finished or the gate ticks
 abbrev pub raised : List ℕ
@@ -139,7 +139,7 @@ disturbed =
     (aside (frames 247 raised) ∷ before)
     ++ meanwhile
     ++ starting
-    ++ (aside (frames 247 lowered) ∷ firstSet)
+    ++ (aside (frames 247 lowered) ∷ first_set)
     ++ sending
     ++ (byte 0xFF ∷ aside (frames 1 []) ∷ aside tick ∷ pending)
     ++ (aside (frames 247 raised) ∷ aside (reports 0xFD) ∷ aside (frames 247 lowered) ∷ asking)

@@ -1,6 +1,6 @@
 -- Noise on the second port's wire: the damage to a frame that its check sum always notices.
 use Rattle.std.specs.Prelude.{◌≡◌, List, ℕ, ◌+◌, ◌*◌, ◌^◌, ◌%◌, ◌<◌, length}
-use Rattle.modbus_check_sums.specs.Flips.{flips, bitsSet}
+use Rattle.modbus_check_sums.specs.Flips.{flips, bits_set}
 
 -- which of its bits are flipped, counted from the first on the wire
 pub data Damaged (sent got : List ℕ) : Type 0 where
@@ -9,4 +9,4 @@ pub data Damaged (sent got : List ℕ) : Type 0 where
   -- any two, however far apart
   two : (i j : ℕ) → i < j → flips sent got ≡ 2 ^ i + 2 ^ j → Damaged sent got
   -- any odd number of them
-  odd : bitsSet (length sent * 8) (flips sent got) % 2 ≡ 1 → Damaged sent got
+  odd : bits_set (length sent * 8) (flips sent got) % 2 ≡ 1 → Damaged sent got

@@ -5,16 +5,16 @@ use mathlib.Core.List.{List, [], ◌∷◌, ◌++◌}
 use Prim.Native.Nat.{ℕ}
 use lib.ListN.{length, replicate}
 use Rattle.document.specs.Hex.{hex}
-use Rattle.document.specs.Areas.{memoryEnd}
-use Rattle.document.specs.Tables.{tablesIn, isListGood}
-use Rattle.document.specs.BaseTypes.{sizeOfCode}
-use Rattle.document.specs.Strings.{beforeZero, hasZero}
-use Rattle.document.specs.Services.{serviceOf}
+use Rattle.document.specs.Areas.{memory_end}
+use Rattle.document.specs.Tables.{tables_in, is_list_good}
+use Rattle.document.specs.BaseTypes.{size_of_code}
+use Rattle.document.specs.Strings.{before_zero, has_zero}
+use Rattle.document.specs.Services.{service_of}
 use Rattle.document.specs.Gate.{registered}
 use Rattle.document.specs.Refusals.{refusal}
 use Rattle.document.specs.Commands.{answered}
-use Rattle.laws_names.specs.Names.{Named, namesIn}
-use Rattle.laws_names.specs.Steps.{asked, namesRead}
+use Rattle.laws_names.specs.Names.{Named, names_in}
+use Rattle.laws_names.specs.Steps.{asked, names_read}
 
 -- strings at 16, 32 and 64, entries from 8,192 on, and no zero at memory's end
 abbrev pub memory : List ℕ
@@ -36,17 +36,17 @@ named name address = record { name = name; type = hex "E1"; address = address; i
 abbrev pub names : List (List Named)
 names = (named (hex "636F696C") 0x12 ∷ named (replicate 70 0x41) 0x14 ∷ []) ∷ (named [] 0x16 ∷ named [] 0x18 ∷ []) ∷ []
 
-pub memory-whole : length memory ≡ memoryEnd
-memory-whole = refl
+pub memory_whole : length memory ≡ memory_end
+memory_whole = refl
 
-pub list-good : isListGood memory list ≡ true
-unfolding isListGood sizeOfCode
-list-good = refl
+pub list_good : is_list_good memory list ≡ true
+unfolding is_list_good size_of_code
+list_good = refl
 
-pub names-there : namesIn memory (tablesIn list) ≡ names
-unfolding namesIn beforeZero hasZero
-names-there = refl
+pub names_there : names_in memory (tables_in list) ≡ names
+unfolding names_in before_zero has_zero
+names_there = refl
 
-pub names-come : namesRead (registered (tablesIn list) memory) ≡ names
-unfolding namesRead asked answered refusal serviceOf beforeZero hasZero
-names-come = refl
+pub names_come : names_read (registered (tables_in list) memory) ≡ names
+unfolding names_read asked answered refusal service_of before_zero has_zero
+names_come = refl

@@ -7,29 +7,29 @@ use native.Mathlib.Omega.{arith}
 use borrow.Author.Tests.{ltb-true}
 use lib.Dec.{ltb}
 use lib.ListN.{length, drop, length-drop}
-use Rattle.document.specs.Areas.{memoryEnd}
+use Rattle.document.specs.Areas.{memory_end}
 use Rattle.document.specs.Values.{number}
-use Rattle.document.specs.Strings.{stringLength, stringEnds}
+use Rattle.document.specs.Strings.{string_length, string_ends}
 use Rattle.document.specs.Gate.{Gate}
 use Rattle.document.proofs.Cases.{split, and_left}
-use Rattle.document.proofs.Values.{number-back}
+use Rattle.document.proofs.Values.{number_back}
 use Rattle.memory_strings.proofs.Zeros.{within}
-use Rattle.laws_names.specs.Names.{stringAt}
-use Rattle.laws_names.specs.Steps.{bytesRead, stringRead}
-use Rattle.laws_names.proofs.Asked.{length-answered}
-use Rattle.laws_names.proofs.Pieces.{bytes_read}
+use Rattle.laws_names.specs.Names.{string_at}
+use Rattle.laws_names.specs.Steps.{bytes_read, string_read}
+use Rattle.laws_names.proofs.Asked.{length_answered}
+use Rattle.laws_names.proofs.Pieces.{bytes_read_lem}
 
-module _ (g : Gate) (whole : length g.memory ≡ memoryEnd) where
+module _ (g : Gate) (whole : length g.memory ≡ memory_end) where
   -- a string that begins in memory has no byte outside
-  inside : (address : ℕ) → address < memoryEnd → address + stringLength g.memory address ≤ memoryEnd
+  inside : (address : ℕ) → address < memory_end → address + string_length g.memory address ≤ memory_end
   inside address begins = omega (arith, within (drop address g.memory), length-drop address g.memory)
 
-  pub string-read : (address : ℕ) → address < 65536 → stringRead g address ≡ stringAt g.memory address
-  string-read address fits =
-      let n : ℕ = stringLength g.memory address in
-      ap (λ (l : List ℕ). bytesRead g address (number l)) (length-answered g address fits)
-      ∙ split (ltb address memoryEnd && stringEnds g.memory address)
+  pub string_read_lem : (address : ℕ) → address < 65536 → string_read g address ≡ string_at g.memory address
+  string_read_lem address fits =
+      let n : ℕ = string_length g.memory address in
+      ap (λ (l : List ℕ). bytes_read g address (number l)) (length_answered g address fits)
+      ∙ split (ltb address memory_end && string_ends g.memory address)
       (λ there.
-      let room = inside address (ltb-true address memoryEnd (and_left (ltb address memoryEnd) (stringEnds g.memory address) there)) in
-      rw there (ap (bytesRead g address) (number-back 2 n (omega (arith, room))) ∙ bytes_read g address n room))
+      let room = inside address (ltb-true address memory_end (and_left (ltb address memory_end) (string_ends g.memory address) there)) in
+      rw there (ap (bytes_read g address) (number_back 2 n (omega (arith, room))) ∙ bytes_read_lem g address n room))
       (λ none. rw none refl)

@@ -1,7 +1,7 @@
 // The one way to write an answer: straight into the lent buffer, so that no second copy of it is held.
 ghost use Rattle.std.specs.Prelude.{◌≡◌, [], ◌≤◌, length};
-ghost use Rattle.document.specs.Numbers.{mostData, answerRoom};
-ghost use Rattle.document.specs.AnswerWriter.{answerFormed};
+ghost use Rattle.document.specs.Numbers.{most_data, answer_room};
+ghost use Rattle.document.specs.AnswerWriter.{answer_formed};
 ghost use Rattle.line_wire.specs.AnswerWritten.{AnswerWritten};
 ghost use Rattle.line_wire.specs.Told.{Telling, Told};
 
@@ -14,7 +14,7 @@ use line_wire::doubling::{PLUS, Progress, put_all, put_sum};
 
 // Whether the answer can be formed: a known status, few enough data, none beside an error.
 fn is_formed(status: u8, body: &[u8]) -> bool
-    ensures { result ≡ answerFormed (record { status = status; body = body.now }) }
+    ensures { result ≡ answer_formed (record { status = status; body = body.now }) }
 {
     if status <= RECORDER_STOPPED {
         return body.len() <= MOST_DATA;
@@ -31,7 +31,7 @@ fn is_formed(status: u8, body: &[u8]) -> bool
 // An answer's front. What is put behind it, and the sum byte, go straight into the lent buffer, each byte doubled and summed as it is
 // written; who tells has measured the buffer.
 pub fn begin(status: u8, out: &mut [u8]) -> Progress
-    requires { answerRoom ≤ length out.old }
+    requires { answer_room ≤ length out.old }
     ensures { Telling status [] out.old result out.new }
 {
     out[0] = PLUS;
@@ -41,7 +41,7 @@ pub fn begin(status: u8, out: &mut [u8]) -> Progress
 
 // A whole answer whose data stand in one place: how many bytes it takes on the wire.
 pub fn tell(status: u8, body: &[u8], out: &mut [u8]) -> usize
-    requires { (length body.now ≤ mostData) × (answerRoom ≤ length out.old) }
+    requires { (length body.now ≤ most_data) × (answer_room ≤ length out.old) }
     ensures { Told (record { status = status; body = body.now }) out.old result out.new }
 {
     let front = begin(status, out);

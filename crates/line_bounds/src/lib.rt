@@ -1,13 +1,13 @@
 // The bounds of a receiver's state: one check, made where a state comes in.
 ghost use Rattle.std.specs.Prelude.{◌≡◌};
-ghost use Rattle.line_receiver.specs.Bounds.{lengthRight, insideSound, sound};
+ghost use Rattle.line_receiver.specs.Bounds.{length_right, inside_sound, sound};
 
 use codes_table::FIRST_FAST;
 use line_receiver::{DATA_NEXT, IDLE, LENGTH_NEXT, Receiver, SUM_NEXT};
 
 // Whether a length goes with a command: any below 0xC0, the one that the command gives from there on.
 fn length_right(command: u8, length: u8) -> bool
-    ensures { result ≡ lengthRight command length }
+    ensures { result ≡ length_right command length }
 {
     if command < FIRST_FAST {
         return true;
@@ -16,7 +16,7 @@ fn length_right(command: u8, length: u8) -> bool
 }
 
 fn is_sound_inside(receiver: Receiver) -> bool
-    ensures { result ≡ insideSound receiver.phase receiver.command receiver.length receiver.have }
+    ensures { result ≡ inside_sound receiver.phase receiver.command receiver.length receiver.have }
 {
     if receiver.phase == DATA_NEXT {
         return length_right(receiver.command, receiver.length) && receiver.have < receiver.length;

@@ -9,32 +9,32 @@ use lib.Dec.{eqb}
 use lib.ListN.{length}
 use lib.Seq.{sets}
 use Rattle.document.specs.Numbers.{taken}
-use Rattle.document.specs.Kinds.{hasLengthByte, fastLength}
-use Rattle.document.specs.Message.{lengthFits, wellFormed, summed}
-use Rattle.document.specs.CommandWriter.{commandOnWire, commandRefusal, commandWritten, commandBuffer}
+use Rattle.document.specs.Kinds.{has_length_byte, fast_length}
+use Rattle.document.specs.Message.{length_fits, well_formed, summed}
+use Rattle.document.specs.CommandWriter.{command_on_wire, command_refusal, command_written, command_buffer}
 use Rattle.document.proofs.Cases.{split, and_right}
 
 -- ---- a message that can be formed has few data
 
-pub formed-short : (c : ℕ) (body : List ℕ) → wellFormed (summed c body) ≡ true → length body ≤ 255
-unfolding wellFormed
-formed-short c body e =
-    let fits : lengthFits c (length body) ≡ true = and_right (not (eqb c 0x2B)) (lengthFits c (length body)) e in
-    split (hasLengthByte c)
+pub formed_short : (c : ℕ) (body : List ℕ) → well_formed (summed c body) ≡ true → length body ≤ 255
+unfolding well_formed
+formed_short c body e =
+    let fits : length_fits c (length body) ≡ true = and_right (not (eqb c 0x2B)) (length_fits c (length body)) e in
+    split (has_length_byte c)
     (λ standard. leb-true (length body) 255 (rw standard at fits))
-    (λ fast. omega (arith, eqb-true (length body) (fastLength c) (rw fast at fits)))
+    (λ fast. omega (arith, eqb-true (length body) (fast_length c) (rw fast at fits)))
 
 -- ---- what is left of a message that nothing refuses
 
-module _ (c : ℕ) (body buffer : List ℕ) (formed : wellFormed (summed c body) ≡ true) (room : length (commandOnWire c body) ≤ length buffer) where
-  pub command-taken : commandRefusal c body buffer ≡ taken
-  unfolding commandRefusal
-  command-taken = simp (formed, le-ltb (length buffer) (length (commandOnWire c body)) room)
+module _ (c : ℕ) (body buffer : List ℕ) (formed : well_formed (summed c body) ≡ true) (room : length (command_on_wire c body) ≤ length buffer) where
+  pub command_taken : command_refusal c body buffer ≡ taken
+  unfolding command_refusal
+  command_taken = simp (formed, le-ltb (length buffer) (length (command_on_wire c body)) room)
 
-  pub command-written : commandWritten c body buffer ≡ length (commandOnWire c body)
-  unfolding commandWritten
-  command-written = simp command-taken
+  pub command_written_lem : command_written c body buffer ≡ length (command_on_wire c body)
+  unfolding command_written
+  command_written_lem = simp command_taken
 
-  pub command-buffer : commandBuffer c body buffer ≡ sets buffer 0 (commandOnWire c body)
-  unfolding commandBuffer
-  command-buffer = simp command-taken
+  pub command_buffer_lem : command_buffer c body buffer ≡ sets buffer 0 (command_on_wire c body)
+  unfolding command_buffer
+  command_buffer_lem = simp command_taken

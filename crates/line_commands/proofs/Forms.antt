@@ -6,35 +6,35 @@ use borrow.Author.Tests.{ne_eqb}
 use lib.Dec.{eqb, leb}
 use lib.ListN.{length}
 use mathlib.Core.List.{List}
-use Rattle.document.specs.Kinds.{hasLengthByte, fastLength}
-use Rattle.document.specs.Message.{summed, wellFormed}
+use Rattle.document.specs.Kinds.{has_length_byte, fast_length}
+use Rattle.document.specs.Message.{summed, well_formed}
 use Rattle.document.proofs.Cases.{split, neither}
 use Rattle.codes_table.specs.declared.reading.Length.{Length}
 use Rattle.codes_table.specs.declared.reading.Length.TheVariants.{Told, Fixed}
 use Rattle.codes_table.specs.Table.{length_of}
 
-abbrev isTold : Length → Bool
-isTold Told = true
-isTold (Fixed n) = false
+abbrev is_told : Length → Bool
+is_told Told = true
+is_told (Fixed n) = false
 
-abbrev fixedOr : ℕ → Length → ℕ
-fixedOr other Told = other
-fixedOr other (Fixed n) = n
+abbrev fixed_or : ℕ → Length → ℕ
+fixed_or other Told = other
+fixed_or other (Fixed n) = n
 
-told-standard : (c : ℕ) → Told ≡ length_of c → hasLengthByte c ≡ true
-told-standard c e = split (hasLengthByte c) (λ t. t) (λ f. neither (sym (rw f at (ap isTold e))))
+told_standard : (c : ℕ) → Told ≡ length_of c → has_length_byte c ≡ true
+told_standard c e = split (has_length_byte c) (λ t. t) (λ f. neither (sym (rw f at (ap is_told e))))
 
-fixed-fast : (c n : ℕ) → Fixed n ≡ length_of c → (hasLengthByte c ≡ false) × (n ≡ fastLength c)
-fixed-fast c n e =
-    split (hasLengthByte c)
-    (λ t. neither (rw t at (ap isTold e)))
-    (λ f. (f, rw f at (ap (fixedOr n) e)))
+fixed_fast : (c n : ℕ) → Fixed n ≡ length_of c → (has_length_byte c ≡ false) × (n ≡ fast_length c)
+fixed_fast c n e =
+    split (has_length_byte c)
+    (λ t. neither (rw t at (ap is_told e)))
+    (λ f. (f, rw f at (ap (fixed_or n) e)))
 
 module _ (c : ℕ) (body : List ℕ) (other : c ≡ 0x2B → ⊥) where
-  pub formed-told : Told ≡ length_of c → leb (length body) 255 ≡ wellFormed (summed c body)
-  unfolding wellFormed
-  formed-told e = rw (ne_eqb c 0x2B other, told-standard c e) refl
+  pub formed_told : Told ≡ length_of c → leb (length body) 255 ≡ well_formed (summed c body)
+  unfolding well_formed
+  formed_told e = rw (ne_eqb c 0x2B other, told_standard c e) refl
 
-  pub formed-fixed : (n k : ℕ) → Fixed n ≡ length_of c → k ≡ n → eqb (length body) k ≡ wellFormed (summed c body)
-  unfolding wellFormed
-  formed-fixed n k e same = let f = fixed-fast c n e in rw (ne_eqb c 0x2B other, f.0, same, f.1) refl
+  pub formed_fixed : (n k : ℕ) → Fixed n ≡ length_of c → k ≡ n → eqb (length body) k ≡ well_formed (summed c body)
+  unfolding well_formed
+  formed_fixed n k e same = let f = fixed_fast c n e in rw (ne_eqb c 0x2B other, f.0, same, f.1) refl

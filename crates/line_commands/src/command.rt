@@ -1,7 +1,7 @@
 // The writer of command messages, into just the room that a message takes.
 ghost use Rattle.std.specs.Prelude.{◌≡◌, ◌+◌, ◌≤◌, length};
 ghost use Rattle.document.specs.Doubling.{stuffed};
-ghost use Rattle.document.specs.Message.{lengthPart, summed, wellFormed};
+ghost use Rattle.document.specs.Message.{length_part, summed, well_formed};
 ghost use Rattle.line_wire.specs.Put.{Put};
 ghost use Rattle.line_commands.specs.CommandWritten.{CommandWritten};
 
@@ -13,7 +13,7 @@ use line_wire::doubling::{PLUS, Progress, put, put_all, put_sum};
 
 // Whether the message can be formed: a command that is no start byte, and as many data as it takes.
 fn is_formed(command: u8, body: &[u8]) -> bool
-    ensures { result ≡ wellFormed (summed command body.now) }
+    ensures { result ≡ well_formed (summed command body.now) }
 {
     if command == PLUS {
         return false;
@@ -27,8 +27,8 @@ fn is_formed(command: u8, body: &[u8]) -> bool
 
 // A standard command has a length byte.
 fn put_length(from: Progress, command: u8, body: &[u8], out: &mut [u8]) -> Progress
-    requires { (length body.now ≤ 255) × (from.at + length (stuffed (lengthPart command body.now)) ≤ length out.old) }
-    ensures { Put from (lengthPart command body.now) out.old result out.new }
+    requires { (length body.now ≤ 255) × (from.at + length (stuffed (length_part command body.now)) ≤ length out.old) }
+    ensures { Put from (length_part command body.now) out.old result out.new }
 {
     if command < FIRST_FAST {
         return put(from, body.len() as u8, out);

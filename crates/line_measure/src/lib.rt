@@ -1,7 +1,7 @@
 // How long a message is on the wire, before a byte of it is written.
 ghost use Rattle.std.specs.Prelude.{◌≡◌, [], ◌∷◌, ◌≤◌, ◌<◌, length, ltb};
-ghost use Rattle.document.specs.Message.{lengthPart};
-ghost use Rattle.document.specs.CommandWriter.{commandOnWire};
+ghost use Rattle.document.specs.Message.{length_part};
+ghost use Rattle.document.specs.CommandWriter.{command_on_wire};
 ghost use Rattle.line_wire.specs.Put.{progressed};
 
 use codes_table::FIRST_FAST;
@@ -41,7 +41,7 @@ fn measured_all(from: Progress, bytes: &[u8]) -> Progress
 // A standard command has a length byte.
 fn measured_length(from: Progress, command: u8, body: &[u8]) -> Progress
     requires { (from.at ≤ 2) × (length body.now ≤ 255) }
-    ensures { result ≡ progressed from (lengthPart command body.now) }
+    ensures { result ≡ progressed from (length_part command body.now) }
 {
     if command < FIRST_FAST {
         return measured(from, body.len() as u8);
@@ -51,7 +51,7 @@ fn measured_length(from: Progress, command: u8, body: &[u8]) -> Progress
 
 fn wire_length(command: u8, body: &[u8]) -> usize
     requires { length body.now ≤ 255 }
-    ensures { result ≡ length (commandOnWire command body.now) }
+    ensures { result ≡ length (command_on_wire command body.now) }
 {
     let front = Progress {
         at: 2,
@@ -66,7 +66,7 @@ fn wire_length(command: u8, body: &[u8]) -> usize
 // Whether so much room is too little. Where a message of which every byte is doubled would find room, nothing need be measured.
 pub fn is_short(command: u8, body: &[u8], room: usize) -> bool
     requires { length body.now ≤ 255 }
-    ensures { result ≡ ltb room (length (commandOnWire command body.now)) }
+    ensures { result ≡ ltb room (length (command_on_wire command body.now)) }
 {
     if room >= 2 * body.len() + 6 {
         return false;

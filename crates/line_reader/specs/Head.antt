@@ -8,8 +8,8 @@ use Rattle.line_reader.specs.declared.head.Asked.TheVariants as asked
 use Rattle.line_reader.specs.declared.head.Stepped.{Stepped}
 use Rattle.line_reader.specs.Reader.{AnswerReader, Step}
 
-abbrev pub withBody : Head → List ℕ → AnswerReader
-withBody h body =
+abbrev pub with_body : Head → List ℕ → AnswerReader
+with_body h body =
     record {
       waiting = h.waiting;
       phase = h.phase;
@@ -41,5 +41,5 @@ reach (asked.Keep at b) = at + 1
 reach (asked.Right status n) = n
 reach asked.Wrong = 0
 
-abbrev pub headStep : Stepped → List ℕ → Step
-headStep s body = record { next = withBody s.next (body_after s.asks body); brings = bringing s.asks body }
+abbrev pub head_step : Stepped → List ℕ → Step
+head_step s body = record { next = with_body s.next (body_after s.asks body); brings = bringing s.asks body }

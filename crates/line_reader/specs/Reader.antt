@@ -1,7 +1,7 @@
 -- The answer reader, a byte at a time: the bounds of its state, and what a byte makes of it.
 use Rattle.std.specs.Prelude.{Bool, true, cond, ◌&&◌, ℕ, ◌+◌, ◌%◌, eqb, ltb, leb, set, take, replicate}
 use mathlib.Core.List.{List, foldl}
-use Rattle.document.specs.Numbers.{isError}
+use Rattle.document.specs.Numbers.{is_error}
 use Rattle.document.specs.AnswerReader.{Brought}
 use Rattle.document.specs.AnswerReader.Brought.{nothing, answer, wrong}
 
@@ -22,19 +22,19 @@ pub record AnswerReader : Type 0 where
 abbrev pub idle : ℕ
 idle = 0
 
-abbrev pub inData : ℕ
-inData = 1
+abbrev pub in_data : ℕ
+in_data = 1
 
-abbrev pub atSum : ℕ
-atSum = 2
+abbrev pub at_sum : ℕ
+at_sum = 2
 
 -- "data of the length fixed when the reading began follow a clear top bit, none a set one"
-abbrev pub dataLength : ℕ → ℕ → ℕ
-dataLength status expected = cond (isError status) 0 expected
+abbrev pub data_length : ℕ → ℕ → ℕ
+data_length status expected = cond (is_error status) 0 expected
 
 -- data are next where some are left, else the sum byte
-abbrev pub phaseAt : ℕ → ℕ → ℕ
-phaseAt have n = cond (ltb have n) inData atSum
+abbrev pub phase_at : ℕ → ℕ → ℕ
+phase_at have n = cond (ltb have n) in_data at_sum
 
 -- a reading of so many data begins
 abbrev pub fresh : ℕ → AnswerReader
@@ -42,15 +42,15 @@ fresh n =
     record { waiting = 0; phase = idle; status = 0; expected = n; have = 0; sum = 0; body = replicate 64 0 }
 
 -- "a state outside the bounds listed in docs/": how many data are there goes with the phase
-abbrev pub soundAt : ℕ → ℕ → ℕ → Bool
-soundAt phase have n =
-    cond (eqb phase idle) true (cond (eqb phase inData) (ltb have n) (eqb phase atSum && eqb have n))
+abbrev pub sound_at : ℕ → ℕ → ℕ → Bool
+sound_at phase have n =
+    cond (eqb phase idle) true (cond (eqb phase in_data) (ltb have n) (eqb phase at_sum && eqb have n))
 
 unfoldable pub sound : AnswerReader → Bool
 sound r =
     leb r.waiting 1
     && leb r.expected 64
-    && soundAt r.phase r.have (dataLength r.status r.expected)
+    && sound_at r.phase r.have (data_length r.status r.expected)
 
 -- ---- a byte
 
@@ -80,7 +80,7 @@ abbrev pub opened : AnswerReader → ℕ → AnswerReader
 opened r s =
     record {
       waiting = 0;
-      phase = phaseAt 0 (dataLength s r.expected);
+      phase = phase_at 0 (data_length s r.expected);
       status = s;
       expected = r.expected;
       have = 0;
@@ -93,7 +93,7 @@ abbrev pub stored : AnswerReader → ℕ → AnswerReader
 stored r l =
     record {
       waiting = 0;
-      phase = phaseAt (r.have + 1) (dataLength r.status r.expected);
+      phase = phase_at (r.have + 1) (data_length r.status r.expected);
       status = r.status;
       expected = r.expected;
       have = r.have + 1;
@@ -113,8 +113,8 @@ finished r l =
 -- "Literals outside a message are dropped."
 unfoldable pub literal : AnswerReader → ℕ → Step
 literal r l =
-    cond (eqb r.phase inData) (silent (stored r l))
-    (cond (eqb r.phase atSum) (finished r l) (silent (turned r 0 r.phase)))
+    cond (eqb r.phase in_data) (silent (stored r l))
+    (cond (eqb r.phase at_sum) (finished r l) (silent (turned r 0 r.phase)))
 
 -- "The answer reader pairs as the line does": 0x2B twice is a literal, 0x2B and another byte a start
 unfoldable pub stepped : AnswerReader → ℕ → Step
@@ -124,5 +124,5 @@ stepped r b =
     (cond (eqb r.waiting 1) (silent (opened r b)) (literal r b))
 
 -- the reader after the bytes since a reading of n data began
-unfoldable pub readerAfter : ℕ → List ℕ → AnswerReader
-readerAfter n bs = foldl (λ (r : AnswerReader) (b : ℕ). (stepped r b).next) (fresh n) bs
+unfoldable pub reader_after : ℕ → List ℕ → AnswerReader
+reader_after n bs = foldl (λ (r : AnswerReader) (b : ℕ). (stepped r b).next) (fresh n) bs

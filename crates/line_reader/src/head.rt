@@ -1,8 +1,8 @@
 // The head of a reader, its six bytes in front of the data: what a byte makes of it, and what it asks to be done with the data.
 ghost use Rattle.std.specs.Prelude.{◌≡◌, true, List, [], ℕ, ◌≤◌, ◌<◌};
-ghost use Rattle.document.specs.Numbers.{mostData};
-ghost use Rattle.line_reader.specs.Reader.{sound, soundAt, dataLength, phaseAt, silent, opened, stored, finished, literal, stepped};
-ghost use Rattle.line_reader.specs.Head.{withBody, reach, headStep};
+ghost use Rattle.document.specs.Numbers.{most_data};
+ghost use Rattle.line_reader.specs.Reader.{sound, sound_at, data_length, phase_at, silent, opened, stored, finished, literal, stepped};
+ghost use Rattle.line_reader.specs.Head.{with_body, reach, head_step};
 
 use codes_table::MOST_DATA_BYTE;
 use line_wire::doubling::PLUS;
@@ -46,7 +46,7 @@ pub struct Stepped {
 }
 
 fn data_length(status: u8, expected: u8) -> u8
-    ensures { result ≡ dataLength status expected }
+    ensures { result ≡ data_length status expected }
 {
     if status >= ERROR {
         return 0;
@@ -56,7 +56,7 @@ fn data_length(status: u8, expected: u8) -> u8
 
 // Whether a reader that has so many of n data can be in this phase.
 fn is_at(phase: u8, have: u8, n: u8) -> bool
-    ensures { result ≡ soundAt phase have n }
+    ensures { result ≡ sound_at phase have n }
 {
     match phase {
         IDLE => true,
@@ -67,7 +67,7 @@ fn is_at(phase: u8, have: u8, n: u8) -> bool
 }
 
 fn phase_at(have: u8, n: u8) -> u8
-    ensures { result ≡ phaseAt have n }
+    ensures { result ≡ phase_at have n }
 {
     if have < n {
         return DATA;
@@ -78,7 +78,7 @@ fn phase_at(have: u8, n: u8) -> u8
 impl Head {
     // Whether the reader is within its bounds; its data may be anything.
     pub fn is_sound(self) -> bool
-        ensures { result ≡ sound (withBody self []) }
+        ensures { result ≡ sound (with_body self []) }
     {
         if self.waiting > 1 {
             return false;
@@ -92,7 +92,7 @@ impl Head {
 
     // A start, whose first literal is the status.
     fn open(mut self, status: u8) -> Head
-        ensures { (body : List ℕ) → withBody result body ≡ opened (withBody self body) status }
+        ensures { (body : List ℕ) → with_body result body ≡ opened (with_body self body) status }
     {
         self.waiting = 0;
         self.phase = phase_at(0, data_length(status, self.expected));
@@ -103,8 +103,8 @@ impl Head {
     }
 
     fn store(mut self, byte: u8) -> Stepped
-        requires { self.have < mostData }
-        ensures { ((body : List ℕ) → silent (stored (withBody self body) byte) ≡ headStep result body) × (reach result.asks ≤ mostData) }
+        requires { self.have < most_data }
+        ensures { ((body : List ℕ) → silent (stored (with_body self body) byte) ≡ head_step result body) × (reach result.asks ≤ most_data) }
     {
         let at = self.have;
         self.waiting = 0;
@@ -119,8 +119,8 @@ impl Head {
 
     // The sum byte: data are handed out only where all adds up.
     fn finish(mut self, byte: u8) -> Stepped
-        requires { self.have ≤ mostData }
-        ensures { ((body : List ℕ) → finished (withBody self body) byte ≡ headStep result body) × (reach result.asks ≤ mostData) }
+        requires { self.have ≤ most_data }
+        ensures { ((body : List ℕ) → finished (with_body self body) byte ≡ head_step result body) × (reach result.asks ≤ most_data) }
     {
         self.waiting = 0;
         self.phase = IDLE;
@@ -141,8 +141,8 @@ impl Head {
     }
 
     fn take_literal(mut self, byte: u8) -> Stepped
-        requires { sound (withBody self []) ≡ true }
-        ensures { ((body : List ℕ) → literal (withBody self body) byte ≡ headStep result body) × (reach result.asks ≤ mostData) }
+        requires { sound (with_body self []) ≡ true }
+        ensures { ((body : List ℕ) → literal (with_body self body) byte ≡ head_step result body) × (reach result.asks ≤ most_data) }
     {
         if self.phase == DATA {
             return self.store(byte);
@@ -159,8 +159,8 @@ impl Head {
 
     // Who asks has checked the bounds.
     pub fn step(mut self, byte: u8) -> Stepped
-        requires { sound (withBody self []) ≡ true }
-        ensures { ((body : List ℕ) → stepped (withBody self body) byte ≡ headStep result body) × (reach result.asks ≤ mostData) }
+        requires { sound (with_body self []) ≡ true }
+        ensures { ((body : List ℕ) → stepped (with_body self body) byte ≡ head_step result body) × (reach result.asks ≤ most_data) }
     {
         let waits = self.waiting == 1;
         if byte == PLUS {

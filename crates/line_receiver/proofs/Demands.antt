@@ -5,41 +5,41 @@ use mathlib.Core.Path.{◌≡◌, refl, sym, ◌∙◌, ap}
 use mathlib.Core.List.{List, [], ◌∷◌, ◌++◌, map, nil≢cons, head-eq_of_cons-eq, tail-eq_of_cons-eq}
 use mathlib.Core.Bool.{true, false}
 use lib.ListN.{length, take, get_or}
-use Rattle.document.specs.Message.{Message, lengthPart, wellFormed, onWire, summed, finishedBy}
-use Rattle.line_wire.proofs.RightSum.{sum-right}
-use Rattle.line_wire.proofs.Resync.{message-last, message-before, message-settled}
-use Rattle.line_wire.proofs.Half.{EndsWith, whole-on-wire, no_other}
+use Rattle.document.specs.Message.{Message, length_part, well_formed, on_wire, summed, finished_by}
+use Rattle.line_wire.proofs.RightSum.{sum_right_lem}
+use Rattle.line_wire.proofs.Resync.{message_last, message_before, message_settled}
+use Rattle.line_wire.proofs.Half.{EndsWith, whole_on_wire, no_other}
 use Rattle.line_receiver.specs.Report.{HeldMessage, held, reporting}
-use Rattle.line_receiver.specs.Runs.{oddRun}
+use Rattle.line_receiver.specs.Runs.{odd_run}
 use Rattle.line_receiver.specs.Demands.{OnlyAtLast, EndIn, ReportOfWhole}
-use Rattle.line_receiver.proofs.Runs.{waits-odd}
+use Rattle.line_receiver.proofs.Runs.{waits_odd}
 use Rattle.line_receiver.proofs.Reports.{reports}
 
 -- ---- the definition
 -- Behind an even run or none, a well-formed message is found at its last byte.
-pub found-after-even : (bs : List ℕ) (m : Message) → oddRun bs ≡ false → wellFormed m ≡ true →
-    OnlyAtLast finishedBy bs (onWire m) m
-found-after-even bs m even formed =
+pub found_after_even : (bs : List ℕ) (m : Message) → odd_run bs ≡ false → well_formed m ≡ true →
+    OnlyAtLast finished_by bs (on_wire m) m
+found_after_even bs m even formed =
     record {
-      last = message-last m formed bs (waits-odd bs ∙ even);
-      before = message-before m formed bs (waits-odd bs ∙ even);
+      last = message_last m formed bs (waits_odd bs ∙ even);
+      before = message_before m formed bs (waits_odd bs ∙ even);
     }
 
 -- Behind any run, so also behind an odd one, the next message sent directly behind the first is.
-pub found-next : (bs : List ℕ) (m next : Message) → wellFormed m ≡ true → wellFormed next ≡ true →
-    OnlyAtLast finishedBy (bs ++ onWire m) (onWire next) next
-found-next bs m next formed formed' =
-    found-after-even (bs ++ onWire m) next (sym (waits-odd (bs ++ onWire m)) ∙ message-settled m formed bs) formed'
+pub found_next : (bs : List ℕ) (m next : Message) → well_formed m ≡ true → well_formed next ≡ true →
+    OnlyAtLast finished_by (bs ++ on_wire m) (on_wire next) next
+found_next bs m next formed formed' =
+    found_after_even (bs ++ on_wire m) next (sym (waits_odd (bs ++ on_wire m)) ∙ message_settled m formed bs) formed'
 
 -- A byte that finishes a message ends exactly that message, and finishes no other.
-pub finishes-whole : (bs : List ℕ) (b : ℕ) → ((i : ℕ) → get_or (bs ++ (b ∷ [])) i 0 < 256) →
+pub finishes_whole : (bs : List ℕ) (b : ℕ) → ((i : ℕ) → get_or (bs ++ (b ∷ [])) i 0 < 256) →
     (m : Message) (more : List Message) →
-    finishedBy bs b ≡ m ∷ more → EndIn (bs ++ (b ∷ [])) m × (more ≡ [])
-finishes-whole bs b bytes m more finished =
-    let whole : EndsWith (bs ++ (b ∷ [])) m = whole-on-wire bs b bytes m more finished in (
+    finished_by bs b ≡ m ∷ more → EndIn (bs ++ (b ∷ [])) m × (more ≡ [])
+finishes_whole bs b bytes m more finished =
+    let whole : EndsWith (bs ++ (b ∷ [])) m = whole_on_wire bs b bytes m more finished in (
       record {
         before = whole.before;
-        evenRun = sym (waits-odd whole.before) ∙ whole.settled;
+        even_run = sym (waits_odd whole.before) ∙ whole.settled;
         sent = whole.there;
         formed = whole.formed;
       },
@@ -48,9 +48,9 @@ finishes-whole bs b bytes m more finished =
 
 -- ---- the receiver, whatever the 64 bytes beside it held at reset
 module _ (body : List ℕ) (full : length body ≡ 64) where
-  reported-too : (bs sent : List ℕ) (m : Message) → OnlyAtLast finishedBy bs sent m →
+  reported_too : (bs sent : List ℕ) (m : Message) → OnlyAtLast finished_by bs sent m →
       OnlyAtLast (reporting body) bs sent (held m)
-  reported-too bs sent m found =
+  reported_too bs sent m found =
       record {
         last =
             λ front b e. reports body full (bs ++ front) b ∙ ap (λ (ms : List Message). map held ms)
@@ -60,36 +60,36 @@ module _ (body : List ℕ) (full : length body ≡ 64) where
             (found.before front b next rest e);
       }
 
-  pub resync-after-even : (bs : List ℕ) (m : Message) → oddRun bs ≡ false → wellFormed m ≡ true →
-      OnlyAtLast (reporting body) bs (onWire m) (held m)
-  resync-after-even bs m even formed = reported-too bs (onWire m) m (found-after-even bs m even formed)
+  pub resync_after_even : (bs : List ℕ) (m : Message) → odd_run bs ≡ false → well_formed m ≡ true →
+      OnlyAtLast (reporting body) bs (on_wire m) (held m)
+  resync_after_even bs m even formed = reported_too bs (on_wire m) m (found_after_even bs m even formed)
 
-  pub resync-next : (bs : List ℕ) (m next : Message) → wellFormed m ≡ true → wellFormed next ≡ true →
-      OnlyAtLast (reporting body) (bs ++ onWire m) (onWire next) (held next)
-  resync-next bs m next formed formed' =
-      reported-too (bs ++ onWire m) (onWire next) next (found-next bs m next formed formed')
+  pub resync_next : (bs : List ℕ) (m next : Message) → well_formed m ≡ true → well_formed next ≡ true →
+      OnlyAtLast (reporting body) (bs ++ on_wire m) (on_wire next) (held next)
+  resync_next bs m next formed formed' =
+      reported_too (bs ++ on_wire m) (on_wire next) next (found_next bs m next formed formed')
 
   -- What the command writer writes is reported as that message, its sum right.
-  pub command-reported : (bs : List ℕ) (c : ℕ) (data' : List ℕ) → oddRun bs ≡ false →
-      wellFormed (summed c data') ≡ true →
-      OnlyAtLast (reporting body) bs (onWire (summed c data'))
+  pub command_reported : (bs : List ℕ) (c : ℕ) (data' : List ℕ) → odd_run bs ≡ false →
+      well_formed (summed c data') ≡ true →
+      OnlyAtLast (reporting body) bs (on_wire (summed c data'))
       (record { command = c; length = length data'; kept = take 64 data'; sum = 0 })
-  command-reported bs c data' even formed =
-      rw (sum-right (c ∷ lengthPart c data' ++ data')) at (resync-after-even bs (summed c data') even formed)
+  command_reported bs c data' even formed =
+      rw (sum_right_lem (c ∷ length_part c data' ++ data')) at (resync_after_even bs (summed c data') even formed)
 
   -- Nothing by half: a report is of a whole message that ends with this byte, and there is one at most.
-  of-whole : (bs : List ℕ) (b : ℕ) → ((i : ℕ) → get_or (bs ++ (b ∷ [])) i 0 < 256) →
+  of_whole : (bs : List ℕ) (b : ℕ) → ((i : ℕ) → get_or (bs ++ (b ∷ [])) i 0 < 256) →
       (report : HeldMessage) (more : List HeldMessage) (ms : List Message) →
-      finishedBy bs b ≡ ms → map held ms ≡ report ∷ more → ReportOfWhole (bs ++ (b ∷ [])) report × (more ≡ [])
-  of-whole bs b bytes report more [] finished e = absurd (nil≢cons e)
-  of-whole bs b bytes report more (m ∷ ms) finished e =
-      let whole : EndIn (bs ++ (b ∷ [])) m × (ms ≡ []) = finishes-whole bs b bytes m ms finished in (
+      finished_by bs b ≡ ms → map held ms ≡ report ∷ more → ReportOfWhole (bs ++ (b ∷ [])) report × (more ≡ [])
+  of_whole bs b bytes report more [] finished e = absurd (nil≢cons e)
+  of_whole bs b bytes report more (m ∷ ms) finished e =
+      let whole : EndIn (bs ++ (b ∷ [])) m × (ms ≡ []) = finishes_whole bs b bytes m ms finished in (
         record { message = m; shown = head-eq_of_cons-eq e; sent = whole.0 },
         sym (rw whole.1 at (tail-eq_of_cons-eq e)),
       )
 
-  pub nothing-by-half : (bs : List ℕ) (b : ℕ) → ((i : ℕ) → get_or (bs ++ (b ∷ [])) i 0 < 256) →
+  pub nothing_by_half : (bs : List ℕ) (b : ℕ) → ((i : ℕ) → get_or (bs ++ (b ∷ [])) i 0 < 256) →
       (report : HeldMessage) (more : List HeldMessage) →
       reporting body bs b ≡ report ∷ more → ReportOfWhole (bs ++ (b ∷ [])) report × (more ≡ [])
-  nothing-by-half bs b bytes report more e =
-      of-whole bs b bytes report more (finishedBy bs b) refl (sym (reports body full bs b) ∙ e)
+  nothing_by_half bs b bytes report more e =
+      of_whole bs b bytes report more (finished_by bs b) refl (sym (reports body full bs b) ∙ e)

@@ -6,91 +6,91 @@ use native.Mathlib.Omega.{arith}
 use borrow.Author.Tests.{ltb-true, ltb-false, eqb-true, not-true, eq-eqb, lt-ltb}
 use lib.Dec.{ltb, leb, eqb}
 use Rattle.document.specs.Numbers as numbers
-use Rattle.document.specs.Kinds.{hasLengthByte, fastLength}
+use Rattle.document.specs.Kinds.{has_length_byte, fast_length}
 use Rattle.document.proofs.Cases.{split, and_left, and_right}
 use Rattle.line_receiver.specs.declared.Receiver.{Receiver}
 use Rattle.line_receiver.specs.declared.Reaction.{Reaction}
 use Rattle.line_receiver.specs.declared.Event.TheVariants.{Nothing, Keep, Whole}
-use Rattle.line_receiver.specs.Bounds.{idle, lengthNext, dataNext, sumNext, fresh, lengthRight, insideSound, sound}
-use Rattle.line_receiver.specs.Step.{plus, nextPhase, more, opened, measured, counted, closed, added, afterLiteral, literalEvent, withWaiting, afterByte, byteEvent, stepped}
+use Rattle.line_receiver.specs.Bounds.{idle, length_next, data_next, sum_next, fresh, length_right, inside_sound, sound}
+use Rattle.line_receiver.specs.Step.{plus, next_phase, more, opened, measured, counted, closed, added, after_literal, literal_event, with_waiting, after_byte, byte_event, stepped}
 
 -- ---- the bounds over plain numbers
-abbrev pub inBounds : ℕ → ℕ → ℕ → ℕ → ℕ → Bool
-inBounds waiting phase c n have =
-    leb waiting 1 && (eqb phase idle || (not (eqb c 0x2B) && insideSound phase c n have))
+abbrev pub in_bounds : ℕ → ℕ → ℕ → ℕ → ℕ → Bool
+in_bounds waiting phase c n have =
+    leb waiting 1 && (eqb phase idle || (not (eqb c 0x2B) && inside_sound phase c n have))
 
 module _ (waiting phase c n have : ℕ) where
-  in_bounds : leb waiting 1 ≡ true → eqb c 0x2B ≡ false → insideSound phase c n have ≡ true →
-      inBounds waiting phase c n have ≡ true
-  in_bounds w other inside = split (eqb phase idle) (λ e. rw (w, e) refl) (λ e. rw (w, e, other, inside) refl)
+  in_bounds_lem : leb waiting 1 ≡ true → eqb c 0x2B ≡ false → inside_sound phase c n have ≡ true →
+      in_bounds waiting phase c n have ≡ true
+  in_bounds_lem w other inside = split (eqb phase idle) (λ e. rw (w, e) refl) (λ e. rw (w, e, other, inside) refl)
 
-  idle-in-bounds : leb waiting 1 ≡ true → eqb phase idle ≡ true → inBounds waiting phase c n have ≡ true
-  idle-in-bounds w e = rw (w, e) refl
+  idle_in_bounds : leb waiting 1 ≡ true → eqb phase idle ≡ true → in_bounds waiting phase c n have ≡ true
+  idle_in_bounds w e = rw (w, e) refl
 
-  module _ (bounds : inBounds waiting phase c n have ≡ true) where
-    pub waiting-in : leb waiting 1 ≡ true
-    waiting-in = and_left (leb waiting 1) _ bounds
+  module _ (bounds : in_bounds waiting phase c n have ≡ true) where
+    pub waiting_in_lem : leb waiting 1 ≡ true
+    waiting_in_lem = and_left (leb waiting 1) _ bounds
 
-    pub inside-in : eqb phase idle ≡ false → not (eqb c 0x2B) && insideSound phase c n have ≡ true
-    inside-in inside =
+    pub inside_in : eqb phase idle ≡ false → not (eqb c 0x2B) && inside_sound phase c n have ≡ true
+    inside_in inside =
         rw inside at (and_right (leb waiting 1) (eqb phase idle || (not
-        (eqb c 0x2B) && insideSound phase c n have)) bounds)
+        (eqb c 0x2B) && inside_sound phase c n have)) bounds)
 
-    pub command-in : eqb phase idle ≡ false → eqb c 0x2B ≡ false
-    command-in inside = not-true _ (and_left (not (eqb c 0x2B)) _ (inside-in inside))
+    pub command_in_lem : eqb phase idle ≡ false → eqb c 0x2B ≡ false
+    command_in_lem inside = not-true _ (and_left (not (eqb c 0x2B)) _ (inside_in inside))
 
-    pub phase-in : eqb phase idle ≡ false → insideSound phase c n have ≡ true
-    phase-in inside = and_right (not (eqb c 0x2B)) _ (inside-in inside)
+    pub phase_in : eqb phase idle ≡ false → inside_sound phase c n have ≡ true
+    phase_in inside = and_right (not (eqb c 0x2B)) _ (inside_in inside)
 
 -- ---- by phase
-pub other-phase : (phase p q : ℕ) → eqb phase p ≡ true → eqb p q ≡ false → eqb phase q ≡ false
-other-phase phase p q e apart = rw (eqb-true phase p e) apart
+pub other_phase : (phase p q : ℕ) → eqb phase p ≡ true → eqb p q ≡ false → eqb phase q ≡ false
+other_phase phase p q e apart = rw (eqb-true phase p e) apart
 
-pub by-phase : {P : Type 0} (phase : ℕ) → (eqb phase dataNext ≡ true → P) → (eqb phase sumNext ≡ true → P) →
-    (eqb phase lengthNext ≡ true → P) → (eqb phase dataNext ≡ false → eqb phase sumNext ≡ false →
-    eqb phase lengthNext ≡ false → P) → P
-by-phase phase onData onSum onLength onNone =
-    split (eqb phase dataNext)
+pub by_phase : {P : Type 0} (phase : ℕ) → (eqb phase data_next ≡ true → P) → (eqb phase sum_next ≡ true → P) →
+    (eqb phase length_next ≡ true → P) → (eqb phase data_next ≡ false → eqb phase sum_next ≡ false →
+    eqb phase length_next ≡ false → P) → P
+by_phase phase onData onSum onLength onNone =
+    split (eqb phase data_next)
     onData
-    (λ d. split (eqb phase sumNext)
+    (λ d. split (eqb phase sum_next)
     onSum
-    (λ s. split (eqb phase lengthNext) onLength (λ l. onNone d s l)))
+    (λ s. split (eqb phase length_next) onLength (λ l. onNone d s l)))
 
-module _ (waiting phase c n have : ℕ) (bounds : inBounds waiting phase c n have ≡ true) where
-  pub data-in : eqb phase dataNext ≡ true → (lengthRight c n ≡ true) × (have < n)
-  data-in e =
-      let inside : lengthRight c n && ltb have n ≡ true =
-      rw e at (phase-in waiting phase c n have bounds (other-phase phase dataNext idle e refl)) in (
-        and_left (lengthRight c n) (ltb have n) inside,
-        ltb-true have n (and_right (lengthRight c n) (ltb have n) inside),
+module _ (waiting phase c n have : ℕ) (bounds : in_bounds waiting phase c n have ≡ true) where
+  pub data_in : eqb phase data_next ≡ true → (length_right c n ≡ true) × (have < n)
+  data_in e =
+      let inside : length_right c n && ltb have n ≡ true =
+      rw e at (phase_in waiting phase c n have bounds (other_phase phase data_next idle e refl)) in (
+        and_left (length_right c n) (ltb have n) inside,
+        ltb-true have n (and_right (length_right c n) (ltb have n) inside),
       )
 
-  pub sum-in : eqb phase sumNext ≡ true → (lengthRight c n ≡ true) × (have ≡ n)
-  sum-in e =
-      let inside : lengthRight c n && eqb have n ≡ true =
+  pub sum_in : eqb phase sum_next ≡ true → (length_right c n ≡ true) × (have ≡ n)
+  sum_in e =
+      let inside : length_right c n && eqb have n ≡ true =
       rw (
-        other-phase phase sumNext dataNext e refl,
+        other_phase phase sum_next data_next e refl,
         e,
-      ) at (phase-in waiting phase c n have bounds (other-phase phase sumNext idle e refl)) in (
-        and_left (lengthRight c n) (eqb have n) inside,
-        eqb-true have n (and_right (lengthRight c n) (eqb have n) inside),
+      ) at (phase_in waiting phase c n have bounds (other_phase phase sum_next idle e refl)) in (
+        and_left (length_right c n) (eqb have n) inside,
+        eqb-true have n (and_right (length_right c n) (eqb have n) inside),
       )
 
-  pub length-in : eqb phase lengthNext ≡ true → (hasLengthByte c ≡ true) × (have ≡ 0)
-  length-in e =
-      let inside : hasLengthByte c && eqb have 0 ≡ true =
+  pub length_in_lem : eqb phase length_next ≡ true → (has_length_byte c ≡ true) × (have ≡ 0)
+  length_in_lem e =
+      let inside : has_length_byte c && eqb have 0 ≡ true =
       rw (
-        other-phase phase lengthNext dataNext e refl,
-        other-phase phase lengthNext sumNext e refl,
+        other_phase phase length_next data_next e refl,
+        other_phase phase length_next sum_next e refl,
         e,
-      ) at (phase-in waiting phase c n have bounds (other-phase phase lengthNext idle e refl)) in (
-        and_left (hasLengthByte c) (eqb have 0) inside,
-        eqb-true have 0 (and_right (hasLengthByte c) (eqb have 0) inside),
+      ) at (phase_in waiting phase c n have bounds (other_phase phase length_next idle e refl)) in (
+        and_left (has_length_byte c) (eqb have 0) inside,
+        eqb-true have 0 (and_right (has_length_byte c) (eqb have 0) inside),
       )
 
 -- a message's next phase is within bounds
-next-inside : (c n have : ℕ) → have ≤ n → lengthRight c n ≡ true → insideSound (nextPhase have n) c n have ≡ true
-next-inside c n have fits right =
+next_inside : (c n have : ℕ) → have ≤ n → length_right c n ≡ true → inside_sound (next_phase have n) c n have ≡ true
+next_inside c n have fits right =
     split (ltb have n)
     (λ t. rw (t, right) refl)
     (λ f. let e : have ≡ n = omega (arith, ltb-false have n f) in rw (f, right, eq-eqb have n e) refl)
@@ -99,116 +99,116 @@ next-inside c n have fits right =
 abbrev pub nothing : Receiver → Reaction
 nothing r = record { next = r; event = Nothing }
 
-unfoldable pub literalTaken : Receiver → ℕ → Reaction
-literalTaken r l = record { next = afterLiteral r l; event = literalEvent r l }
+unfoldable pub literal_taken : Receiver → ℕ → Reaction
+literal_taken r l = record { next = after_literal r l; event = literal_event r l }
 
 module _ (r : Receiver) (l : ℕ) where
-  pub literal-data : eqb r.phase dataNext ≡ true → literalTaken r l ≡ record {
+  pub literal_data : eqb r.phase data_next ≡ true → literal_taken r l ≡ record {
     next =
         counted r l;
     event = cond (ltb r.have 64) (Keep r.have l) Nothing;
   }
-  unfolding literalTaken
-  literal-data e = rw e refl
+  unfolding literal_taken
+  literal_data e = rw e refl
 
-  pub literal-sum : eqb r.phase sumNext ≡ true → literalTaken r l ≡ record {
+  pub literal_sum : eqb r.phase sum_next ≡ true → literal_taken r l ≡ record {
     next =
         closed r l;
     event = Whole r.command r.length (added r.sum l);
   }
-  unfolding literalTaken
-  literal-sum e = rw (other-phase r.phase sumNext dataNext e refl, e) refl
+  unfolding literal_taken
+  literal_sum e = rw (other_phase r.phase sum_next data_next e refl, e) refl
 
-  pub literal-length : eqb r.phase lengthNext ≡ true → literalTaken r l ≡ nothing (measured r l)
-  unfolding literalTaken
-  literal-length e =
-      rw (other-phase r.phase lengthNext dataNext e refl, other-phase r.phase lengthNext sumNext e refl, e) refl
+  pub literal_length : eqb r.phase length_next ≡ true → literal_taken r l ≡ nothing (measured r l)
+  unfolding literal_taken
+  literal_length e =
+      rw (other_phase r.phase length_next data_next e refl, other_phase r.phase length_next sum_next e refl, e) refl
 
-  pub literal-outside : eqb r.phase dataNext ≡ false → eqb r.phase sumNext ≡ false →
-      eqb r.phase lengthNext ≡ false → literalTaken r l ≡ nothing r
-  unfolding literalTaken
-  literal-outside d s e = rw (d, s, e) refl
+  pub literal_outside : eqb r.phase data_next ≡ false → eqb r.phase sum_next ≡ false →
+      eqb r.phase length_next ≡ false → literal_taken r l ≡ nothing r
+  unfolding literal_taken
+  literal_outside d s e = rw (d, s, e) refl
 
 -- ---- a step keeps the bounds
 module _ (r : Receiver) (bounds : sound r ≡ true) where
-  bounds_of : inBounds r.waiting r.phase r.command r.length r.have ≡ true
+  bounds_of : in_bounds r.waiting r.phase r.command r.length r.have ≡ true
   unfolding sound
   bounds_of = bounds
 
-  pub waiting-of : leb r.waiting 1 ≡ true
-  waiting-of = waiting-in r.waiting r.phase r.command r.length r.have bounds_of
+  pub waiting_of : leb r.waiting 1 ≡ true
+  waiting_of = waiting_in_lem r.waiting r.phase r.command r.length r.have bounds_of
 
-  command-of : (p : ℕ) → eqb r.phase p ≡ true → eqb p idle ≡ false → eqb r.command 0x2B ≡ false
-  command-of p e inside =
-      command-in r.waiting r.phase r.command r.length r.have bounds_of (other-phase
+  command_of_lem : (p : ℕ) → eqb r.phase p ≡ true → eqb p idle ≡ false → eqb r.command 0x2B ≡ false
+  command_of_lem p e inside =
+      command_in_lem r.waiting r.phase r.command r.length r.have bounds_of (other_phase
       r.phase p idle e inside)
 
-  pub data_of : eqb r.phase dataNext ≡ true → (lengthRight r.command r.length ≡ true) × (r.have < r.length)
-  data_of = data-in r.waiting r.phase r.command r.length r.have bounds_of
+  pub data_of : eqb r.phase data_next ≡ true → (length_right r.command r.length ≡ true) × (r.have < r.length)
+  data_of = data_in r.waiting r.phase r.command r.length r.have bounds_of
 
-  pub sum_of : eqb r.phase sumNext ≡ true → (lengthRight r.command r.length ≡ true) × (r.have ≡ r.length)
-  sum_of = sum-in r.waiting r.phase r.command r.length r.have bounds_of
+  pub sum_of : eqb r.phase sum_next ≡ true → (length_right r.command r.length ≡ true) × (r.have ≡ r.length)
+  sum_of = sum_in r.waiting r.phase r.command r.length r.have bounds_of
 
-  pub length-of : eqb r.phase lengthNext ≡ true → (hasLengthByte r.command ≡ true) × (r.have ≡ 0)
-  length-of = length-in r.waiting r.phase r.command r.length r.have bounds_of
+  pub length_of_lem : eqb r.phase length_next ≡ true → (has_length_byte r.command ≡ true) × (r.have ≡ 0)
+  length_of_lem = length_in_lem r.waiting r.phase r.command r.length r.have bounds_of
 
-  counted-sound : (l : ℕ) → eqb r.phase dataNext ≡ true → sound (counted r l) ≡ true
+  counted_sound : (l : ℕ) → eqb r.phase data_next ≡ true → sound (counted r l) ≡ true
   unfolding sound
-  counted-sound l e =
+  counted_sound l e =
       let one : more r.have r.length ≡ r.have + 1 = rw (lt-ltb r.have r.length (data_of e).1) refl in
       rw one
-      (in_bounds r.waiting (nextPhase (r.have + 1) r.length) r.command r.length
-      (r.have + 1) waiting-of (command-of dataNext e refl)
-      (next-inside r.command r.length (r.have + 1) (omega (arith, (data_of e).1)) (data_of e).0))
+      (in_bounds_lem r.waiting (next_phase (r.have + 1) r.length) r.command r.length
+      (r.have + 1) waiting_of (command_of_lem data_next e refl)
+      (next_inside r.command r.length (r.have + 1) (omega (arith, (data_of e).1)) (data_of e).0))
 
-  closed-sound : (l : ℕ) → sound (closed r l) ≡ true
+  closed_sound : (l : ℕ) → sound (closed r l) ≡ true
   unfolding sound
-  closed-sound l = idle-in-bounds r.waiting idle r.command r.length r.have waiting-of refl
+  closed_sound l = idle_in_bounds r.waiting idle r.command r.length r.have waiting_of refl
 
-  measured-sound : (l : ℕ) → eqb r.phase lengthNext ≡ true → sound (measured r l) ≡ true
+  measured_sound : (l : ℕ) → eqb r.phase length_next ≡ true → sound (measured r l) ≡ true
   unfolding sound
-  measured-sound l e =
-      in_bounds r.waiting (nextPhase r.have l) r.command l r.have waiting-of
-      (command-of lengthNext e refl)
-      (next-inside r.command l r.have (omega (arith, (length-of e).1)) (rw (length-of e).0 refl))
+  measured_sound l e =
+      in_bounds_lem r.waiting (next_phase r.have l) r.command l r.have waiting_of
+      (command_of_lem length_next e refl)
+      (next_inside r.command l r.have (omega (arith, (length_of_lem e).1)) (rw (length_of_lem e).0 refl))
 
-  literal-sound : (l : ℕ) → sound (literalTaken r l).next ≡ true
-  literal-sound l =
-      by-phase r.phase
-      (λ e. rw (literal-data r l e) (counted-sound l e))
-      (λ e. rw (literal-sum r l e) (closed-sound l))
-      (λ e. rw (literal-length r l e) (measured-sound l e))
-      (λ d s e. rw (literal-outside r l d s e) bounds)
+  literal_sound : (l : ℕ) → sound (literal_taken r l).next ≡ true
+  literal_sound l =
+      by_phase r.phase
+      (λ e. rw (literal_data r l e) (counted_sound l e))
+      (λ e. rw (literal_sum r l e) (closed_sound l))
+      (λ e. rw (literal_length r l e) (measured_sound l e))
+      (λ d s e. rw (literal_outside r l d s e) bounds)
 
-  pub waiting-sound : (w : ℕ) → leb w 1 ≡ true → sound (withWaiting w r) ≡ true
+  pub waiting_sound : (w : ℕ) → leb w 1 ≡ true → sound (with_waiting w r) ≡ true
   unfolding sound
-  waiting-sound w ok = rw ok (and_right (leb r.waiting 1) _ bounds_of)
+  waiting_sound w ok = rw ok (and_right (leb r.waiting 1) _ bounds_of)
 
-opened-sound : (c : ℕ) → eqb c 0x2B ≡ false → sound (opened c) ≡ true
+opened_sound : (c : ℕ) → eqb c 0x2B ≡ false → sound (opened c) ≡ true
 unfolding sound
-opened-sound c other =
-    split (hasLengthByte c)
+opened_sound c other =
+    split (has_length_byte c)
     (λ standard. rw (standard, other) refl)
-    (λ fast. let right : lengthRight c (fastLength c) ≡ true = rw (
+    (λ fast. let right : length_right c (fast_length c) ≡ true = rw (
       fast,
-      eq-eqb (fastLength c) (fastLength c) refl,
+      eq-eqb (fast_length c) (fast_length c) refl,
     ) refl in
-    let inside : insideSound (nextPhase 0 (fastLength c)) c (fastLength c) 0 ≡ true =
-    next-inside c (fastLength c) 0 (omega arith) right in
-    rw fast (rw fast at (in_bounds 0 (nextPhase 0 (fastLength c)) c (fastLength c) 0 refl other inside)))
+    let inside : inside_sound (next_phase 0 (fast_length c)) c (fast_length c) 0 ≡ true =
+    next_inside c (fast_length c) 0 (omega arith) right in
+    rw fast (rw fast at (in_bounds_lem 0 (next_phase 0 (fast_length c)) c (fast_length c) 0 refl other inside)))
 
-pub plus-is : (b : ℕ) → eqb (plus b) 1 ≡ eqb b 0x2B
-plus-is b = split (eqb b 0x2B) (λ plus. rw plus refl) (λ other. rw other refl)
+pub plus_is : (b : ℕ) → eqb (plus b) 1 ≡ eqb b 0x2B
+plus_is b = split (eqb b 0x2B) (λ plus. rw plus refl) (λ other. rw other refl)
 
-pub step-sound : (r : Receiver) (b : ℕ) → sound r ≡ true → sound (stepped r b).next ≡ true
-unfolding stepped afterByte byteEvent literalTaken
-step-sound r b bounds =
+pub step_sound : (r : Receiver) (b : ℕ) → sound r ≡ true → sound (stepped r b).next ≡ true
+unfolding stepped after_byte byte_event literal_taken
+step_sound r b bounds =
     split (eqb (plus b) r.waiting)
-    (λ e. rw e (literal-sound (withWaiting 0 r) (waiting-sound r bounds 0 refl) b))
+    (λ e. rw e (literal_sound (with_waiting 0 r) (waiting_sound r bounds 0 refl) b))
     (λ e. split (eqb b 0x2B)
-    (λ plus. rw (e, plus-is b, plus) (waiting-sound r bounds 1 refl))
-    (λ other. rw (e, plus-is b, other) (opened-sound b other)))
+    (λ plus. rw (e, plus_is b, plus) (waiting_sound r bounds 1 refl))
+    (λ other. rw (e, plus_is b, other) (opened_sound b other)))
 
-pub reset-sound : sound fresh ≡ true
+pub reset_sound : sound fresh ≡ true
 unfolding sound
-reset-sound = refl
+reset_sound = refl

@@ -1,8 +1,8 @@
 -- What demand 3 says of bytes, in its words: a thing that comes with its last byte, once, and bytes that end in a
 -- whole message.
 use Rattle.std.specs.Prelude.{ℕ, ◌≡◌, List, [], ◌∷◌, ◌++◌, true, false}
-use Rattle.document.specs.Message.{Message, wellFormed, onWire}
-use Rattle.line_receiver.specs.Runs.{oddRun}
+use Rattle.document.specs.Message.{Message, well_formed, on_wire}
+use Rattle.line_receiver.specs.Runs.{odd_run}
 use Rattle.line_receiver.specs.Report.{HeldMessage, held}
 
 -- Where `brings bs b` is what the byte b brings behind the bytes bs: of `sent`, behind bs, the last byte brings just a,
@@ -16,9 +16,9 @@ pub record OnlyAtLast {A : Type 0} (brings : List ℕ → ℕ → List A) (bs se
 -- a start in the pairing of them all.
 pub record EndIn (bytes : List ℕ) (m : Message) : Type 0 where
   pub before : List ℕ
-  pub evenRun : oddRun before ≡ false
-  pub sent : bytes ≡ before ++ onWire m
-  pub formed : wellFormed m ≡ true
+  pub even_run : odd_run before ≡ false
+  pub sent : bytes ≡ before ++ on_wire m
+  pub formed : well_formed m ≡ true
 
 -- what is reported is all of such a message
 pub record ReportOfWhole (bytes : List ℕ) (report : HeldMessage) : Type 0 where

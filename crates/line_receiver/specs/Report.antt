@@ -2,7 +2,7 @@
 use Rattle.std.specs.Prelude.{ℕ, ◌%◌, length, take, set}
 use mathlib.Core.List.{List, [], ◌∷◌, ◌++◌, foldl}
 use Rattle.document.specs.Sum.{total}
-use Rattle.document.specs.Message.{Message, lengthPart}
+use Rattle.document.specs.Message.{Message, length_part}
 use Rattle.line_receiver.specs.declared.Receiver.{Receiver}
 use Rattle.line_receiver.specs.declared.Event.{Event}
 use Rattle.line_receiver.specs.declared.Event.TheVariants.{Nothing, Keep, Whole}
@@ -23,7 +23,7 @@ held m =
       command = m.command;
       length = length m.body;
       kept = take 64 m.body;
-      sum = total (m.command ∷ lengthPart m.command m.body ++ m.body ++ (m.sumByte ∷ [])) % 256;
+      sum = total (m.command ∷ length_part m.command m.body ++ m.body ++ (m.sum_byte ∷ [])) % 256;
     }
 
 pub record Beside : Type 0 where
@@ -37,26 +37,26 @@ body_after (Keep at byte) body = set body at byte
 body_after (Whole command length sum) body = body
 
 -- what an event reports
-abbrev pub reportOf : Event → List ℕ → List HeldMessage
-reportOf Nothing body = []
-reportOf (Keep at byte) body = []
-reportOf (Whole command length sum) body =
+abbrev pub report_of : Event → List ℕ → List HeldMessage
+report_of Nothing body = []
+report_of (Keep at byte) body = []
+report_of (Whole command length sum) body =
     record { command = command; length = length; kept = take length body; sum = sum } ∷ []
 
-abbrev pub onByte : Beside → ℕ → Beside
-onByte s b =
+abbrev pub on_byte : Beside → ℕ → Beside
+on_byte s b =
     record {
       receiver = (stepped s.receiver b).next;
       body = body_after (stepped s.receiver b).event s.body;
     }
 
-abbrev pub reportedAt : Beside → ℕ → List HeldMessage
-reportedAt s b = reportOf (stepped s.receiver b).event s.body
+abbrev pub reported_at : Beside → ℕ → List HeldMessage
+reported_at s b = report_of (stepped s.receiver b).event s.body
 
 -- a fresh receiver beside a body, after the bytes since reset
-abbrev pub sinceReset : List ℕ → List ℕ → Beside
-sinceReset body bs = foldl onByte (record { receiver = fresh; body = body }) bs
+abbrev pub since_reset : List ℕ → List ℕ → Beside
+since_reset body bs = foldl on_byte (record { receiver = fresh; body = body }) bs
 
 -- what is reported of the byte b behind the bytes bs since reset
 abbrev pub reporting : List ℕ → List ℕ → ℕ → List HeldMessage
-reporting body bs b = reportedAt (sinceReset body bs) b
+reporting body bs b = reported_at (since_reset body bs) b

@@ -1,11 +1,11 @@
 -- What the receiver does with a byte: the pairing of the line and the parts of a message, one byte at a time.
 use Rattle.std.specs.Prelude.{ℕ, ◌+◌, ◌%◌, cond, ltb, eqb}
-use Rattle.document.specs.Kinds.{hasLengthByte, fastLength}
+use Rattle.document.specs.Kinds.{has_length_byte, fast_length}
 use Rattle.line_receiver.specs.declared.Receiver.{Receiver}
 use Rattle.line_receiver.specs.declared.Reaction.{Reaction}
 use Rattle.line_receiver.specs.declared.Event.{Event}
 use Rattle.line_receiver.specs.declared.Event.TheVariants.{Nothing, Keep, Whole}
-use Rattle.line_receiver.specs.Bounds.{idle, lengthNext, dataNext, sumNext}
+use Rattle.line_receiver.specs.Bounds.{idle, length_next, data_next, sum_next}
 
 -- 1 for a 0x2B, 0 for any other byte
 abbrev pub plus : ℕ → ℕ
@@ -16,17 +16,17 @@ abbrev pub added : ℕ → ℕ → ℕ
 added sum l = (sum + l) % 256
 
 -- "Data and one sum byte follow.": data come next until all are there
-abbrev pub nextPhase : ℕ → ℕ → ℕ
-nextPhase have n = cond (ltb have n) dataNext sumNext
+abbrev pub next_phase : ℕ → ℕ → ℕ
+next_phase have n = cond (ltb have n) data_next sum_next
 
 -- "A start drops any unfinished message .. and opens a new one. The first literal after it is the command"
 abbrev pub opened : ℕ → Receiver
 opened c =
     record {
       waiting = 0;
-      phase = cond (hasLengthByte c) lengthNext (nextPhase 0 (fastLength c));
+      phase = cond (has_length_byte c) length_next (next_phase 0 (fast_length c));
       command = c;
-      length = cond (hasLengthByte c) 0 (fastLength c);
+      length = cond (has_length_byte c) 0 (fast_length c);
       have = 0;
       sum = c;
     }
@@ -36,7 +36,7 @@ abbrev pub measured : Receiver → ℕ → Receiver
 measured r n =
     record {
       waiting = r.waiting;
-      phase = nextPhase r.have n;
+      phase = next_phase r.have n;
       command = r.command;
       length = n;
       have = r.have;
@@ -51,7 +51,7 @@ abbrev pub counted : Receiver → ℕ → Receiver
 counted r l =
     record {
       waiting = r.waiting;
-      phase = nextPhase (more r.have r.length) r.length;
+      phase = next_phase (more r.have r.length) r.length;
       command = r.command;
       length = r.length;
       have = more r.have r.length;
@@ -71,34 +71,34 @@ closed r l =
     }
 
 -- "Literals outside a message are dropped."
-abbrev pub afterLiteral : Receiver → ℕ → Receiver
-afterLiteral r l =
-    cond (eqb r.phase dataNext)
+abbrev pub after_literal : Receiver → ℕ → Receiver
+after_literal r l =
+    cond (eqb r.phase data_next)
     (counted r l)
-    (cond (eqb r.phase sumNext) (closed r l) (cond (eqb r.phase lengthNext) (measured r l) r))
+    (cond (eqb r.phase sum_next) (closed r l) (cond (eqb r.phase length_next) (measured r l) r))
 
 -- "A data part holds at most 64 bytes": a byte behind those is counted and summed, and not kept. "The answer comes with
 -- the sum byte's last wire byte, once."
-abbrev pub literalEvent : Receiver → ℕ → Event
-literalEvent r l =
-    cond (eqb r.phase dataNext)
+abbrev pub literal_event : Receiver → ℕ → Event
+literal_event r l =
+    cond (eqb r.phase data_next)
     (cond (ltb r.have 64) (Keep r.have l) Nothing)
-    (cond (eqb r.phase sumNext) (Whole r.command r.length (added r.sum l)) Nothing)
+    (cond (eqb r.phase sum_next) (Whole r.command r.length (added r.sum l)) Nothing)
 
-abbrev pub withWaiting : ℕ → Receiver → Receiver
-withWaiting w r =
+abbrev pub with_waiting : ℕ → Receiver → Receiver
+with_waiting w r =
     record { waiting = w; phase = r.phase; command = r.command; length = r.length; have = r.have; sum = r.sum }
 
 -- "0x2B followed by 0x2B is one literal 0x2B. 0x2B followed by another byte is a start, and that other byte is a
 -- literal. A last 0x2B without a follower waits. All other bytes are literals."
-unfoldable pub afterByte : Receiver → ℕ → Receiver
-afterByte r b =
+unfoldable pub after_byte : Receiver → ℕ → Receiver
+after_byte r b =
     cond (eqb (plus b) r.waiting)
-    (afterLiteral (withWaiting 0 r) b)
-    (cond (eqb (plus b) 1) (withWaiting 1 r) (opened b))
+    (after_literal (with_waiting 0 r) b)
+    (cond (eqb (plus b) 1) (with_waiting 1 r) (opened b))
 
-unfoldable pub byteEvent : Receiver → ℕ → Event
-byteEvent r b = cond (eqb (plus b) r.waiting) (literalEvent r b) Nothing
+unfoldable pub byte_event : Receiver → ℕ → Event
+byte_event r b = cond (eqb (plus b) r.waiting) (literal_event r b) Nothing
 
 unfoldable pub stepped : Receiver → ℕ → Reaction
-stepped r b = record { next = afterByte r b; event = byteEvent r b }
+stepped r b = record { next = after_byte r b; event = byte_event r b }

@@ -1,6 +1,6 @@
 // What the receiver does with a byte, whatever its state: it waits, opens a message, or takes a literal.
 ghost use Rattle.std.specs.Prelude.{◌≡◌};
-ghost use Rattle.line_receiver.specs.Step.{plus, nextPhase, more, opened, measured, counted, closed, afterLiteral, literalEvent, afterByte, byteEvent, stepped};
+ghost use Rattle.line_receiver.specs.Step.{plus, next_phase, more, opened, measured, counted, closed, after_literal, literal_event, after_byte, byte_event, stepped};
 
 use crate::{DATA_NEXT, Event, IDLE, LENGTH_NEXT, Reaction, Receiver, SUM_NEXT};
 use codes_table::{FIRST_FAST, MOST_DATA_BYTE};
@@ -17,7 +17,7 @@ fn plus_of(byte: u8) -> u8
 }
 
 fn next_phase(have: u8, length: u8) -> u8
-    ensures { result ≡ nextPhase have length }
+    ensures { result ≡ next_phase have length }
 {
     if have < length {
         return DATA_NEXT;
@@ -80,7 +80,7 @@ impl Receiver {
     }
 
     fn after_literal(self, byte: u8) -> Receiver
-        ensures { result ≡ afterLiteral self byte }
+        ensures { result ≡ after_literal self byte }
     {
         if self.phase == DATA_NEXT {
             return self.count(byte);
@@ -95,7 +95,7 @@ impl Receiver {
     }
 
     fn literal_event(self, byte: u8) -> Event
-        ensures { result ≡ literalEvent self byte }
+        ensures { result ≡ literal_event self byte }
     {
         if self.phase == DATA_NEXT {
             let at = self.have;
@@ -115,7 +115,7 @@ impl Receiver {
     }
 
     fn after_byte(mut self, byte: u8) -> Receiver
-        ensures { result ≡ afterByte self byte }
+        ensures { result ≡ after_byte self byte }
     {
         let plus = plus_of(byte);
         if plus == self.waiting {
@@ -130,7 +130,7 @@ impl Receiver {
     }
 
     fn byte_event(self, byte: u8) -> Event
-        ensures { result ≡ byteEvent self byte }
+        ensures { result ≡ byte_event self byte }
     {
         if plus_of(byte) == self.waiting {
             return self.literal_event(byte);

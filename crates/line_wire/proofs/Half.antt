@@ -10,12 +10,12 @@ use lib.ListN.{length, drop, get_or, length-append}
 use lib.Seq.{take_at, get_or_at, get_or-append-add}
 use lib.Dec.{ltb, eqb}
 use Rattle.document.specs.Doubling.{stuffed}
-use Rattle.document.specs.Kinds.{hasLengthByte, fastLength}
-use Rattle.document.specs.Message.{Message, wellFormed, onWire, wholeMessage, afterLengthByte, ofLength, finishedBy}
+use Rattle.document.specs.Kinds.{has_length_byte, fast_length}
+use Rattle.document.specs.Message.{Message, well_formed, on_wire, whole_message, after_length_byte, of_length, finished_by}
 use Rattle.document.proofs.Cases.{split}
-use Rattle.line_wire.proofs.Grows.{message-alone}
-use Rattle.line_wire.proofs.Pairing.{waitsAfter, framed}
-use Rattle.line_wire.proofs.Machine.{foundBy, finished-found}
+use Rattle.line_wire.proofs.Grows.{message_alone}
+use Rattle.line_wire.proofs.Pairing.{waits_after, framed}
+use Rattle.line_wire.proofs.Machine.{found_by, finished_found}
 use Rattle.line_wire.proofs.Frames.{counted, message}
 use Rattle.line_wire.proofs.Ends.{Ends, ends}
 
@@ -25,10 +25,10 @@ record Counted {A : Type 0} (make : List ℕ → ℕ → A) (n : ℕ) (front : L
   made : make front l ≡ a
   only : more ≡ []
 
-counted-ends : {A : Type 0} (make : List ℕ → ℕ → A) (n : ℕ) (front : List ℕ) (l : ℕ) (a : A) (more : List A) →
+counted_ends : {A : Type 0} (make : List ℕ → ℕ → A) (n : ℕ) (front : List ℕ) (l : ℕ) (a : A) (more : List A) →
     drop (length (counted make n front)) (counted make n (front ++ (l ∷ []))) ≡ a ∷ more →
     Counted make n front l a more
-counted-ends make n front l a more e =
+counted_ends make n front l a more e =
     split (ltb n (length front))
     (λ t. let later : n < length (front ++ (l ∷ [])) = simp length-append (omega (
       arith,
@@ -52,18 +52,18 @@ counted-ends make n front l a more e =
 
 -- ---- the literals behind a start that finish a message
 record Finishes (c : ℕ) (ls : List ℕ) (m : Message) (more : List Message) : Type 0 where
-  sent : framed c ls ≡ onWire m
-  formed : get_or ls 0 0 < 256 → wellFormed m ≡ true
+  sent : framed c ls ≡ on_wire m
+  formed : get_or ls 0 0 < 256 → well_formed m ≡ true
   only : more ≡ []
 
 module _ (c : ℕ) (other : eqb c 0x2B ≡ false) (m : Message) (more : List Message) where
-  finishes-standard : (front : List ℕ) (l : ℕ) → hasLengthByte c ≡ true →
-      drop (length (afterLengthByte c front)) (afterLengthByte c (front ++ (l ∷ []))) ≡ m ∷ more →
+  finishes_standard : (front : List ℕ) (l : ℕ) → has_length_byte c ≡ true →
+      drop (length (after_length_byte c front)) (after_length_byte c (front ++ (l ∷ []))) ≡ m ∷ more →
       Finishes c (front ++ (l ∷ [])) m more
-  unfolding onWire wellFormed
-  finishes-standard [] l standard e = absurd (nil≢cons (rw (le-ltb l 0 (omega arith)) at e))
-  finishes-standard (n ∷ front) l standard e =
-      let counted : Counted (message c) n front l m more = counted-ends (message c) n front l m more e in
+  unfolding on_wire well_formed
+  finishes_standard [] l standard e = absurd (nil≢cons (rw (le-ltb l 0 (omega arith)) at e))
+  finishes_standard (n ∷ front) l standard e =
+      let counted : Counted (message c) n front l m more = counted_ends (message c) n front l m more e in
       record {
         sent = rw (← counted.made, standard, counted.all) refl;
         formed =
@@ -71,67 +71,67 @@ module _ (c : ℕ) (other : eqb c 0x2B ≡ false) (m : Message) (more : List Mes
         only = counted.only;
       }
 
-  finishes-fast : (front : List ℕ) (l : ℕ) → hasLengthByte c ≡ false →
-      drop (length (ofLength c (fastLength c) front)) (ofLength c (fastLength c) (front ++ (l ∷ []))) ≡ m ∷ more →
+  finishes_fast : (front : List ℕ) (l : ℕ) → has_length_byte c ≡ false →
+      drop (length (of_length c (fast_length c) front)) (of_length c (fast_length c) (front ++ (l ∷ []))) ≡ m ∷ more →
       Finishes c (front ++ (l ∷ [])) m more
-  unfolding onWire wellFormed
-  finishes-fast front l fast e =
-      let counted : Counted (message c) (fastLength c) front l m more = counted-ends (message c)
-      (fastLength c) front l m more e in
+  unfolding on_wire well_formed
+  finishes_fast front l fast e =
+      let counted : Counted (message c) (fast_length c) front l m more = counted_ends (message c)
+      (fast_length c) front l m more e in
       record {
         sent = rw (← counted.made, fast) refl;
         formed =
-            λ byte. rw (← counted.made, other, fast) (eq-eqb (length front) (fastLength c) (sym counted.all));
+            λ byte. rw (← counted.made, other, fast) (eq-eqb (length front) (fast_length c) (sym counted.all));
         only = counted.only;
       }
 
   finishes : (front : List ℕ) (l : ℕ) →
-      drop (length (wholeMessage (c ∷ front))) (wholeMessage (c ∷ front ++ (l ∷ []))) ≡ m ∷ more →
+      drop (length (whole_message (c ∷ front))) (whole_message (c ∷ front ++ (l ∷ []))) ≡ m ∷ more →
       Finishes c (front ++ (l ∷ [])) m more
   finishes front l e =
-      split (hasLengthByte c)
-      (λ standard. finishes-standard front l standard (rw standard at e))
-      (λ fast. finishes-fast front l fast (rw fast at e))
+      split (has_length_byte c)
+      (λ standard. finishes_standard front l standard (rw standard at e))
+      (λ fast. finishes_fast front l fast (rw fast at e))
 
 -- the first literal behind the command stands in the bytes as it is
-stuffed-first : (ls : List ℕ) → get_or (stuffed ls) 0 0 ≡ get_or ls 0 0
-stuffed-first [] = refl
-stuffed-first (l ∷ ls) = split (eqb l 0x2B) (λ plus. rw (plus, eqb-true l 0x2B plus) refl) (λ other. rw other refl)
+stuffed_first : (ls : List ℕ) → get_or (stuffed ls) 0 0 ≡ get_or ls 0 0
+stuffed_first [] = refl
+stuffed_first (l ∷ ls) = split (eqb l 0x2B) (λ plus. rw (plus, eqb-true l 0x2B plus) refl) (λ other. rw other refl)
 
 first_byte : (before : List ℕ) (c : ℕ) (ls : List ℕ) →
     get_or (before ++ framed c ls) (length before + 2) 0 ≡ get_or ls 0 0
-first_byte before c ls = get_or-append-add before (framed c ls) 2 0 ∙ stuffed-first ls
+first_byte before c ls = get_or-append-add before (framed c ls) 2 0 ∙ stuffed_first ls
 
 -- ---- the law
 -- These bytes end in a well-formed message on the wire, whose start byte is a start in the pairing of them all.
 pub record EndsWith (bytes : List ℕ) (m : Message) : Type 0 where
   pub before : List ℕ
-  pub settled : waitsAfter before ≡ false
-  pub there : bytes ≡ before ++ onWire m
-  pub formed : wellFormed m ≡ true
+  pub settled : waits_after before ≡ false
+  pub there : bytes ≡ before ++ on_wire m
+  pub formed : well_formed m ≡ true
 
-module _ (bs : List ℕ) (b : ℕ) (bytes : (i : ℕ) → get_or (bs ++ (b ∷ [])) i 0 < 256) (m : Message) (more : List Message) (finished : finishedBy bs b ≡ m ∷ more) where
-  found : foundBy wholeMessage bs b ≡ m ∷ more
-  found = sym (finished-found bs b) ∙ finished
+module _ (bs : List ℕ) (b : ℕ) (bytes : (i : ℕ) → get_or (bs ++ (b ∷ [])) i 0 < 256) (m : Message) (more : List Message) (finished : finished_by bs b ≡ m ∷ more) where
+  found : found_by whole_message bs b ≡ m ∷ more
+  found = sym (finished_found bs b) ∙ finished
 
-  ended : Ends wholeMessage bs b
-  ended = ends wholeMessage message-alone bs b m more found
+  ended : Ends whole_message bs b
+  ended = ends whole_message message_alone bs b m more found
 
   finishing : Finishes ended.first (ended.front ++ (ended.last ∷ [])) m more
   finishing = finishes ended.first ended.other m more ended.front ended.last (sym ended.found ∙ found)
 
-  first-is-byte : get_or (ended.front ++ (ended.last ∷ [])) 0 0 < 256
-  first-is-byte =
+  first_is_byte : get_or (ended.front ++ (ended.last ∷ [])) 0 0 < 256
+  first_is_byte =
       rw (ended.there, first_byte ended.before ended.first (ended.front ++ (ended.last ∷ [])))
       at (bytes (length ended.before + 2))
 
-  pub whole-on-wire : EndsWith (bs ++ (b ∷ [])) m
-  whole-on-wire =
+  pub whole_on_wire : EndsWith (bs ++ (b ∷ [])) m
+  whole_on_wire =
       record {
         before = ended.before;
         settled = ended.settled;
         there = ended.there ∙ rw finishing.sent refl;
-        formed = finishing.formed first-is-byte;
+        formed = finishing.formed first_is_byte;
       }
 
   pub no_other : more ≡ []

@@ -6,14 +6,14 @@ use mathlib.Core.Bool.{true}
 use native.Mathlib.Nat.{zero-add}
 use native.Mathlib.Omega.{arith}
 use borrow.Author.Tests.{eq-eqb}
-use Rattle.document.specs.Sum.{total, addsUp, sumByteOf}
+use Rattle.document.specs.Sum.{total, adds_up, sum_byte_of}
 
-pub total-append : (bs cs : List ℕ) → total (bs ++ cs) ≡ total bs + total cs
-total-append [] cs = sym (zero-add (total cs))
-total-append (b ∷ bs) cs = omega (arith, total-append bs cs)
+pub total_append : (bs cs : List ℕ) → total (bs ++ cs) ≡ total bs + total cs
+total_append [] cs = sym (zero-add (total cs))
+total_append (b ∷ bs) cs = omega (arith, total_append bs cs)
 
-pub sum-right : (bs : List ℕ) → total (bs ++ (sumByteOf bs ∷ [])) % 256 ≡ 0
-sum-right bs = omega (arith, total-append bs (sumByteOf bs ∷ []))
+pub sum_right_lem : (bs : List ℕ) → total (bs ++ (sum_byte_of bs ∷ [])) % 256 ≡ 0
+sum_right_lem bs = omega (arith, total_append bs (sum_byte_of bs ∷ []))
 
-pub adds-up : (bs : List ℕ) → addsUp (bs ++ (sumByteOf bs ∷ [])) ≡ true
-adds-up bs = eq-eqb _ 0 (sum-right bs)
+pub adds_up_lem : (bs : List ℕ) → adds_up (bs ++ (sum_byte_of bs ∷ [])) ≡ true
+adds_up_lem bs = eq-eqb _ 0 (sum_right_lem bs)

@@ -2,7 +2,7 @@
 use Rattle.std.specs.Prelude.{◌≡◌, List, [], ◌∷◌, ℕ, ◌+◌, ◌%◌, length}
 use Rattle.std.proofs.lemmas.List.Edits.{sets}
 use Rattle.document.specs.Doubling.{stuffed}
-use Rattle.document.specs.Sum.{total, sumByteOf}
+use Rattle.document.specs.Sum.{total, sum_byte_of}
 use Rattle.line_wire.specs.declared.doubling.Progress.{Progress}
 
 -- how far a writer is once it has put these bytes
@@ -20,5 +20,5 @@ pub record Put (p : Progress) (bytes before : List ℕ) (r : Progress) (after : 
 
 -- the sum byte, and where the message or answer ends
 pub record Ended (p : Progress) (before : List ℕ) (r : ℕ) (after : List ℕ) : Type 0 where
-  pub end : r ≡ p.at + length (stuffed (sumByteOf (p.sum ∷ []) ∷ []))
-  pub buffer : after ≡ sets before p.at (stuffed (sumByteOf (p.sum ∷ []) ∷ []))
+  pub end : r ≡ p.at + length (stuffed (sum_byte_of (p.sum ∷ []) ∷ []))
+  pub buffer : after ≡ sets before p.at (stuffed (sum_byte_of (p.sum ∷ []) ∷ []))

@@ -2,8 +2,8 @@
 // Who tells an answer or writes a command calls these once the buffer is measured.
 ghost use Rattle.std.specs.Prelude.{[], ◌∷◌, ◌+◌, ◌≤◌, length};
 ghost use Rattle.document.specs.Doubling.{stuffed};
-ghost use Rattle.document.specs.Sum.{sumByteOf};
-ghost use Rattle.document.specs.Values.{littleEndian};
+ghost use Rattle.document.specs.Sum.{sum_byte_of};
+ghost use Rattle.document.specs.Values.{little_endian};
 ghost use Rattle.line_wire.specs.Put.{Put, Ended};
 
 use crate::sum;
@@ -40,7 +40,7 @@ pub fn put(progress: Progress, byte: u8, out: &mut [u8]) -> Progress
 // Two bytes, low byte first.
 pub fn put_word(from: Progress, word: u16, out: &mut [u8]) -> Progress
     requires { from.at + 4 ≤ length out.old }
-    ensures { Put from (littleEndian 2 word) out.old result out.new }
+    ensures { Put from (little_endian 2 word) out.old result out.new }
 {
     let low = put(from, (word % 256) as u8, out);
     put(low, (word / 256 % 256) as u8, out)
@@ -61,7 +61,7 @@ pub fn put_all(from: Progress, bytes: &[u8], out: &mut [u8]) -> Progress
 
 // The sum byte ends a message or an answer: how long it is on the wire.
 pub fn put_sum(progress: Progress, out: &mut [u8]) -> usize
-    requires { progress.at + length (stuffed (sumByteOf (progress.sum ∷ []) ∷ [])) ≤ length out.old }
+    requires { progress.at + length (stuffed (sum_byte_of (progress.sum ∷ []) ∷ [])) ≤ length out.old }
     ensures { Ended progress out.old result out.new }
 {
     let byte = sum::sum_byte(progress.sum);

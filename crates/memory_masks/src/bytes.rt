@@ -1,6 +1,6 @@
 // Masked stores byte by byte.
 ghost use Rattle.std.specs.Prelude.{◌≡◌, ◌+◌, ◌≤◌, min, length};
-ghost use Rattle.document.specs.Stores.{masked, maskStored};
+ghost use Rattle.document.specs.Stores.{masked, mask_stored};
 
 // A bit set in the mask takes the value's bit; every other bit stays.
 fn mixed(old: u8, value: u8, mask: u8) -> u8
@@ -18,7 +18,7 @@ fn shorter(a: usize, b: usize) -> usize
 // A value without a mask leaves its byte as it is.
 pub fn store_masked(memory: &mut [u8], at: usize, values: &[u8], masks: &[u8])
     requires { at + length values.now ≤ length memory.old }
-    ensures { memory.new ≡ maskStored memory.old at values.now masks.now }
+    ensures { memory.new ≡ mask_stored memory.old at values.now masks.now }
 {
     let n = shorter(values.len(), masks.len());
     let mut i = 0;

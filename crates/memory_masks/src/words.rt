@@ -1,7 +1,7 @@
 // The masked store of a word, little-endian like every number of the port.
 ghost use Rattle.std.specs.Prelude.{◌≡◌, ◌+◌, ◌≤◌, length};
-ghost use Rattle.document.specs.Stores.{masked, maskStored};
-ghost use Rattle.document.specs.Values.{littleEndian};
+ghost use Rattle.document.specs.Stores.{masked, mask_stored};
+ghost use Rattle.document.specs.Values.{little_endian};
 
 use bytes_fields::{put_word, word_at};
 
@@ -14,7 +14,7 @@ fn mixed_word(old: u16, value: u16, mask: u16) -> u16
 
 pub fn store_masked_word(memory: &mut [u8], at: usize, value: u16, mask: u16)
     requires { at + 2 ≤ length memory.old }
-    ensures { memory.new ≡ maskStored memory.old at (littleEndian 2 value) (littleEndian 2 mask) }
+    ensures { memory.new ≡ mask_stored memory.old at (little_endian 2 value) (little_endian 2 mask) }
 {
     let old = word_at(memory, at);
     let new = mixed_word(old, value, mask);

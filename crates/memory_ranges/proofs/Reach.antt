@@ -6,9 +6,9 @@ use native.Mathlib.Omega.{arith}
 use lib.Dec.{leb}
 use borrow.Author.Tests.{le-leb, lt-leb, leb-true, leb-false}
 
-pub size-off-end : (address size end place : ℕ) → size ≤ end → place ≡ address → leb place (end - size) ≡ leb (address + size) end
-size-off-end a s e p h ep = by-test (leb (a + s) e) refl
+pub size_off_end : (address size end place : ℕ) → size ≤ end → place ≡ address → leb place (end - size) ≡ leb (address + size) end
+size_off_end a s e p h ep = by_test (leb (a + s) e) refl
   where
-    by-test : (t : Bool) → leb (a + s) e ≡ t → leb p (e - s) ≡ leb (a + s) e
-    by-test true y = rw (y, le-leb p (e - s) (omega (arith, leb-true (a + s) e y)))
-    by-test false n = rw (n, lt-leb p (e - s) (omega (arith, leb-false (a + s) e n)))
+    by_test : (t : Bool) → leb (a + s) e ≡ t → leb p (e - s) ≡ leb (a + s) e
+    by_test true y = rw (y, le-leb p (e - s) (omega (arith, leb-true (a + s) e y)))
+    by_test false n = rw (n, lt-leb p (e - s) (omega (arith, leb-false (a + s) e n)))

@@ -32,7 +32,7 @@ module _ (bytes : List ℕ) (i x b : ℕ) (i0 : 0 < i) (il : i ≤ length bytes)
       let l : i - 1 < length bytes = omega arith in
       omega (arith, ap number (drop-cons bytes (i - 1) 0 l), ap (λ (k : ℕ). number (drop k bytes)) e)
 
-  pub byte-more-below : x < 256 ^ (length bytes - i) → b < 256 → x * 256 + b < 256 ^ (length bytes - (i - 1))
-  byte-more-below hx hb =
+  pub byte_more_below : x < 256 ^ (length bytes - i) → b < 256 → x * 256 + b < 256 ^ (length bytes - (i - 1))
+  byte_more_below hx hb =
       let e : length bytes - (i - 1) ≡ suc (length bytes - i) = omega arith in
       rw (e, pow-suc 256 (length bytes - i)) (omega arith)

@@ -1,8 +1,8 @@
 // Where a range of bytes may lie. Each question is one function, so that a rule that changes changes in one place.
 ghost use Rattle.std.specs.Prelude.{◌≡◌, ◌+◌, leb};
-ghost use Rattle.document.specs.Areas.{mayBeRead, mayBeRecorded};
+ghost use Rattle.document.specs.Areas.{may_be_read, may_be_recorded};
 ghost use Rattle.document.specs.Gate.{Gate};
-ghost use Rattle.document.specs.Permission.{mayBeWritten};
+ghost use Rattle.document.specs.Permission.{may_be_written};
 
 use bytes_widths::usize_of_u32;
 
@@ -32,20 +32,20 @@ pub fn within(address: u32, size: usize, end: usize) -> bool
 }
 
 pub fn may_be_read(address: u32, size: usize) -> bool
-    ensures { result ≡ mayBeRead address size }
+    ensures { result ≡ may_be_read address size }
 {
     within(address, size, MEMORY_END)
 }
 
 // Whatever the gate holds: the one place where code asks whether a range may be written.
 pub fn may_be_written(address: u32, size: usize) -> bool
-    ensures { (g : Gate) → result ≡ mayBeWritten g address size }
+    ensures { (g : Gate) → result ≡ may_be_written g address size }
 {
     within(address, size, VARIABLES_END)
 }
 
 pub fn may_be_recorded(address: u32, size: usize) -> bool
-    ensures { result ≡ mayBeRecorded address size }
+    ensures { result ≡ may_be_recorded address size }
 {
     within(address, size, RECORDED_END)
 }

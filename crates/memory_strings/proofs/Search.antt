@@ -7,7 +7,7 @@ use lib.Dec.{eqb}
 use lib.ListN.{get_or, drop}
 use lib.Seq.{get_or-drop}
 use borrow.Author.Tests.{eqb-true, eqb-false}
-use Rattle.document.specs.Strings.{stringLength}
+use Rattle.document.specs.Strings.{string_length}
 use Rattle.document.proofs.Cases.{split}
 use Rattle.memory_strings.proofs.Zeros.{counted}
 
@@ -16,13 +16,13 @@ module _ (memory : List ℕ) (at : ℕ) where
   abbrev pub NoneUpTo : ℕ → Type 0
   NoneUpTo end = (i : ℕ) → at ≤ i → i < end → get_or memory i 0 ≡ 0 → ⊥
 
-  pub none-up-to-next : (end : ℕ) → NoneUpTo end → (get_or memory end 0 ≡ 0 → ⊥) → NoneUpTo (end + 1)
-  none-up-to-next end none n i a l z =
+  pub none_up_to_next : (end : ℕ) → NoneUpTo end → (get_or memory end 0 ≡ 0 → ⊥) → NoneUpTo (end + 1)
+  none_up_to_next end none n i a l z =
       split (eqb i end)
       (λ y. n (ap (λ (k : ℕ). get_or memory k 0) (sym (eqb-true i end y)) ∙ z))
       (λ m. none i a (omega (arith, eqb-false i end m)) z)
 
-  pub found : (end : ℕ) → at ≤ end → NoneUpTo end → get_or memory end 0 ≡ 0 → end - at ≡ stringLength memory at
+  pub found : (end : ℕ) → at ≤ end → NoneUpTo end → get_or memory end 0 ≡ 0 → end - at ≡ string_length memory at
   found end h none z =
       let e : at + (end - at) ≡ end = omega arith in
       sym (counted (drop at memory) (end - at)

@@ -7,25 +7,25 @@ use native.Mathlib.Omega.{arith}
 use lib.Dec.{eqb, ltb, leb-suc-suc, leb-suc-zero}
 use lib.ListN.{length, get_or}
 use borrow.Author.Tests.{eq-eqb, ne_eqb, eqb-true, lt-ltb}
-use Rattle.document.specs.Strings.{beforeZero, hasZero}
+use Rattle.document.specs.Strings.{before_zero, has_zero}
 use Rattle.document.proofs.Cases.{split, neither}
 
-pub within : (bs : List ℕ) → beforeZero bs ≤ length bs
-unfolding beforeZero
+pub within : (bs : List ℕ) → before_zero bs ≤ length bs
+unfolding before_zero
 within [] = omega arith
 within (b ∷ bs) = split (eqb b 0) (λ y. rw y (omega arith)) (λ n. rw n (omega (arith, within bs)))
 
-pub ends : (bs : List ℕ) → hasZero bs ≡ ltb (beforeZero bs) (length bs)
-unfolding beforeZero hasZero
+pub ends : (bs : List ℕ) → has_zero bs ≡ ltb (before_zero bs) (length bs)
+unfolding before_zero has_zero
 ends [] = sym (leb-suc-zero 0)
 ends (b ∷ bs) =
     split (eqb b 0)
     (λ y. rw y (sym (lt-ltb 0 (suc (length bs)) (omega arith))))
-    (λ n. rw (n, ends bs) (sym (leb-suc-suc (suc (beforeZero bs)) (length bs))))
+    (λ n. rw (n, ends bs) (sym (leb-suc-suc (suc (before_zero bs)) (length bs))))
 
 -- it is a byte of the list, so it does not matter what is read behind the end
-pub at_zero : (bs : List ℕ) (d : ℕ) → hasZero bs ≡ true → get_or bs (beforeZero bs) d ≡ 0
-unfolding beforeZero hasZero
+pub at_zero : (bs : List ℕ) (d : ℕ) → has_zero bs ≡ true → get_or bs (before_zero bs) d ≡ 0
+unfolding before_zero has_zero
 at_zero [] d h = neither h
 at_zero (b ∷ bs) d h =
     split (eqb b 0) (λ y. rw y (eqb-true b 0 y)) (λ n. rw n (at_zero bs d (rw n at h)))
@@ -34,26 +34,26 @@ at_zero (b ∷ bs) d h =
 abbrev pub NoneBefore : List ℕ → ℕ → Type 0
 NoneBefore bs n = (i : ℕ) → i < n → get_or bs i 0 ≡ 0 → ⊥
 
-pub none_before : (bs : List ℕ) → NoneBefore bs (beforeZero bs)
-unfolding beforeZero
+pub none_before : (bs : List ℕ) → NoneBefore bs (before_zero bs)
+unfolding before_zero
 none_before [] i h z = omega arith
 none_before (b ∷ bs) zero h z = let none : 0 < 0 = rw (eq-eqb b 0 z) at h in omega arith
 none_before (b ∷ bs) (suc i) h z =
     split (eqb b 0)
     (λ y. let none : suc i < 0 = rw y at h in omega arith)
-    (λ n. let more : suc i < suc (beforeZero bs) = rw n at h in none_before bs i (omega arith) z)
+    (λ n. let more : suc i < suc (before_zero bs) = rw n at h in none_before bs i (omega arith) z)
 
 -- a zero with none before it, or the end, behind which a zero is read
-pub counted : (bs : List ℕ) (n : ℕ) → get_or bs n 0 ≡ 0 → NoneBefore bs n → beforeZero bs ≡ n
-unfolding beforeZero
+pub counted : (bs : List ℕ) (n : ℕ) → get_or bs n 0 ≡ 0 → NoneBefore bs n → before_zero bs ≡ n
+unfolding before_zero
 counted [] zero z none = refl
 counted [] (suc n) z none = absurd (none 0 (omega arith) refl)
 counted (b ∷ bs) zero z none = rw (eq-eqb b 0 z)
 counted (b ∷ bs) (suc n) z none =
     rw (ne_eqb b 0 (none 0 (omega arith)), counted bs n z (λ i h. none (suc i) (omega arith)))
 
-pub first-zero : (bs : List ℕ) (n : ℕ) → n < length bs → get_or bs n 0 ≡ 0 → NoneBefore bs n
-    → (beforeZero bs ≡ n) × (hasZero bs ≡ true)
-first-zero bs n h z none =
-    let e : beforeZero bs ≡ n = counted bs n z none in
-    (e, ends bs ∙ lt-ltb (beforeZero bs) (length bs) (omega arith))
+pub first_zero : (bs : List ℕ) (n : ℕ) → n < length bs → get_or bs n 0 ≡ 0 → NoneBefore bs n
+    → (before_zero bs ≡ n) × (has_zero bs ≡ true)
+first_zero bs n h z none =
+    let e : before_zero bs ≡ n = counted bs n z none in
+    (e, ends bs ∙ lt-ltb (before_zero bs) (length bs) (omega arith))

@@ -10,32 +10,32 @@ use lib.Bits.{bit_xor, xor_lt, xor_shifted}
 use lib.Pow.{pow-add, pow_mono}
 use borrow.Author.Tests.{eq-eqb}
 use Rattle.document.specs.CheckSum.{shifted, shifts}
-use Rattle.modbus_check_sums.proofs.ExclusiveOr.{xor-cancel-left}
-use Rattle.modbus_check_sums.proofs.Shifts.{shifts-xor, shifts-up}
-use Rattle.modbus_check_sums.proofs.Words.{word-shifts, word-gone}
-use Rattle.modbus_check_sums.proofs.Damage.{still-gone, moved_down}
+use Rattle.modbus_check_sums.proofs.ExclusiveOr.{xor_cancel_left}
+use Rattle.modbus_check_sums.proofs.Shifts.{shifts_xor, shifts_up}
+use Rattle.modbus_check_sums.proofs.Words.{word_shifts, word_gone}
+use Rattle.modbus_check_sums.proofs.Damage.{still_gone, moved_down}
 
 -- none of the n registers from r on is 1
-abbrev neverOne : ℕ → ℕ → Bool
-neverOne zero r = true
-neverOne (suc n) r = not (eqb r 1) && neverOne n (shifted r)
+abbrev never_one : ℕ → ℕ → Bool
+never_one zero r = true
+never_one (suc n) r = not (eqb r 1) && never_one n (shifted r)
 
 never_first : (hit rest : Bool) → T (not hit && rest) → hit ≡ true → ⊥
 never_first true rest never e = never
 never_first false rest never e = false≢true e
 
-never-rest : (hit rest : Bool) → T (not hit && rest) → T rest
-never-rest true rest never = absurd never
-never-rest false rest never = never
+never_rest : (hit rest : Bool) → T (not hit && rest) → T rest
+never_rest true rest never = absurd never
+never_rest false rest never = never
 
-never-at : (n r d : ℕ) → T (neverOne n r) → d < n → shifts d r ≢ 1
+never_at : (n r d : ℕ) → T (never_one n r) → d < n → shifts d r ≢ 1
 unfolding shifts
-never-at zero r d never h e = omega arith
-never-at (suc n) r zero never h e = never_first (eqb r 1) (neverOne n (shifted r)) never (eq-eqb r 1 e)
-never-at (suc n) r (suc d) never h e = never-at n (shifted r) d (never-rest (eqb r 1) (neverOne n (shifted r)) never) (omega arith) e
+never_at zero r d never h e = omega arith
+never_at (suc n) r zero never h e = never_first (eqb r 1) (never_one n (shifted r)) never (eq-eqb r 1 e)
+never_at (suc n) r (suc d) never h e = never_at n (shifted r) d (never_rest (eqb r 1) (never_one n (shifted r)) never) (omega arith) e
 
 -- the bits of 256 bytes
-no_return : T (neverOne 2047 (shifted 1))
+no_return : T (never_one 2047 (shifted 1))
 unfolding shifted
 no_return = tt
 
@@ -46,20 +46,20 @@ returned n d h e =
     let sum : 1 * 2 ^ d + 1 ≡ 2 ^ d + 1 = omega arith in
     let met : shifts d (2 ^ d + 1) ≡ bit_xor 1 (shifts d 1) =
     ap (λ (x : ℕ). shifts d x) (sym (xor_shifted 1 d 1 one ∙ sum))
-    ∙ shifts-xor d (1 * 2 ^ d) 1
-    ∙ ap (λ (x : ℕ). bit_xor x (shifts d 1)) (shifts-up d 1)
+    ∙ shifts_xor d (1 * 2 ^ d) 1
+    ∙ ap (λ (x : ℕ). bit_xor x (shifts d 1)) (shifts_up d 1)
     in
-    let fits : bit_xor 1 (shifts d 1) < 65536 = xor_lt 16 1 (shifts d 1) (omega arith) (word-shifts d 1 (omega arith)) in
-    xor-cancel-left (shifts d 1) 1 1
-    (word-gone n (bit_xor 1 (shifts d 1)) fits (ap (λ (x : ℕ). shifts n x) (sym met) ∙ still-gone n d (2 ^ d + 1) e))
+    let fits : bit_xor 1 (shifts d 1) < 65536 = xor_lt 16 1 (shifts d 1) (omega arith) (word_shifts d 1 (omega arith)) in
+    xor_cancel_left (shifts d 1) 1 1
+    (word_gone n (bit_xor 1 (shifts d 1)) fits (ap (λ (x : ℕ). shifts n x) (sym met) ∙ still_gone n d (2 ^ d + 1) e))
 
 apart : (n d : ℕ) → d < 2048 → 0 < d → shifts n (2 ^ d + 1) ≢ 0
 unfolding shifts
 apart n zero h some e = omega arith
-apart n (suc d) h some e = never-at 2047 (shifted 1) d no_return (omega arith) (returned n (suc d) some e)
+apart n (suc d) h some e = never_at 2047 (shifted 1) d no_return (omega arith) (returned n (suc d) some e)
 
-pub two-not-gone : (n i j : ℕ) → i < j → j < 2048 → shifts n (2 ^ i + 2 ^ j) ≢ 0
-two-not-gone n i j h k e =
+pub two_not_gone : (n i j : ℕ) → i < j → j < 2048 → shifts n (2 ^ i + 2 ^ j) ≢ 0
+two_not_gone n i j h k e =
     let back : j ≡ (j - i) + i = omega arith in
     let power : 2 ^ j ≡ 2 ^ (j - i) * 2 ^ i = ap (λ (m : ℕ). 2 ^ m) back ∙ pow-add 2 (j - i) i in
     let moved : 2 ^ i + 2 ^ j ≡ (2 ^ (j - i) + 1) * 2 ^ i = omega arith in

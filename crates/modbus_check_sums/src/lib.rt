@@ -3,7 +3,7 @@ mod table;
 
 ghost use Rattle.std.specs.Prelude.{◌≡◌, ◌%◌, ◌<◌};
 ghost use Rattle.std.specs.Int.Bits.{bit_xor};
-ghost use Rattle.document.specs.CheckSum.{checkSum};
+ghost use Rattle.document.specs.CheckSum.{check_sum};
 
 use table::SHIFTED;
 
@@ -16,7 +16,7 @@ fn low_byte(register: u16, byte: u8) -> usize
 
 // The compiler builds the table on the stack where it is named: once for all bytes.
 pub fn check_sum(bytes: &[u8]) -> u16
-    ensures { result ≡ checkSum bytes.now }
+    ensures { result ≡ check_sum bytes.now }
 {
     let shifted = SHIFTED;
     let mut register: u16 = 0xFFFF;

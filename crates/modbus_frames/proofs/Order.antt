@@ -6,43 +6,43 @@ use Prim.Native.Nat.{ℕ, ◌≤◌}
 use lib.ListN.{length}
 use native.Mathlib.Omega.{arith}
 use Rattle.document.specs.Numbers.{done}
-use Rattle.document.specs.Modbus.{isOther, isValueWrong, isAddressWrong, exceptionTo}
+use Rattle.document.specs.Modbus.{is_other, is_value_wrong, is_address_wrong, exception_to}
 use Rattle.document.specs.declared.Function.{Function}
 use Rattle.document.proofs.Cases.{split}
-use Rattle.modbus_frames.proofs.WrongValues.{long-enough}
+use Rattle.modbus_frames.proofs.WrongValues.{long_enough}
 
 module _ (function : Function) (frame memory : List ℕ) where
-  pub not-served : isOther function ≡ true → 1 ≡ exceptionTo function frame memory
-  unfolding exceptionTo
-  not-served other = rw other
+  pub not_served_lem : is_other function ≡ true → 1 ≡ exception_to function frame memory
+  unfolding exception_to
+  not_served_lem other = rw other
 
-  pub value-wrong : isOther function ≡ false → isValueWrong function frame ≡ true → 3 ≡ exceptionTo function frame memory
-  unfolding exceptionTo
-  value-wrong served wrong = rw (served, wrong)
+  pub value_wrong : is_other function ≡ false → is_value_wrong function frame ≡ true → 3 ≡ exception_to function frame memory
+  unfolding exception_to
+  value_wrong served wrong = rw (served, wrong)
 
-  pub address-wrong : isOther function ≡ false → isValueWrong function frame ≡ false → isAddressWrong function frame memory ≡ true → 2 ≡ exceptionTo function frame memory
-  unfolding exceptionTo
-  address-wrong served value wrong = rw (served, value, wrong)
+  pub address_wrong : is_other function ≡ false → is_value_wrong function frame ≡ false → is_address_wrong function frame memory ≡ true → 2 ≡ exception_to function frame memory
+  unfolding exception_to
+  address_wrong served value wrong = rw (served, value, wrong)
 
-  pub no-exception : isOther function ≡ false → isValueWrong function frame ≡ false → isAddressWrong function frame memory ≡ false → 0 ≡ exceptionTo function frame memory
-  unfolding exceptionTo
-  no-exception served value address = rw (served, value, address)
+  pub no_exception : is_other function ≡ false → is_value_wrong function frame ≡ false → is_address_wrong function frame memory ≡ false → 0 ≡ exception_to function frame memory
+  unfolding exception_to
+  no_exception served value address = rw (served, value, address)
 
   -- ---- the other way round
 
   pub record Accepted : Type 0 where
-    pub served : isOther function ≡ false
-    pub value : isValueWrong function frame ≡ false
-    pub address : isAddressWrong function frame memory ≡ false
+    pub served : is_other function ≡ false
+    pub value : is_value_wrong function frame ≡ false
+    pub address : is_address_wrong function frame memory ≡ false
 
-  pub accepted : exceptionTo function frame memory ≡ done → Accepted
+  pub accepted : exception_to function frame memory ≡ done → Accepted
   accepted none =
-      split (isOther function) (λ other. let z : ⊥ = omega (arith, not-served other ∙ none) in absurd z)
+      split (is_other function) (λ other. let z : ⊥ = omega (arith, not_served_lem other ∙ none) in absurd z)
       (λ served.
-      split (isValueWrong function frame) (λ wrong. let z : ⊥ = omega (arith, value-wrong served wrong ∙ none) in absurd z)
+      split (is_value_wrong function frame) (λ wrong. let z : ⊥ = omega (arith, value_wrong served wrong ∙ none) in absurd z)
       (λ value.
-      split (isAddressWrong function frame memory) (λ wrong. let z : ⊥ = omega (arith, address-wrong served value wrong ∙ none) in absurd z)
+      split (is_address_wrong function frame memory) (λ wrong. let z : ⊥ = omega (arith, address_wrong served value wrong ∙ none) in absurd z)
       (λ address. record { served = served; value = value; address = address })))
 
-  pub accepted-long : exceptionTo function frame memory ≡ done → 8 ≤ length frame
-  accepted-long none = let ok = accepted none in long-enough function frame ok.served ok.value
+  pub accepted_long : exception_to function frame memory ≡ done → 8 ≤ length frame
+  accepted_long none = let ok = accepted none in long_enough function frame ok.served ok.value

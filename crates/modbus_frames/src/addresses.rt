@@ -1,6 +1,6 @@
 // Exception 2: whether the registers may be read or written. Registers are doubled to bytes at a width where nothing comes round.
 ghost use Rattle.std.specs.Prelude.{◌≡◌, List, ℕ, ◌≤◌, length};
-ghost use Rattle.document.specs.Modbus.{isAddressWrong};
+ghost use Rattle.document.specs.Modbus.{is_address_wrong};
 
 use crate::fields::word_in;
 use bytes_widths::{u32_of_u16, usize_of_u16};
@@ -11,7 +11,7 @@ const REGISTER: usize = 2;
 
 pub fn is_address_wrong(function: Function, frame: &[u8]) -> bool
     requires { 8 ≤ length frame.now }
-    ensures { (memory : List ℕ) → result ≡ isAddressWrong function frame.now memory }
+    ensures { (memory : List ℕ) → result ≡ is_address_wrong function frame.now memory }
 {
     let address = 2 * u32_of_u16(word_in(frame, 2));
     let size = 2 * usize_of_u16(word_in(frame, 4));

@@ -1,6 +1,6 @@
 // The exceptions, in their order: 1, then 3, then 2.
 ghost use Rattle.std.specs.Prelude.{◌≡◌, List, ℕ};
-ghost use Rattle.document.specs.Modbus.{isOther, exceptionTo};
+ghost use Rattle.document.specs.Modbus.{is_other, exception_to};
 
 use crate::addresses::is_address_wrong;
 use crate::values::is_value_wrong;
@@ -14,7 +14,7 @@ const ADDRESS_WRONG: u8 = 2;
 const VALUE_WRONG: u8 = 3;
 
 fn is_other(function: Function) -> bool
-    ensures { result ≡ isOther function }
+    ensures { result ≡ is_other function }
 {
     match function {
         Function::ReadRegisters => false,
@@ -26,7 +26,7 @@ fn is_other(function: Function) -> bool
 }
 
 pub fn exception_to(function: Function, frame: &[u8]) -> u8
-    ensures { (memory : List ℕ) → result ≡ exceptionTo function frame.now memory }
+    ensures { (memory : List ℕ) → result ≡ exception_to function frame.now memory }
 {
     if is_other(function) {
         return FUNCTION_NOT_SERVED;

@@ -1,7 +1,7 @@
 // The fields of a frame.
 ghost use Rattle.std.specs.Prelude.{◌≡◌, ◌+◌, ◌<◌, ◌≤◌, length};
 ghost use Rattle.document.specs.Frames.{word_in};
-ghost use Rattle.document.specs.Modbus.{functionOf};
+ghost use Rattle.document.specs.Modbus.{function_of};
 
 use bytes_widths::u16_of_u8;
 use document::Function;
@@ -15,7 +15,7 @@ const WRITE_REGISTERS: u8 = 16;
 const MASK_REGISTER: u8 = 22;
 
 pub fn function_of(byte: u8) -> Function
-    ensures { result ≡ functionOf byte }
+    ensures { result ≡ function_of byte }
 {
     match byte {
         READ_REGISTERS => Function::ReadRegisters,

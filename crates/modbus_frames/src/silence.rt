@@ -1,6 +1,6 @@
 // When a frame gets silence.
 ghost use Rattle.std.specs.Prelude.{◌≡◌, ◌<◌};
-ghost use Rattle.document.specs.Frames.{isSilenced};
+ghost use Rattle.document.specs.Frames.{is_silenced};
 
 use modbus_check_sums::check_sum;
 
@@ -14,7 +14,7 @@ const LAST_FUNCTION: u8 = 127;
 // other bytes.
 pub fn is_silenced(station: u8, frame: &[u8]) -> bool
     requires { 0 < station }
-    ensures { result ≡ isSilenced station frame.now }
+    ensures { result ≡ is_silenced station frame.now }
 {
     if frame.len() < SHORTEST {
         return true;

@@ -1,6 +1,6 @@
 // Exception 3: quantity, byte count and frame length.
 ghost use Rattle.std.specs.Prelude.{◌≡◌, ◌≤◌, length};
-ghost use Rattle.document.specs.Modbus.{isQuantityWrong, isValueWrong};
+ghost use Rattle.document.specs.Modbus.{is_quantity_wrong, is_value_wrong};
 ghost use Rattle.document.specs.declared.Function.TheVariants.{WriteRegisters, ReadRegisters};
 
 use crate::fields::word_in;
@@ -21,7 +21,7 @@ const BESIDE_REGISTERS: usize = 9;
 
 fn is_quantity_wrong(most: u16, frame: &[u8]) -> bool
     requires { 6 ≤ length frame.now }
-    ensures { result ≡ isQuantityWrong most frame.now }
+    ensures { result ≡ is_quantity_wrong most frame.now }
 {
     let quantity = word_in(frame, 4);
     if quantity < 1 {
@@ -31,7 +31,7 @@ fn is_quantity_wrong(most: u16, frame: &[u8]) -> bool
 }
 
 fn is_reading_wrong(frame: &[u8]) -> bool
-    ensures { result ≡ isValueWrong ReadRegisters frame.now }
+    ensures { result ≡ is_value_wrong ReadRegisters frame.now }
 {
     if frame.len() != TWO_WORDS {
         return true;
@@ -40,7 +40,7 @@ fn is_reading_wrong(frame: &[u8]) -> bool
 }
 
 fn is_writing_wrong(frame: &[u8]) -> bool
-    ensures { result ≡ isValueWrong WriteRegisters frame.now }
+    ensures { result ≡ is_value_wrong WriteRegisters frame.now }
 {
     if frame.len() < BESIDE_REGISTERS {
         return true;
@@ -56,7 +56,7 @@ fn is_writing_wrong(frame: &[u8]) -> bool
 }
 
 pub fn is_value_wrong(function: Function, frame: &[u8]) -> bool
-    ensures { result ≡ isValueWrong function frame.now }
+    ensures { result ≡ is_value_wrong function frame.now }
 {
     match function {
         Function::ReadRegisters => is_reading_wrong(frame),

@@ -1,8 +1,8 @@
 // What a function does to the memory.
 ghost use Rattle.std.specs.Prelude.{◌≡◌, length};
-ghost use Rattle.document.specs.Areas.{memoryEnd};
+ghost use Rattle.document.specs.Areas.{memory_end};
 ghost use Rattle.document.specs.Numbers.{done};
-ghost use Rattle.document.specs.Modbus.{exceptionTo, carriedOut};
+ghost use Rattle.document.specs.Modbus.{exception_to, carried_out};
 
 use bytes_widths::usize_of_u16;
 use document::Function;
@@ -21,8 +21,8 @@ const CHECK_SUM: usize = 2;
 
 // The port's masked store takes the value's bit where its mask has one: where the and-mask has none.
 pub fn carry_out(function: Function, frame: &[u8], memory: &mut [u8])
-    requires { (exceptionTo function frame.now memory.old ≡ done) × (length memory.old ≡ memoryEnd) }
-    ensures { memory.new ≡ carriedOut function frame.now memory.old }
+    requires { (exception_to function frame.now memory.old ≡ done) × (length memory.old ≡ memory_end) }
+    ensures { memory.new ≡ carried_out function frame.now memory.old }
 {
     let at = 2 * usize_of_u16(word_in(frame, 2));
     match function {

@@ -1,11 +1,11 @@
 // What a function answers, and an exception: the bytes before the check sum.
 ghost use Rattle.std.specs.Prelude.{◌≡◌, [], ◌∷◌, ◌+◌, ◌*◌, ◌<◌, ◌≤◌, length, take};
-ghost use Rattle.document.specs.Areas.{memoryEnd};
+ghost use Rattle.document.specs.Areas.{memory_end};
 ghost use Rattle.document.specs.Numbers.{done};
-ghost use Rattle.document.specs.Frames.{stationIn, functionByte, firstIn, quantityIn};
-ghost use Rattle.document.specs.Modbus.{exceptionTo, modbusRoom};
+ghost use Rattle.document.specs.Frames.{station_in, function_byte, first_in, quantity_in};
+ghost use Rattle.document.specs.Modbus.{exception_to, modbus_room};
 ghost use Rattle.document.specs.declared.Function.TheVariants.{ReadRegisters};
-ghost use Rattle.modbus_functions.specs.Put.{answerTo, Put};
+ghost use Rattle.modbus_functions.specs.Put.{answer_to, Put};
 
 use bytes_widths::usize_of_u16;
 use document::Function;
@@ -27,8 +27,8 @@ const THREE_FIELDS: usize = 8;
 const COUNTED: usize = 3;
 
 pub fn tell_exception(exception: u8, frame: &[u8], out: &mut [u8]) -> usize
-    requires { (2 ≤ length frame.now) × (functionByte frame.now < 128) × (modbusRoom ≤ length out.old) }
-    ensures { Put (stationIn frame.now ∷ (128 + functionByte frame.now) ∷ exception ∷ []) out.old result out.new }
+    requires { (2 ≤ length frame.now) × (function_byte frame.now < 128) × (modbus_room ≤ length out.old) }
+    ensures { Put (station_in frame.now ∷ (128 + function_byte frame.now) ∷ exception ∷ []) out.old result out.new }
 {
     out[0] = frame[0];
     out[1] = TOP_BIT + frame[1];
@@ -37,9 +37,9 @@ pub fn tell_exception(exception: u8, frame: &[u8], out: &mut [u8]) -> usize
 }
 
 fn tell_registers(frame: &[u8], memory: &[u8], out: &mut [u8]) -> usize
-    requires in_bounds { (6 ≤ length frame.now) × (quantityIn frame.now ≤ 125) × (modbusRoom ≤ length out.old) }
-    requires frame_in_bounds { 2 * firstIn frame.now + 2 * quantityIn frame.now ≤ length memory.now }
-    ensures { Put (answerTo ReadRegisters frame.now memory.now) out.old result out.new }
+    requires in_bounds { (6 ≤ length frame.now) × (quantity_in frame.now ≤ 125) × (modbus_room ≤ length out.old) }
+    requires frame_in_bounds { 2 * first_in frame.now + 2 * quantity_in frame.now ≤ length memory.now }
+    ensures { Put (answer_to ReadRegisters frame.now memory.now) out.old result out.new }
 {
     let from = 2 * usize_of_u16(word_in(frame, 2));
     let count = 2 * usize_of_u16(word_in(frame, 4));
@@ -61,8 +61,8 @@ fn tell_front(front: usize, frame: &[u8], out: &mut [u8]) -> usize
 }
 
 pub fn tell(function: Function, frame: &[u8], memory: &[u8], out: &mut [u8]) -> usize
-    requires { (exceptionTo function frame.now memory.now ≡ done) × (length memory.now ≡ memoryEnd) × (modbusRoom ≤ length out.old) }
-    ensures { Put (answerTo function frame.now memory.now) out.old result out.new }
+    requires { (exception_to function frame.now memory.now ≡ done) × (length memory.now ≡ memory_end) × (modbus_room ≤ length out.old) }
+    ensures { Put (answer_to function frame.now memory.now) out.old result out.new }
 {
     match function {
         Function::ReadRegisters => tell_registers(frame, memory, out),

@@ -5,6 +5,6 @@ use Rattle.play.specs.declared.order.Order.{Order}
 pub record Bounded (o : Order) : Type 0 where
   pub given : o.count ≤ 524288
   pub lent : o.room ≤ 600
-  pub lent-wide : o.wide ≤ 65535
+  pub lent_wide : o.wide ≤ 65535
   pub ordered : o.start ≤ o.end
   pub inside : o.end ≤ 16384

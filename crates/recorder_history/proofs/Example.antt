@@ -7,17 +7,17 @@ use Prim.Native.Nat.{ℕ}
 use native.Mathlib.Omega.{arith}
 use lib.ListN.{replicate, set}
 use Rattle.document.specs.Plan.{Plan}
-use Rattle.document.specs.Trigger.{fires, isBeyond}
-use Rattle.document.specs.Run.{startIndex, ranTick, memoryAfterTick}
-use Rattle.document.specs.Sets.{setsTaken, readRound}
-use Rattle.recorder_history.specs.History.{PlanFits, Event, begun, after, AllLeaveBuffer, memoriesLeft}
+use Rattle.document.specs.Trigger.{fires, is_beyond}
+use Rattle.document.specs.Run.{start_index, ran_tick, memory_after_tick}
+use Rattle.document.specs.Sets.{sets_taken, read_round}
+use Rattle.recorder_history.specs.History.{PlanFits, Event, begun, after, AllLeaveBuffer, memories_left}
 use Rattle.recorder_history.specs.History.Event.{tick, others}
 
 abbrev plan : Plan
 plan =
     record {
       samples = 2;
-      postTrigger = 1;
+      post_trigger = 1;
       divider = 1;
       trigger = record { mode = 1; address = 0; size = 1; sign = 0; threshold = 5 };
       variables = record { address = 0; size = 1 } ∷ record { address = 8; size = 1 } ∷ [];
@@ -37,26 +37,26 @@ events =
     ∷ tick ∷ tick ∷ tick ∷ tick ∷ tick
     ∷ []
 
-pub plan-fits : PlanFits plan
-plan-fits = record { samples = omega arith; room = omega arith; variables = refl; trigger = refl }
+pub plan_fits : PlanFits plan
+plan_fits = record { samples = omega arith; room = omega arith; variables = refl; trigger = refl }
 
-pub sets-are : setsTaken plan (memoriesLeft zeros events) ≡ (3 ∷ 1 ∷ []) ∷ (4 ∷ 2 ∷ []) ∷ (7 ∷ 9 ∷ []) ∷ (7 ∷ 9 ∷ []) ∷ []
-unfolding setsTaken fires isBeyond
-sets-are = refl
+pub sets_are : sets_taken plan (memories_left zeros events) ≡ (3 ∷ 1 ∷ []) ∷ (4 ∷ 2 ∷ []) ∷ (7 ∷ 9 ∷ []) ∷ (7 ∷ 9 ∷ []) ∷ []
+unfolding sets_taken fires is_beyond
+sets_are = refl
 
-pub ring-reads : readRound plan (after plan (begun zeros) events).memory (startIndex (after plan (begun zeros) events).run) 2
+pub ring_reads : read_round plan (after plan (begun zeros) events).memory (start_index (after plan (begun zeros) events).run) 2
     ≡ (7 ∷ 9 ∷ []) ∷ (7 ∷ 9 ∷ []) ∷ []
-unfolding ranTick memoryAfterTick fires isBeyond
-ring-reads = refl
+unfolding ran_tick memory_after_tick fires is_beyond
+ring_reads = refl
 
 pub stops_then : (after plan (begun zeros) events).run.running ≡ false
-unfolding ranTick memoryAfterTick fires isBeyond
+unfolding ran_tick memory_after_tick fires is_beyond
 stops_then = refl
 
 -- the history's premise is met: each of these leaves the buffer
-pub buffer-left : AllLeaveBuffer plan (begun zeros) events
-unfolding ranTick memoryAfterTick fires isBeyond
-buffer-left = ((refl, refl), (tt, (tt, ((refl, refl), (tt, (tt, ((refl, refl), (tt, (tt, (tt, (tt, (tt, tt))))))))))))
+pub buffer_left : AllLeaveBuffer plan (begun zeros) events
+unfolding ran_tick memory_after_tick fires is_beyond
+buffer_left = ((refl, refl), (tt, (tt, ((refl, refl), (tt, (tt, ((refl, refl), (tt, (tt, (tt, (tt, (tt, tt))))))))))))
 
 -- ---- a rising trigger of 2 bytes with threshold 0x7000, and 0x8000 under it at every tick: "fires with sign 0, not with sign 1", at
 -- the first set (2026-02)
@@ -65,7 +65,7 @@ abbrev word : ℕ → Plan
 word sign =
     record {
       samples = 4;
-      postTrigger = 1;
+      post_trigger = 1;
       divider = 0;
       trigger = record { mode = 1; address = 0; size = 2; sign = sign; threshold = 0x7000 };
       variables = record { address = 0; size = 2 } ∷ [];
@@ -75,22 +75,22 @@ word sign =
 abbrev saturated : List ℕ
 saturated = 0x00 ∷ 0x80 ∷ []
 
-abbrev threeTicks : List Event
-threeTicks = tick ∷ tick ∷ tick ∷ []
+abbrev three_ticks : List Event
+three_ticks = tick ∷ tick ∷ tick ∷ []
 
 -- the trigger's own set and one further
-pub unsigned-sets : setsTaken (word 0) (memoriesLeft saturated threeTicks) ≡ saturated ∷ saturated ∷ []
-unfolding setsTaken fires isBeyond
-unsigned-sets = refl
+pub unsigned_sets : sets_taken (word 0) (memories_left saturated three_ticks) ≡ saturated ∷ saturated ∷ []
+unfolding sets_taken fires is_beyond
+unsigned_sets = refl
 
-pub unsigned-stops : (after (word 0) (begun saturated) (tick ∷ tick ∷ [])).run.running ≡ false
-unfolding ranTick memoryAfterTick fires isBeyond
-unsigned-stops = refl
+pub unsigned_stops : (after (word 0) (begun saturated) (tick ∷ tick ∷ [])).run.running ≡ false
+unfolding ran_tick memory_after_tick fires is_beyond
+unsigned_stops = refl
 
-pub signed-sets : setsTaken (word 1) (memoriesLeft saturated threeTicks) ≡ saturated ∷ saturated ∷ saturated ∷ []
-unfolding setsTaken fires isBeyond
-signed-sets = refl
+pub signed_sets : sets_taken (word 1) (memories_left saturated three_ticks) ≡ saturated ∷ saturated ∷ saturated ∷ []
+unfolding sets_taken fires is_beyond
+signed_sets = refl
 
-pub signed-runs : (after (word 1) (begun saturated) threeTicks).run.running ≡ true
-unfolding ranTick memoryAfterTick fires isBeyond
-signed-runs = refl
+pub signed_runs : (after (word 1) (begun saturated) three_ticks).run.running ≡ true
+unfolding ran_tick memory_after_tick fires is_beyond
+signed_runs = refl

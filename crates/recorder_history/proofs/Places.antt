@@ -10,14 +10,14 @@ use lib.ListN.{length}
 use lib.Seq.{sets}
 use borrow.Author.Tests.{eqb-true, eqb-false, ltb-true, ltb-false, leb-true, leb-false, le-leb, lt-leb}
 use Rattle.document.specs.Areas.{bytes_at}
-use Rattle.document.specs.Run.{placeAfter, fullAfter}
-use Rattle.recorder_history.specs.History.{placeOfSet}
+use Rattle.document.specs.Run.{place_after, full_after}
+use Rattle.recorder_history.specs.History.{place_of_set}
 use Rattle.document.proofs.Cases.{split}
-use Rattle.memory_ranges.proofs.Stored.{bytes-before, bytes-behind}
+use Rattle.memory_ranges.proofs.Stored.{bytes_before, bytes_behind}
 
 -- the place behind that of set k is that of set k + 1
-pub place-next : (k n : ℕ) → 1 ≤ n → placeAfter n (k % n) ≡ suc k % n
-place-next k n h =
+pub place_next : (k n : ℕ) → 1 ≤ n → place_after n (k % n) ≡ suc k % n
+place_next k n h =
     split (eqb (k % n + 1) n)
     (λ t. let e : suc (k % n) ≡ n = omega (arith, eqb-true (k % n + 1) n t) in
     rw (t, suc-mod k n) (rw e (sym (mod_self n))))
@@ -25,13 +25,13 @@ place-next k n h =
     rw (f, suc-mod k n, mod-eq_of_lt l) (add-one (k % n)))
 
 -- set k, counted from 0, goes to place k modulo samples
-pub place-mod : (n k : ℕ) → 1 ≤ n → placeOfSet n k ≡ k % n
-place-mod n zero h = sym (zero-mod n)
-place-mod n (suc k) h = rw (place-mod n k h) (place-next k n h)
+pub place_mod : (n k : ℕ) → 1 ≤ n → place_of_set n k ≡ k % n
+place_mod n zero h = sym (zero-mod n)
+place_mod n (suc k) h = rw (place_mod n k h) (place_next k n h)
 
 -- the ring is full once as many sets are taken as it has places
-pub full-next : (k n : ℕ) → fullAfter n (k % n) (leb n k) ≡ leb n (suc k)
-full-next k n =
+pub full_next : (k n : ℕ) → full_after n (k % n) (leb n k) ≡ leb n (suc k)
+full_next k n =
     split (leb n k)
     (λ t. rw (t, le-leb n (suc k) (omega (arith, leb-true n k t))))
     (λ f. let l : k < n = leb-false n k f in
@@ -41,21 +41,21 @@ full-next k n =
     (λ g. rw (g, lt-leb n (suc k) (omega (arith, eqb-false (k + 1) n g))))))
 
 -- a place ends where the next begins, within the places that there are
-pub place-room : (i n w : ℕ) → i < n → i * w + w ≤ n * w
-place-room i n w h = rw (← suc-mul i w) (mul-le-mul_right w h)
+pub place_room : (i n w : ℕ) → i < n → i * w + w ≤ n * w
+place_room i n w h = rw (← suc-mul i w) (mul-le-mul_right w h)
 
 -- sets less than a round apart have different places
-pub places-apart : (j k n : ℕ) → j < k → k < j + n → j % n ≡ k % n → ⊥
-places-apart j k n l u e =
+pub places_apart : (j k n : ℕ) → j < k → k < j + n → j % n ≡ k % n → ⊥
+places_apart j k n l u e =
     split (leb (k / n) (j / n))
     (λ t. omega (arith, div-add-mod' j n, div-add-mod' k n, mul-le-mul_right {m = k / n} {n = j / n} n (leb-true (k / n) (j / n) t)))
-    (λ f. omega (arith, div-add-mod' j n, div-add-mod' k n, place-room (j / n) (k / n) n (leb-false (k / n) (j / n) f)))
+    (λ f. omega (arith, div-add-mod' j n, div-add-mod' k n, place_room (j / n) (k / n) n (leb-false (k / n) (j / n) f)))
 
 -- a store at one place leaves the others
 pub other_place : (vs m : List ℕ) (base i j w : ℕ) → length vs ≡ w → (i ≡ j → ⊥)
     → bytes_at (sets m (base + i * w) vs) (base + j * w) w ≡ bytes_at m (base + j * w) w
 other_place vs m base i j w e ne =
     split (ltb i j)
-    (λ t. bytes-behind vs m (base + i * w) (base + j * w) w (omega (arith, place-room i j w (ltb-true i j t))))
+    (λ t. bytes_behind vs m (base + i * w) (base + j * w) w (omega (arith, place_room i j w (ltb-true i j t))))
     (λ f. let l : j < i = omega (arith, ltb-false i j f, ne) in
-    bytes-before vs m (base + i * w) (base + j * w) w (omega (arith, place-room j i w l)))
+    bytes_before vs m (base + i * w) (base + j * w) w (omega (arith, place_room j i w l)))

@@ -9,151 +9,151 @@ use lib.Dec.{ltb}
 use lib.ListN.{take}
 use lib.Seq.{take-nil}
 use borrow.Author.Tests.{ltb-true, ltb-false}
-use Rattle.document.specs.Areas.{recordedEnd}
+use Rattle.document.specs.Areas.{recorded_end}
 use Rattle.document.specs.Plan.{Plan}
-use Rattle.document.specs.Trigger.{triggerValue, fires, isBeyond}
-use Rattle.document.specs.Run.{Watch, Run, placeBegins, setOf, lookedAt, watched, goesOn, setTaken, memoryAfterTick}
+use Rattle.document.specs.Trigger.{trigger_value, fires, is_beyond}
+use Rattle.document.specs.Run.{Watch, Run, place_begins, set_of, looked_at, watched, goes_on, set_taken, memory_after_tick}
 use Rattle.document.specs.Run.Watch.{unprimed, previous, triggered}
-use Rattle.document.specs.Sets.{every, untilStop, fromFirst, setsTaken}
-use Rattle.recorder_history.specs.History.{PlanFits, CountsFit, Event, Recording, begun, stepped, taken, memoriesLeft, memoriesFound}
+use Rattle.document.specs.Sets.{every, until_stop, from_first, sets_taken}
+use Rattle.recorder_history.specs.History.{PlanFits, CountsFit, Event, Recording, begun, stepped, taken, memories_left, memories_found}
 use Rattle.recorder_history.specs.History.Event.{tick, others, stop}
 use Rattle.document.proofs.Cases.{split}
-use Rattle.memory_ranges.proofs.Stored.{take-sets}
-use Rattle.recorder_history.proofs.Sources.{set_agrees, value-agrees}
-use Rattle.recorder_history.proofs.Counts.{started-fits, tick-fits}
-use Rattle.recorder_history.proofs.Ticks.{by-case, stopped-run, stopped-memory, stopped-taken, waits-run, waits-memory, waits-taken, takes_run, takes_memory, takes-taken}
+use Rattle.memory_ranges.proofs.Stored.{take_sets}
+use Rattle.recorder_history.proofs.Sources.{set_agrees, value_agrees}
+use Rattle.recorder_history.proofs.Counts.{started_fits, tick_fits}
+use Rattle.recorder_history.proofs.Ticks.{by_case, stopped_run, stopped_memory, stopped_taken, waits_run, waits_memory, waits_taken, takes_run, takes_memory, takes_taken}
 
 -- as many as are left, none when none is
 cut : (n : ℕ) (ms : List (List ℕ)) → take n ms ≡ cond (ltb 0 n) (take n ms) []
 cut n ms = split (ltb 0 n) (λ t. rw t) (λ f. let z : n ≡ 0 = omega (arith, ltb-false 0 n f) in rw (f, z))
 
 -- a wait passes one tick
-every-waits : (d w : ℕ) (m : List ℕ) (ms : List (List ℕ)) → 0 < w → every d w (m ∷ ms) ≡ every d (w - 1) ms
-every-waits d w m ms h = let e : w ≡ suc (w - 1) = omega arith in ap (λ (k : ℕ). every d k (m ∷ ms)) e
+every_waits : (d w : ℕ) (m : List ℕ) (ms : List (List ℕ)) → 0 < w → every d w (m ∷ ms) ≡ every d (w - 1) ms
+every_waits d w m ms h = let e : w ≡ suc (w - 1) = omega arith in ap (λ (k : ℕ). every d k (m ∷ ms)) e
 
 -- what a tick leaves below the buffer
-below-kept : (p : Plan) (r : Run) (m : List ℕ) → take recordedEnd (memoryAfterTick p r m) ≡ take recordedEnd m
-below-kept p r m =
-    by-case r
-    (λ e. ap (take recordedEnd) (stopped-memory p r m e))
-    (λ e h. ap (take recordedEnd) (waits-memory p r m e h))
-    (λ e h. ap (take recordedEnd) (takes_memory p r m e h)
-    ∙ take-sets (setOf p m) m (placeBegins p r.place) recordedEnd (omega arith))
+below_kept : (p : Plan) (r : Run) (m : List ℕ) → take recorded_end (memory_after_tick p r m) ≡ take recorded_end m
+below_kept p r m =
+    by_case r
+    (λ e. ap (take recorded_end) (stopped_memory p r m e))
+    (λ e h. ap (take recorded_end) (waits_memory p r m e h))
+    (λ e h. ap (take recorded_end) (takes_memory p r m e h)
+    ∙ take_sets (set_of p m) m (place_begins p r.place) recorded_end (omega arith))
 
 module _ (p : Plan) where
   -- of the memories at which sets are due, those of which sets are taken, by how far the trigger has come
   abbrev wanted : Watch → List (List ℕ) → List (List ℕ)
-  wanted unprimed ms = fromFirst p ms
-  wanted (previous before) ms = untilStop p before ms
+  wanted unprimed ms = from_first p ms
+  wanted (previous before) ms = until_stop p before ms
   wanted (triggered left) ms = take left ms
 
-  wanted-none : (w : Watch) → wanted w [] ≡ []
-  wanted-none unprimed = refl
-  wanted-none (previous before) = refl
-  wanted-none (triggered left) = take-nil left
+  wanted_none : (w : Watch) → wanted w [] ≡ []
+  wanted_none unprimed = refl
+  wanted_none (previous before) = refl
+  wanted_none (triggered left) = take-nil left
 
   -- a set at which the trigger comes, or does not
-  looked-takes : (come : Bool) (m : List ℕ) (ms : List (List ℕ))
-      → m ∷ cond come (take p.postTrigger ms) (untilStop p (triggerValue p.trigger m) ms)
-      ≡ m ∷ cond (goesOn (lookedAt p come (triggerValue p.trigger m))) (wanted (lookedAt p come (triggerValue p.trigger m)) ms) []
-  looked-takes true m ms = ap (λ (l : List (List ℕ)). m ∷ l) (cut p.postTrigger ms)
-  looked-takes false m ms = refl
+  looked_takes : (come : Bool) (m : List ℕ) (ms : List (List ℕ))
+      → m ∷ cond come (take p.post_trigger ms) (until_stop p (trigger_value p.trigger m) ms)
+      ≡ m ∷ cond (goes_on (looked_at p come (trigger_value p.trigger m))) (wanted (looked_at p come (trigger_value p.trigger m)) ms) []
+  looked_takes true m ms = ap (λ (l : List (List ℕ)). m ∷ l) (cut p.post_trigger ms)
+  looked_takes false m ms = refl
 
   -- a set is taken, and then what the next watch wants
-  wanted-takes : (w : Watch) (m : List ℕ) (ms : List (List ℕ)) → goesOn w ≡ true
+  wanted_takes : (w : Watch) (m : List ℕ) (ms : List (List ℕ)) → goes_on w ≡ true
       → wanted w (m ∷ ms)
-      ≡ m ∷ cond (goesOn (watched p w (triggerValue p.trigger m))) (wanted (watched p w (triggerValue p.trigger m)) ms) []
-  wanted-takes unprimed m ms g = looked-takes (isBeyond p.trigger (triggerValue p.trigger m)) m ms
-  wanted-takes (previous before) m ms g = looked-takes (fires p.trigger before (triggerValue p.trigger m)) m ms
-  wanted-takes (triggered left) m ms g =
+      ≡ m ∷ cond (goes_on (watched p w (trigger_value p.trigger m))) (wanted (watched p w (trigger_value p.trigger m)) ms) []
+  wanted_takes unprimed m ms g = looked_takes (is_beyond p.trigger (trigger_value p.trigger m)) m ms
+  wanted_takes (previous before) m ms g = looked_takes (fires p.trigger before (trigger_value p.trigger m)) m ms
+  wanted_takes (triggered left) m ms g =
       let e : left ≡ suc (left - 1) = omega (arith, ltb-true 0 left g) in
       ap (λ (k : ℕ). take k (m ∷ ms)) e ∙ ap (λ (l : List (List ℕ)). m ∷ l) (cut (left - 1) ms)
 
   -- the sets that a run takes of the memories at the ticks to come
   abbrev due : Bool → ℕ → Watch → List (List ℕ) → List (List ℕ)
-  due running wait w ms = map (setOf p) (cond running (wanted w (every p.divider wait ms)) [])
+  due running wait w ms = map (set_of p) (cond running (wanted w (every p.divider wait ms)) [])
 
-  due-none : (running : Bool) (wait : ℕ) (w : Watch) → due running wait w [] ≡ []
-  due-none true wait w = ap (map (setOf p)) (wanted-none w)
-  due-none false wait w = refl
+  due_none : (running : Bool) (wait : ℕ) (w : Watch) → due running wait w [] ≡ []
+  due_none true wait w = ap (map (set_of p)) (wanted_none w)
+  due_none false wait w = refl
 
-  due-takes : (r : Run) (m n : List ℕ) (ms : List (List ℕ)) → r.running ≡ true → goesOn r.watch ≡ true → r.wait ≡ 0
-      → setOf p m ≡ setOf p n → triggerValue p.trigger m ≡ triggerValue p.trigger n
+  due_takes : (r : Run) (m n : List ℕ) (ms : List (List ℕ)) → r.running ≡ true → goes_on r.watch ≡ true → r.wait ≡ 0
+      → set_of p m ≡ set_of p n → trigger_value p.trigger m ≡ trigger_value p.trigger n
       → due r.running r.wait r.watch (n ∷ ms)
-      ≡ setOf p m ∷ due (setTaken p r m).running (setTaken p r m).wait (setTaken p r m).watch ms
-  due-takes r m n ms e g z s v =
-      rw (e, z, s, v) (ap (map (setOf p)) (wanted-takes r.watch n (every p.divider p.divider ms) g))
+      ≡ set_of p m ∷ due (set_taken p r m).running (set_taken p r m).wait (set_taken p r m).watch ms
+  due_takes r m n ms e g z s v =
+      rw (e, z, s, v) (ap (map (set_of p)) (wanted_takes r.watch n (every p.divider p.divider ms) g))
 
-  due-waits : (r : Run) (n : List ℕ) (ms : List (List ℕ)) → 0 < r.wait
+  due_waits : (r : Run) (n : List ℕ) (ms : List (List ℕ)) → 0 < r.wait
       → due r.running r.wait r.watch (n ∷ ms) ≡ due r.running (r.wait - 1) r.watch ms
-  due-waits r n ms h = rw (every-waits p.divider r.wait n ms h)
+  due_waits r n ms h = rw (every_waits p.divider r.wait n ms h)
 
-  due-stopped : (r : Run) (n : List ℕ) (ms : List (List ℕ)) → r.running ≡ false
+  due_stopped : (r : Run) (n : List ℕ) (ms : List (List ℕ)) → r.running ≡ false
       → due r.running r.wait r.watch (n ∷ ms) ≡ due r.running r.wait r.watch ms
-  due-stopped r n ms e = rw e
+  due_stopped r n ms e = rw e
 
   -- memories ms, one for each tick until a stop, that agree below the buffer with what the ticks find
   abbrev Agree : Recording → List Event → List (List ℕ) → Type 0
   Agree g [] ms = ms ≡ []
   Agree g (tick ∷ es) [] = ⊥
-  Agree g (tick ∷ es) (m ∷ ms) = (take recordedEnd g.memory ≡ take recordedEnd m) × Agree (stepped p g tick) es ms
+  Agree g (tick ∷ es) (m ∷ ms) = (take recorded_end g.memory ≡ take recorded_end m) × Agree (stepped p g tick) es ms
   Agree g (others m ∷ es) ms = Agree (stepped p g (others m)) es ms
   Agree g (stop ∷ es) ms = ms ≡ []
 
-  found-agree : (es : List Event) (g : Recording) → Agree g es (memoriesFound p g es)
-  found-agree [] g = refl
-  found-agree (tick ∷ es) g = (refl, found-agree es (stepped p g tick))
-  found-agree (others m ∷ es) g = found-agree es (stepped p g (others m))
-  found-agree (stop ∷ es) g = refl
+  found_agree : (es : List Event) (g : Recording) → Agree g es (memories_found p g es)
+  found_agree [] g = refl
+  found_agree (tick ∷ es) g = (refl, found_agree es (stepped p g tick))
+  found_agree (others m ∷ es) g = found_agree es (stepped p g (others m))
+  found_agree (stop ∷ es) g = refl
 
-  left-agree : (es : List Event) (g : Recording) (m : List ℕ) → take recordedEnd g.memory ≡ take recordedEnd m
-      → Agree g es (memoriesLeft m es)
-  left-agree [] g m a = refl
-  left-agree (tick ∷ es) g m a = (a, left-agree es (stepped p g tick) m (below-kept p g.run g.memory ∙ a))
-  left-agree (others n ∷ es) g m a = left-agree es (stepped p g (others n)) n refl
-  left-agree (stop ∷ es) g m a = refl
+  left_agree : (es : List Event) (g : Recording) (m : List ℕ) → take recorded_end g.memory ≡ take recorded_end m
+      → Agree g es (memories_left m es)
+  left_agree [] g m a = refl
+  left_agree (tick ∷ es) g m a = (a, left_agree es (stepped p g tick) m (below_kept p g.run g.memory ∙ a))
+  left_agree (others n ∷ es) g m a = left_agree es (stepped p g (others n)) n refl
+  left_agree (stop ∷ es) g m a = refl
 
   -- a stopped run takes nothing more
-  stopped-takes-none : (es : List Event) (g : Recording) → g.run.running ≡ false → taken p g es ≡ []
-  stopped-takes-none [] g e = refl
-  stopped-takes-none (tick ∷ es) g e =
-      rw (stopped-taken p g.run g.memory e)
-      (stopped-takes-none es (stepped p g tick) (ap (λ (r : Run). r.running) (stopped-run p g.run g.memory e) ∙ e))
-  stopped-takes-none (others m ∷ es) g e = stopped-takes-none es (stepped p g (others m)) e
-  stopped-takes-none (stop ∷ es) g e = stopped-takes-none es (stepped p g stop) refl
+  stopped_takes_none : (es : List Event) (g : Recording) → g.run.running ≡ false → taken p g es ≡ []
+  stopped_takes_none [] g e = refl
+  stopped_takes_none (tick ∷ es) g e =
+      rw (stopped_taken p g.run g.memory e)
+      (stopped_takes_none es (stepped p g tick) (ap (λ (r : Run). r.running) (stopped_run p g.run g.memory e) ∙ e))
+  stopped_takes_none (others m ∷ es) g e = stopped_takes_none es (stepped p g (others m)) e
+  stopped_takes_none (stop ∷ es) g e = stopped_takes_none es (stepped p g stop) refl
 
   module _ (f : PlanFits p) where
-    taken-due : (es : List Event) (g : Recording) (ms : List (List ℕ)) → CountsFit p g.run → Agree g es ms
+    taken_due : (es : List Event) (g : Recording) (ms : List (List ℕ)) → CountsFit p g.run → Agree g es ms
         → taken p g es ≡ due g.run.running g.run.wait g.run.watch ms
-    taken-due [] g ms c a = rw a (sym (due-none g.run.running g.run.wait g.run.watch))
-    taken-due (tick ∷ es) g [] c a = absurd a
-    taken-due (tick ∷ es) g (m ∷ ms) c a =
-        let i = taken-due es (stepped p g tick) ms (tick-fits p g.run g.memory c) a.1 in
-        by-case g.run
-        (λ e. rw (stopped-taken p g.run g.memory e)
+    taken_due [] g ms c a = rw a (sym (due_none g.run.running g.run.wait g.run.watch))
+    taken_due (tick ∷ es) g [] c a = absurd a
+    taken_due (tick ∷ es) g (m ∷ ms) c a =
+        let i = taken_due es (stepped p g tick) ms (tick_fits p g.run g.memory c) a.1 in
+        by_case g.run
+        (λ e. rw (stopped_taken p g.run g.memory e)
         (i
-        ∙ ap (λ (r : Run). due r.running r.wait r.watch ms) (stopped-run p g.run g.memory e)
-        ∙ sym (due-stopped g.run m ms e)))
-        (λ e h. rw (waits-taken p g.run g.memory e h)
+        ∙ ap (λ (r : Run). due r.running r.wait r.watch ms) (stopped_run p g.run g.memory e)
+        ∙ sym (due_stopped g.run m ms e)))
+        (λ e h. rw (waits_taken p g.run g.memory e h)
         (i
-        ∙ ap (λ (r : Run). due r.running r.wait r.watch ms) (waits-run p g.run g.memory e h)
-        ∙ sym (due-waits g.run m ms h)))
-        (λ e h. rw (takes-taken p g.run g.memory e h)
-        (ap (λ (l : List (List ℕ)). setOf p g.memory ∷ l)
+        ∙ ap (λ (r : Run). due r.running r.wait r.watch ms) (waits_run p g.run g.memory e h)
+        ∙ sym (due_waits g.run m ms h)))
+        (λ e h. rw (takes_taken p g.run g.memory e h)
+        (ap (λ (l : List (List ℕ)). set_of p g.memory ∷ l)
         (i ∙ ap (λ (r : Run). due r.running r.wait r.watch ms) (takes_run p g.run g.memory e h))
         ∙ sym
-        (due-takes g.run g.memory m ms e (c.more e) h (set_agrees p f g.memory m a.0) (value-agrees p f g.memory m a.0))))
-    taken-due (others m ∷ es) g ms c a = taken-due es (stepped p g (others m)) ms c a
-    taken-due (stop ∷ es) g ms c a =
-        stopped-takes-none es (stepped p g stop) refl
-        ∙ rw a (sym (due-none g.run.running g.run.wait g.run.watch))
+        (due_takes g.run g.memory m ms e (c.more e) h (set_agrees p f g.memory m a.0) (value_agrees p f g.memory m a.0))))
+    taken_due (others m ∷ es) g ms c a = taken_due es (stepped p g (others m)) ms c a
+    taken_due (stop ∷ es) g ms c a =
+        stopped_takes_none es (stepped p g stop) refl
+        ∙ rw a (sym (due_none g.run.running g.run.wait g.run.watch))
 
     -- the sets taken since a start are those of the memories as others left them
-    pub taken-of-left : (m : List ℕ) (es : List Event) → taken p (begun m) es ≡ setsTaken p (memoriesLeft m es)
-    unfolding setsTaken
-    taken-of-left m es = taken-due es (begun m) (memoriesLeft m es) (started-fits p f) (left-agree es (begun m) m refl)
+    pub taken_of_left : (m : List ℕ) (es : List Event) → taken p (begun m) es ≡ sets_taken p (memories_left m es)
+    unfolding sets_taken
+    taken_of_left m es = taken_due es (begun m) (memories_left m es) (started_fits p f) (left_agree es (begun m) m refl)
 
     -- and those of the memories that the ticks find
-    pub taken-of-found : (m : List ℕ) (es : List Event) → taken p (begun m) es ≡ setsTaken p (memoriesFound p (begun m) es)
-    unfolding setsTaken
-    taken-of-found m es = taken-due es (begun m) (memoriesFound p (begun m) es) (started-fits p f) (found-agree es (begun m))
+    pub taken_of_found : (m : List ℕ) (es : List Event) → taken p (begun m) es ≡ sets_taken p (memories_found p (begun m) es)
+    unfolding sets_taken
+    taken_of_found m es = taken_due es (begun m) (memories_found p (begun m) es) (started_fits p f) (found_agree es (begun m))

@@ -1,6 +1,6 @@
 -- What is left of a trace: the words of the theorems about what a recorder keeps.
 use Rattle.std.specs.Prelude.{◌≡◌, cond, List, ◌∷◌, ◌++◌, ℕ, ◌%◌, ◌≤◌, length, drop, ltb}
-use Rattle.document.specs.Areas.{bufferBegin}
+use Rattle.document.specs.Areas.{buffer_begin}
 use Rattle.document.specs.Plan.{Trigger}
 use Rattle.recorder_history.specs.History.{Recording}
 
@@ -14,7 +14,7 @@ pub record Among (set : List ℕ) (n : ℕ) (sets : List (List ℕ)) : Type 0 wh
 -- the run and the buffer's bytes stay
 pub record Stays (g later : Recording) : Type 0 where
   pub run : later.run ≡ g.run
-  pub buffer : drop bufferBegin later.memory ≡ drop bufferBegin g.memory
+  pub buffer : drop buffer_begin later.memory ≡ drop buffer_begin g.memory
 
 -- "The start index is 0 until 'samples' sets are taken, then the place that would be written next.": so many sets are taken
 abbrev pub index_after : ℕ → ℕ → ℕ

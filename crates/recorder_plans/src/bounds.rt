@@ -1,7 +1,7 @@
 // The bounds of a trigger's numbers, tested by one call. What stands first in a test is what the later parts of it lean on.
 ghost use Rattle.std.specs.Prelude.{◌≡◌, [], ◌∷◌, ◌*◌, ◌^◌, ◌≤◌};
-ghost use Rattle.document.specs.Numbers.{isIn};
-ghost use Rattle.recorder_plans.specs.Bounds.{fits, sizeSound, triggerSound};
+ghost use Rattle.document.specs.Numbers.{is_in};
+ghost use Rattle.recorder_plans.specs.Bounds.{fits, size_sound, trigger_sound};
 
 use bytes_widths::{u64_of_u32, usize_of_u8};
 use memory_ranges::may_be_recorded;
@@ -22,7 +22,7 @@ pub fn does_fit(size: usize, x: u32) -> bool
 }
 
 pub fn is_trigger_size(size: u8) -> bool
-    ensures { result ≡ isIn size (1 ∷ 2 ∷ 4 ∷ []) }
+    ensures { result ≡ is_in size (1 ∷ 2 ∷ 4 ∷ []) }
 {
     if size == 1 {
         return true;
@@ -37,7 +37,7 @@ pub fn is_trigger_size(size: u8) -> bool
 }
 
 fn is_size_sound(mode: u8, size: u8) -> bool
-    ensures { result ≡ sizeSound mode size }
+    ensures { result ≡ size_sound mode size }
 {
     if mode == 0 {
         return size == 0;
@@ -46,7 +46,7 @@ fn is_size_sound(mode: u8, size: u8) -> bool
 }
 
 pub fn is_trigger_sound(mode: u8, size: u8, sign: u8, address: u32, threshold: u32) -> bool
-    ensures { result ≡ triggerSound mode size sign address threshold }
+    ensures { result ≡ trigger_sound mode size sign address threshold }
 {
     if mode > 2 {
         return false;

@@ -5,25 +5,25 @@ use Prim.Native.Nat.{ℕ, zero, suc, ◌≤◌}
 use native.Mathlib.Omega.{arith}
 use Rattle.document.specs.Run.{Watch, Run}
 use Rattle.document.specs.Run.Watch.{unprimed, previous, triggered}
-use Rattle.recorder_runs.specs.State.{is_set, flagOf, watchOf, watchNumber, watchValue, run_of, runKept}
+use Rattle.recorder_runs.specs.State.{is_set, flag_of, watch_of, watch_number, watch_value, run_of, run_kept}
 
-pub flag-read : (b : Bool) → is_set (flagOf b) ≡ b
-flag-read true = refl
-flag-read false = refl
+pub flag_read : (b : Bool) → is_set (flag_of b) ≡ b
+flag_read true = refl
+flag_read false = refl
 
-pub flag-kept : (flag : ℕ) → flag ≤ 1 → flagOf (is_set flag || false) ≡ flag
-flag-kept zero h = refl
-flag-kept (suc zero) h = refl
-flag-kept (suc (suc n)) h = let x : ⊥ = omega arith in absurd x
+pub flag_kept : (flag : ℕ) → flag ≤ 1 → flag_of (is_set flag || false) ≡ flag
+flag_kept zero h = refl
+flag_kept (suc zero) h = refl
+flag_kept (suc (suc n)) h = let x : ⊥ = omega arith in absurd x
 
-pub flag-filled : (b : Bool) → flagOf (b || true) ≡ 1
-flag-filled true = refl
-flag-filled false = refl
+pub flag_filled : (b : Bool) → flag_of (b || true) ≡ 1
+flag_filled true = refl
+flag_filled false = refl
 
-pub watch-read : (w : Watch) → watchOf (watchNumber w) (watchValue w) ≡ w
-watch-read unprimed = refl
-watch-read (previous value) = refl
-watch-read (triggered left) = refl
+pub watch_read : (w : Watch) → watch_of (watch_number w) (watch_value w) ≡ w
+watch_read unprimed = refl
+watch_read (previous value) = refl
+watch_read (triggered left) = refl
 
-pub run-read : (r : Run) → run_of (runKept r) ≡ r
-run-read r = λ i. record { running = flag-read r.running i; wait = r.wait; place = r.place; full = flag-read r.full i; watch = watch-read r.watch i }
+pub run_read : (r : Run) → run_of (run_kept r) ≡ r
+run_read r = λ i. record { running = flag_read r.running i; wait = r.wait; place = r.place; full = flag_read r.full i; watch = watch_read r.watch i }

@@ -1,6 +1,6 @@
 // The bounds of a run beside its plan's, part by part. What stands first in a test is what the later parts of it lean on.
 ghost use Rattle.std.specs.Prelude.{◌≡◌, ◌≤◌};
-ghost use Rattle.recorder_runs.specs.Bounds.{flagsSound, countsSound, watchSound, soundBeside};
+ghost use Rattle.recorder_runs.specs.Bounds.{flags_sound, counts_sound, watch_sound, sound_beside};
 
 use crate::run::{PREVIOUS, Run, TRIGGERED, UNPRIMED};
 use bytes_widths::{u32_of_u16, usize_of_u8};
@@ -8,7 +8,7 @@ use recorder_plans::does_fit;
 
 fn is_watch_sound(size: u8, post: u16, running: u8, watch: u8, value: u32) -> bool
     requires { size ≤ 4 }
-    ensures { result ≡ watchSound size post running watch value }
+    ensures { result ≡ watch_sound size post running watch value }
 {
     if watch == UNPRIMED {
         return value == 0;
@@ -30,13 +30,13 @@ fn is_watch_sound(size: u8, post: u16, running: u8, watch: u8, value: u32) -> bo
 
 impl Run {
     fn are_flags_sound(self) -> bool
-        ensures { result ≡ flagsSound self }
+        ensures { result ≡ flags_sound self }
     {
         self.running <= 1 && self.full <= 1
     }
 
     fn are_counts_sound(self, samples: u16, divider: u16) -> bool
-        ensures { result ≡ countsSound samples divider self }
+        ensures { result ≡ counts_sound samples divider self }
     {
         self.wait <= divider && self.place < samples
     }
@@ -44,7 +44,7 @@ impl Run {
     // Beside the numbers of a plan, whose trigger has this size.
     pub fn is_sound(self, samples: u16, divider: u16, size: u8, post: u16) -> bool
         requires { size ≤ 4 }
-        ensures { result ≡ soundBeside samples divider size post self }
+        ensures { result ≡ sound_beside samples divider size post self }
     {
         if !self.are_flags_sound() {
             return false;

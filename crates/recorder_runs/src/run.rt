@@ -1,7 +1,7 @@
 // What changes while a recorder runs: numbers alone, so that every bit pattern is a value and one outside the bounds can be refused.
 ghost use Rattle.std.specs.Prelude.{◌≡◌};
 ghost use Rattle.document.specs.Run.{started, prepared};
-ghost use Rattle.recorder_runs.specs.State.{runKept};
+ghost use Rattle.recorder_runs.specs.State.{run_kept};
 
 // How far the trigger has come.
 pub const UNPRIMED: u8 = 0;
@@ -28,7 +28,7 @@ pub struct Run {
 impl Run {
     // Every field is set, so that nothing of the run before is left.
     pub fn prepared(mut self) -> Run
-        ensures { result ≡ runKept prepared }
+        ensures { result ≡ run_kept prepared }
     {
         self.running = 0;
         self.full = 0;
@@ -40,7 +40,7 @@ impl Run {
     }
 
     pub fn restarted(self) -> Run
-        ensures { result ≡ runKept started }
+        ensures { result ≡ run_kept started }
     {
         let mut run = self.prepared();
         run.running = 1;

@@ -1,11 +1,11 @@
 // What a set changes of a run: its place, its wait and its watch for the trigger.
 ghost use Rattle.std.specs.Prelude.{◌≡◌, true, List, ℕ, ◌*◌, ◌^◌, ◌≤◌, ◌<◌, ltb};
-ghost use Rattle.document.specs.Trigger.{triggerValue};
-ghost use Rattle.document.specs.Run.{placeAfter, fullAfter, comes, watched, setTaken};
-ghost use Rattle.recorder_plans.specs.State.{triggerOf, plan_of};
-ghost use Rattle.recorder_runs.specs.State.{is_set, flagOf, watchOf, withPlace, withWatch, watching, run_of, runKept};
-ghost use Rattle.recorder_plans.specs.Bounds.{planSound};
-ghost use Rattle.recorder_runs.specs.Bounds.{runSound, Looking};
+ghost use Rattle.document.specs.Trigger.{trigger_value};
+ghost use Rattle.document.specs.Run.{place_after, full_after, comes, watched, set_taken};
+ghost use Rattle.recorder_plans.specs.State.{trigger_of, plan_of};
+ghost use Rattle.recorder_runs.specs.State.{is_set, flag_of, watch_of, with_place, with_watch, watching, run_of, run_kept};
+ghost use Rattle.recorder_plans.specs.Bounds.{plan_sound};
+ghost use Rattle.recorder_runs.specs.Bounds.{run_sound, Looking};
 
 use crate::run::{PREVIOUS, Run, TRIGGERED, UNPRIMED};
 use bytes_widths::{u32_of_u16, usize_of_u8};
@@ -15,7 +15,7 @@ use recorder_triggers::{comes, is_beyond};
 impl Run {
     fn next_place(mut self, samples: u16) -> Run
         requires { (self.place < samples) × (self.full ≤ 1) }
-        ensures { result ≡ withPlace self (flagOf (fullAfter samples self.place (is_set self.full))) (placeAfter samples self.place) }
+        ensures { result ≡ with_place self (flag_of (full_after samples self.place (is_set self.full))) (place_after samples self.place) }
     {
         if self.place + 1 == samples {
             self.place = 0;
@@ -28,7 +28,7 @@ impl Run {
 
     // The trigger is still awaited.
     fn primed(mut self, value: u32) -> Run
-        ensures { result ≡ withWatch self self.running 1 value }
+        ensures { result ≡ with_watch self self.running 1 value }
     {
         self.watch = PREVIOUS;
         self.value = value;
@@ -38,7 +38,7 @@ impl Run {
     // So many further sets are to be taken, and with none left it stops.
     fn counting(mut self, left: u32) -> Run
         requires { self.running ≡ 1 }
-        ensures { result ≡ withWatch self (flagOf (ltb 0 left)) 2 left }
+        ensures { result ≡ with_watch self (flag_of (ltb 0 left)) 2 left }
     {
         self.watch = TRIGGERED;
         self.value = left;
@@ -52,7 +52,7 @@ impl Run {
     // Whether the trigger, which is awaited, comes at a set with this value: the first set is looked at for itself.
     fn does_come(self, plan: Plan, value: u32) -> bool
         requires { Looking plan self value × (self.watch ≡ 2 → ⊥) }
-        ensures { result ≡ comes (triggerOf plan) (watchOf self.watch self.value) value }
+        ensures { result ≡ comes (trigger_of plan) (watch_of self.watch self.value) value }
     {
         let size = usize_of_u8(plan.size);
         if self.watch == UNPRIMED {
@@ -71,7 +71,7 @@ impl Run {
     // The trigger variable held `value` at the set just taken.
     fn watch_on(self, plan: Plan, value: u32) -> Run
         requires { Looking plan self value × (self.running ≡ 1) }
-        ensures { result ≡ watching self (watched (plan_of plan) (watchOf self.watch self.value) value) }
+        ensures { result ≡ watching self (watched (plan_of plan) (watch_of self.watch self.value) value) }
     {
         if self.watch == TRIGGERED {
             return self.counting(self.value - 1);
@@ -84,8 +84,8 @@ impl Run {
 
     // A set is taken, at which the trigger variable held `value`. The tick, which calls this, has a state within its bounds.
     pub fn after_set(mut self, plan: Plan, value: u32) -> Run
-        requires { (planSound plan ≡ true) × (runSound plan self ≡ true) × (self.running ≡ 1) × (value < 2 ^ (8 * plan.size)) }
-        ensures { (memory : List ℕ) → value ≡ triggerValue (triggerOf plan) memory → result ≡ runKept (setTaken (plan_of plan) (run_of self) memory) }
+        requires { (plan_sound plan ≡ true) × (run_sound plan self ≡ true) × (self.running ≡ 1) × (value < 2 ^ (8 * plan.size)) }
+        ensures { (memory : List ℕ) → value ≡ trigger_value (trigger_of plan) memory → result ≡ run_kept (set_taken (plan_of plan) (run_of self) memory) }
     {
         self.wait = plan.divider;
         let placed = self.next_place(plan.samples);

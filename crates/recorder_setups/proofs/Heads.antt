@@ -9,43 +9,43 @@ use lib.Seq.{take-take, take_all}
 use borrow.Author.Tests.{eq-eqb, ne_eqb}
 use Rattle.document.specs.Areas.{bytes_at}
 use Rattle.document.specs.Values.{number}
-use Rattle.document.specs.Plan.{Trigger, Plan, modeField, triggerAddressField, triggerSizeField, signField, thresholdField, noTrigger, triggerIn}
+use Rattle.document.specs.Plan.{Trigger, Plan, mode_field, trigger_address_field, trigger_size_field, sign_field, threshold_field, no_trigger, trigger_in}
 use Rattle.variables_list.specs.declared.Variables.{Variables}
 use Rattle.recorder_plans.specs.declared.plan.Plan.{Plan as PlanState}
-use Rattle.recorder_plans.specs.State.{planKept}
+use Rattle.recorder_plans.specs.State.{plan_kept}
 
 -- ---- "only the first 'trigger size' bytes count"
 
 module _ (body : List ℕ) (at size : ℕ) where
-  pub threshold-short : size < 4 → number (bytes_at body at size) ≡ number (take size (bytes_at body at 4))
-  threshold-short h = ap number (sym (take-take size 4 (drop at body) (omega arith)))
+  pub threshold_short : size < 4 → number (bytes_at body at size) ≡ number (take size (bytes_at body at 4))
+  threshold_short h = ap number (sym (take-take size 4 (drop at body) (omega arith)))
 
-  pub threshold-whole : 4 ≤ size → number (bytes_at body at 4) ≡ number (take size (bytes_at body at 4))
-  threshold-whole h = ap number (sym (take_all size (take 4 (drop at body)) (rw length-take (omega arith))))
+  pub threshold_whole : 4 ≤ size → number (bytes_at body at 4) ≡ number (take size (bytes_at body at 4))
+  threshold_whole h = ap number (sym (take_all size (take 4 (drop at body)) (rw length-take (omega arith))))
 
 -- ---- the trigger by the mode
 
 -- every field of a trigger that a data part holds
-abbrev pub triggerFields : Bool → List ℕ → Trigger
-triggerFields ex body =
+abbrev pub trigger_fields : Bool → List ℕ → Trigger
+trigger_fields ex body =
     record {
-      mode = modeField body;
-      address = triggerAddressField ex body;
-      size = triggerSizeField ex body;
-      sign = signField ex body;
-      threshold = thresholdField ex body;
+      mode = mode_field body;
+      address = trigger_address_field ex body;
+      size = trigger_size_field ex body;
+      sign = sign_field ex body;
+      threshold = threshold_field ex body;
     }
 
 module _ (ex : Bool) (body : List ℕ) where
-  pub trigger-none : modeField body ≡ 0 → triggerIn ex body ≡ noTrigger
-  trigger-none e = ap (λ (b : Bool). cond (not b) (triggerFields ex body) noTrigger) (eq-eqb (modeField body) 0 e)
+  pub trigger_none : mode_field body ≡ 0 → trigger_in ex body ≡ no_trigger
+  trigger_none e = ap (λ (b : Bool). cond (not b) (trigger_fields ex body) no_trigger) (eq-eqb (mode_field body) 0 e)
 
-  pub trigger-some : (modeField body ≡ 0 → ⊥) → triggerIn ex body ≡ triggerFields ex body
-  trigger-some n = ap (λ (b : Bool). cond (not b) (triggerFields ex body) noTrigger) (ne_eqb (modeField body) 0 n)
+  pub trigger_some : (mode_field body ≡ 0 → ⊥) → trigger_in ex body ≡ trigger_fields ex body
+  trigger_some n = ap (λ (b : Bool). cond (not b) (trigger_fields ex body) no_trigger) (ne_eqb (mode_field body) 0 n)
 
 -- a plan is kept once each number is the plan's
-pub plan-kept : (p : Plan) (t : Trigger) (v : Variables) (samples post divider mode size sign address threshold : ℕ)
-    → samples ≡ p.samples → post ≡ p.postTrigger → divider ≡ p.divider → p.trigger ≡ t
+pub plan_kept_lem : (p : Plan) (t : Trigger) (v : Variables) (samples post divider mode size sign address threshold : ℕ)
+    → samples ≡ p.samples → post ≡ p.post_trigger → divider ≡ p.divider → p.trigger ≡ t
     → mode ≡ t.mode → size ≡ t.size → sign ≡ t.sign → address ≡ t.address → threshold ≡ t.threshold
     → ◌≡◌ {A = PlanState}
     (record {
@@ -59,8 +59,8 @@ pub plan-kept : (p : Plan) (t : Trigger) (v : Variables) (samples post divider m
       threshold = threshold;
       variables = v;
     })
-    (planKept p v)
-plan-kept p t v samples post divider mode size sign address threshold es ep ed et em ez eg ea eh =
+    (plan_kept p v)
+plan_kept_lem p t v samples post divider mode size sign address threshold es ep ed et em ez eg ea eh =
     let of : (f : Trigger → ℕ) (x : ℕ) → x ≡ f t → x ≡ f p.trigger = λ f x e. e ∙ ap f (sym et) in
     λ i.
     record {

@@ -2,9 +2,9 @@
 ghost use Rattle.std.specs.Prelude.{◌≡◌, [], ◌+◌, ◌*◌, ◌^◌, ◌≤◌, ◌<◌, length, take};
 ghost use Rattle.document.specs.Areas.{bytes_at};
 ghost use Rattle.document.specs.Values.{number};
-ghost use Rattle.document.specs.Plan.{headWidth, planIn};
+ghost use Rattle.document.specs.Plan.{head_width, plan_in};
 ghost use Rattle.variables_list.specs.State.{kept};
-ghost use Rattle.recorder_plans.specs.State.{planKept};
+ghost use Rattle.recorder_plans.specs.State.{plan_kept};
 
 use bytes_fields::word_at;
 use bytes_widths::usize_of_u8;
@@ -26,15 +26,15 @@ fn threshold_at(body: &[u8], at: usize, size: usize) -> u32
 
 // How many bytes stand before the count.
 pub fn head_width(ex: bool) -> usize
-    ensures { (result ≡ headWidth ex) × (result ≤ 17) }
+    ensures { (result ≡ head_width ex) × (result ≤ 17) }
 {
     13 + address_width(ex)
 }
 
 // The numbers before the count, without the variables. With mode 0 the trigger's fields are not looked at.
 pub fn read_plan(ex: bool, body: &[u8]) -> Plan
-    requires { headWidth ex ≤ length body.now }
-    ensures { (result ≡ planKept (planIn ex body.now) (kept [])) × (result.size ≤ 4 → result.threshold < 2 ^ (8 * result.size)) }
+    requires { head_width ex ≤ length body.now }
+    ensures { (result ≡ plan_kept (plan_in ex body.now) (kept [])) × (result.size ≤ 4 → result.threshold < 2 ^ (8 * result.size)) }
 {
     let mut plan = Plan {
         samples: word_at(body, 1),

@@ -1,10 +1,10 @@
 // What is wrong with a setup, line by line of the table.
 ghost use Rattle.std.specs.Prelude.{◌≡◌, not, ◌&&◌, [], ◌∷◌, ◌+◌, ◌*◌, ◌≤◌, eqb, ltb, length};
-ghost use Rattle.document.specs.Numbers.{isIn};
-ghost use Rattle.document.specs.Areas.{mayBeRecorded};
-ghost use Rattle.document.specs.Variables.{lengthGiven};
-ghost use Rattle.document.specs.Plan.{headWidth, variablesPart, recorderLayoutWrong};
-ghost use Rattle.recorder_setups.specs.Setup.{seenSizeWrong, seenRangeWrong, bodyStatus};
+ghost use Rattle.document.specs.Numbers.{is_in};
+ghost use Rattle.document.specs.Areas.{may_be_recorded};
+ghost use Rattle.document.specs.Variables.{length_given};
+ghost use Rattle.document.specs.Plan.{head_width, variables_part, recorder_layout_wrong};
+ghost use Rattle.recorder_setups.specs.Setup.{seen_size_wrong, seen_range_wrong, body_status};
 
 use crate::fields::head_width;
 use bytes_fields::word_at;
@@ -17,7 +17,7 @@ use variables_surveys::{Surveyed, is_whole, survey};
 
 // Too short for the fields before the count, or not as long as the count gives.
 fn is_length_wrong(ex: bool, body: &[u8]) -> bool
-    ensures { result ≡ not (eqb (length body.now) (headWidth ex + lengthGiven ex (variablesPart ex body.now))) }
+    ensures { result ≡ not (eqb (length body.now) (head_width ex + length_given ex (variables_part ex body.now))) }
 {
     let head = head_width(ex);
     if body.len() < head {
@@ -27,7 +27,7 @@ fn is_length_wrong(ex: bool, body: &[u8]) -> bool
 }
 
 fn is_layout_wrong(ex: bool, body: &[u8]) -> bool
-    ensures { result ≡ recorderLayoutWrong ex body.now }
+    ensures { result ≡ recorder_layout_wrong ex body.now }
 {
     if is_length_wrong(ex, body) {
         return true;
@@ -50,7 +50,7 @@ fn do_sets_overflow(samples: u16, size: usize) -> bool
 }
 
 fn is_trigger_size_wrong(mode: u8, size: u8) -> bool
-    ensures { result ≡ not (eqb mode 0) && not (isIn size (1 ∷ 2 ∷ 4 ∷ [])) }
+    ensures { result ≡ not (eqb mode 0) && not (is_in size (1 ∷ 2 ∷ 4 ∷ [])) }
 {
     if mode == 0 {
         return false;
@@ -60,8 +60,8 @@ fn is_trigger_size_wrong(mode: u8, size: u8) -> bool
 
 // Of variables whose count is right.
 fn is_size_wrong(ex: bool, body: &[u8], seen: Surveyed) -> bool
-    requires { (headWidth ex ≤ length body.now) × (seen.size ≤ 2040) }
-    ensures { result ≡ seenSizeWrong ex body.now seen }
+    requires { (head_width ex ≤ length body.now) × (seen.size ≤ 2040) }
+    ensures { result ≡ seen_size_wrong ex body.now seen }
 {
     if seen.zero {
         return true;
@@ -77,7 +77,7 @@ fn is_size_wrong(ex: bool, body: &[u8], seen: Surveyed) -> bool
 }
 
 fn is_trigger_range_wrong(mode: u8, address: u32, size: u8) -> bool
-    ensures { result ≡ not (eqb mode 0) && not (mayBeRecorded address size) }
+    ensures { result ≡ not (eqb mode 0) && not (may_be_recorded address size) }
 {
     if mode == 0 {
         return false;
@@ -86,8 +86,8 @@ fn is_trigger_range_wrong(mode: u8, address: u32, size: u8) -> bool
 }
 
 fn is_range_wrong(ex: bool, body: &[u8], seen: Surveyed) -> bool
-    requires { headWidth ex ≤ length body.now }
-    ensures { result ≡ seenRangeWrong ex body.now seen }
+    requires { head_width ex ≤ length body.now }
+    ensures { result ≡ seen_range_wrong ex body.now seen }
 {
     if !seen.within {
         return true;
@@ -98,7 +98,7 @@ fn is_range_wrong(ex: bool, body: &[u8], seen: Surveyed) -> bool
 
 // Any data part will do.
 pub fn setup_status(ex: bool, body: &[u8]) -> u8
-    ensures { result ≡ bodyStatus ex body.now }
+    ensures { result ≡ body_status ex body.now }
 {
     if is_layout_wrong(ex, body) {
         return codes_table::LAYOUT_WRONG;

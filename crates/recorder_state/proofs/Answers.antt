@@ -6,61 +6,61 @@ use Prim.Native.Nat.{ℕ, ◌≤◌, ◌<◌, ◌*◌, ◌^◌}
 use native.Mathlib.Omega.{arith}
 use borrow.Author.Tests.{eq-eqb, ne_eqb}
 use Rattle.document.specs.Numbers.{done, busy}
-use Rattle.document.specs.Plan.{Plan, planIn}
+use Rattle.document.specs.Plan.{Plan, plan_in}
 use Rattle.document.specs.Run.{started, prepared}
-use Rattle.document.specs.Recorder.{isRunning, recorderPrepared, recorderStarted}
+use Rattle.document.specs.Recorder.{is_running, recorder_prepared, recorder_started}
 use Rattle.document.specs.Recorder.Recorder.{absent, planned}
 use Rattle.recorder_state.specs.declared.state.Recorder.{Recorder as RecorderState}
-use Rattle.recorder_state.specs.State.{recorderOf, noRecorder}
-use Rattle.recorder_plans.specs.Bounds.{planSound}
+use Rattle.recorder_state.specs.State.{recorder_of, no_recorder}
+use Rattle.recorder_plans.specs.Bounds.{plan_sound}
 use Rattle.recorder_state.specs.Bounds.{sound}
-use Rattle.recorder_setups.specs.Setup.{bodyStatus, planRead}
-use Rattle.recorder_state.specs.Preparing.{prepareStatus, preparedState, bothNext}
-use Rattle.recorder_state.specs.Calls.{startedState}
+use Rattle.recorder_setups.specs.Setup.{body_status, plan_read}
+use Rattle.recorder_state.specs.Preparing.{prepare_status, prepared_state, both_next}
+use Rattle.recorder_state.specs.Calls.{started_state}
 use Rattle.document.proofs.Cases.{split}
-use Rattle.recorder_setups.proofs.SetUps.{accepted-means, accepted-sound}
-use Rattle.recorder_runs.proofs.Keeps.{prepared-run-sound}
+use Rattle.recorder_setups.proofs.SetUps.{accepted_means, accepted_sound}
+use Rattle.recorder_runs.proofs.Keeps.{prepared_run_sound}
 
-module _ (running ex : Bool) (body : List ℕ) (taken : prepareStatus running ex body ≡ done) where
+module _ (running ex : Bool) (body : List ℕ) (taken : prepare_status running ex body ≡ done) where
   -- nothing refuses only where it does not run, and where the data part is answered so
-  pub taken-body : bodyStatus ex body ≡ done
-  unfolding prepareStatus
+  pub taken-body : body_status ex body ≡ done
+  unfolding prepare_status
   taken-body =
       split running
       (λ t. let x : ◌≡◌ {A = ℕ} busy done = rw t at taken in let y : ⊥ = omega arith in absurd y)
       (λ f. rw f at taken)
 
   -- accepted, the struct means the document's recorder
-  pub prepared-means : recorderOf (preparedState ex body) ≡ recorderPrepared ex body
-  prepared-means = ap (λ (p : Plan). planned p prepared) (accepted-means ex body taken-body)
+  pub prepared-means : recorder_of (prepared_state ex body) ≡ recorder_prepared ex body
+  prepared-means = ap (λ (p : Plan). planned p prepared) (accepted_means ex body taken-body)
 
   -- and is within the bounds: the threshold's bytes hold a number of its size
-  pub prepared-sound : ((planIn ex body).trigger.size ≤ 4 → (planIn ex body).trigger.threshold < 2 ^ (8 * (planIn ex body).trigger.size))
-      → sound (preparedState ex body) ≡ true
+  pub prepared-sound : ((plan_in ex body).trigger.size ≤ 4 → (plan_in ex body).trigger.threshold < 2 ^ (8 * (plan_in ex body).trigger.size))
+      → sound (prepared_state ex body) ≡ true
   prepared-sound t =
-      let p : planSound (planRead ex body) ≡ true = accepted-sound ex body taken-body t in
-      rw (p, prepared-run-sound (planRead ex body) p)
+      let p : plan_sound (plan_read ex body) ≡ true = accepted_sound ex body taken-body t in
+      rw (p, prepared_run_sound (plan_read ex body) p)
 
 -- ---- prepared and started
 
 module _ (r : RecorderState) (ex : Bool) (body : List ℕ) where
-  pub both-refused : (prepareStatus (isRunning (recorderOf r)) ex body ≡ done → ⊥) → bothNext r ex body ≡ r
-  unfolding bothNext
-  both-refused some = rw (ne_eqb (prepareStatus (isRunning (recorderOf r)) ex body) done some)
+  pub both-refused : (prepare_status (is_running (recorder_of r)) ex body ≡ done → ⊥) → both_next r ex body ≡ r
+  unfolding both_next
+  both-refused some = rw (ne_eqb (prepare_status (is_running (recorder_of r)) ex body) done some)
 
-  module _ (taken : prepareStatus (isRunning (recorderOf r)) ex body ≡ done) where
-    pub both-taken : bothNext r ex body ≡ startedState (preparedState ex body)
-    unfolding bothNext
-    both-taken = rw (eq-eqb (prepareStatus (isRunning (recorderOf r)) ex body) done taken)
+  module _ (taken : prepare_status (is_running (recorder_of r)) ex body ≡ done) where
+    pub both-taken : both_next r ex body ≡ started_state (prepared_state ex body)
+    unfolding both_next
+    both-taken = rw (eq-eqb (prepare_status (is_running (recorder_of r)) ex body) done taken)
 
-    pub both-mean : recorderOf (bothNext r ex body) ≡ recorderStarted (recorderPrepared ex body)
+    pub both-mean : recorder_of (both_next r ex body) ≡ recorder_started (recorder_prepared ex body)
     both-mean =
-        ap recorderOf both-taken
-        ∙ ap (λ (p : Plan). planned p started) (accepted-means ex body (taken-body (isRunning (recorderOf r)) ex body taken))
+        ap recorder_of both-taken
+        ∙ ap (λ (p : Plan). planned p started) (accepted_means ex body (taken-body (is_running (recorder_of r)) ex body taken))
 
 -- at reset nothing is set up, and the state is sound
-pub new-means : recorderOf noRecorder ≡ absent
+pub new-means : recorder_of no_recorder ≡ absent
 new-means = refl
 
-pub new-sound : sound noRecorder ≡ true
-new-sound = refl
+pub new_sound : sound no_recorder ≡ true
+new_sound = refl

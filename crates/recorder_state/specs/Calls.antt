@@ -1,62 +1,62 @@
 -- What the recorder's calls promise: each its status, and the whole state that it hands back.
 use Rattle.std.specs.Prelude.{◌≡◌, cond, ℕ, eqb}
-use Rattle.document.specs.Numbers.{done, recorderRuns, recorderStopped, busy, notSetUp}
-use Rattle.document.specs.Run.{started, startIndex}
-use Rattle.document.specs.Recorder.{Recorder, recorderAbsent, isRunning}
+use Rattle.document.specs.Numbers.{done, recorder_runs, recorder_stopped, busy, not_set_up}
+use Rattle.document.specs.Run.{started, start_index}
+use Rattle.document.specs.Recorder.{Recorder, recorder_absent, is_running}
 use Rattle.document.specs.Recorder.Recorder.{absent, planned}
-use Rattle.recorder_runs.specs.State.{haltedRun}
+use Rattle.recorder_runs.specs.State.{halted_run}
 use Rattle.recorder_state.specs.declared.state.Recorder.{Recorder as RecorderState}
 use Rattle.recorder_state.specs.declared.calls.Answered.{Answered}
 use Rattle.recorder_state.specs.declared.calls.Queried.{Queried}
-use Rattle.recorder_state.specs.State.{recorderOf, with_run}
+use Rattle.recorder_state.specs.State.{recorder_of, with_run}
 
 -- "start, stop, status or buffer query with no accepted recorder setup since reset", before all else
-abbrev pub orNotSetUp : Recorder → ℕ → ℕ
-orNotSetUp r status = cond (recorderAbsent r) notSetUp status
+abbrev pub or_not_set_up : Recorder → ℕ → ℕ
+or_not_set_up r status = cond (recorder_absent r) not_set_up status
 
 -- ---- start
 
 -- "0xC1: running answers 0x01, else starts, 0x00."
-abbrev pub startStatus : Recorder → ℕ
-startStatus r = orNotSetUp r (cond (isRunning r) recorderRuns done)
+abbrev pub start_status : Recorder → ℕ
+start_status r = or_not_set_up r (cond (is_running r) recorder_runs done)
 
-abbrev pub startedState : RecorderState → RecorderState
-startedState r = cond (eqb (startStatus (recorderOf r)) done) (with_run r started) r
+abbrev pub started_state : RecorderState → RecorderState
+started_state r = cond (eqb (start_status (recorder_of r)) done) (with_run r started) r
 
 pub record StartSettled (self : RecorderState) (answer : Answered) : Type 0 where
-  pub status : answer.status ≡ startStatus (recorderOf self)
-  pub next : answer.next ≡ startedState self
+  pub status : answer.status ≡ start_status (recorder_of self)
+  pub next : answer.next ≡ started_state self
 
 -- ---- stop
 
 -- "0xC2: stopped answers 0x02, else stops, 0x00."
-abbrev pub stopStatus : Recorder → ℕ
-stopStatus r = orNotSetUp r (cond (isRunning r) done recorderStopped)
+abbrev pub stop_status : Recorder → ℕ
+stop_status r = or_not_set_up r (cond (is_running r) done recorder_stopped)
 
-abbrev pub haltedState : RecorderState → RecorderState
-haltedState r =
-    cond (eqb (stopStatus (recorderOf r)) done) (record { ready = r.ready; plan = r.plan; run = haltedRun r.run }) r
+abbrev pub halted_state : RecorderState → RecorderState
+halted_state r =
+    cond (eqb (stop_status (recorder_of r)) done) (record { ready = r.ready; plan = r.plan; run = halted_run r.run }) r
 
 pub record StopSettled (self : RecorderState) (answer : Answered) : Type 0 where
-  pub status : answer.status ≡ stopStatus (recorderOf self)
-  pub next : answer.next ≡ haltedState self
+  pub status : answer.status ≡ stop_status (recorder_of self)
+  pub next : answer.next ≡ halted_state self
 
 -- ---- status and buffer query
 
 -- "0xC3: 0x01 or 0x02."
-abbrev pub statusStatus : Recorder → ℕ
-statusStatus r = orNotSetUp r (cond (isRunning r) recorderRuns recorderStopped)
+abbrev pub status_status : Recorder → ℕ
+status_status r = or_not_set_up r (cond (is_running r) recorder_runs recorder_stopped)
 
 -- "recorder setup or buffer query while the recorder runs"
-abbrev pub queryStatus : Recorder → ℕ
-queryStatus r = orNotSetUp r (cond (isRunning r) busy done)
+abbrev pub query_status : Recorder → ℕ
+query_status r = or_not_set_up r (cond (is_running r) busy done)
 
 -- the start index where there is one
 abbrev pub index_of : Recorder → ℕ
 index_of absent = 0
-index_of (planned p r) = startIndex r
+index_of (planned p r) = start_index r
 
 -- "buffer address 12,288 and start index": the index, 0 where the query is refused
 pub record QuerySettled (self : RecorderState) (answer : Queried) : Type 0 where
-  pub status : answer.status ≡ queryStatus (recorderOf self)
-  pub index : answer.index ≡ cond (eqb (queryStatus (recorderOf self)) done) (index_of (recorderOf self)) 0
+  pub status : answer.status ≡ query_status (recorder_of self)
+  pub index : answer.index ≡ cond (eqb (query_status (recorder_of self)) done) (index_of (recorder_of self)) 0

@@ -1,7 +1,7 @@
 // Start, stop, status and buffer query. Any state may come: what is not set up, or runs, decides by its flags alone.
 ghost use Rattle.std.specs.Prelude.{◌≡◌};
-ghost use Rattle.recorder_state.specs.State.{recorderOf};
-ghost use Rattle.recorder_state.specs.Calls.{StartSettled, StopSettled, statusStatus, QuerySettled};
+ghost use Rattle.recorder_state.specs.State.{recorder_of};
+ghost use Rattle.recorder_state.specs.Calls.{StartSettled, StopSettled, status_status, QuerySettled};
 
 use crate::state::Recorder;
 use codes_table::{BUSY, DONE, NOT_SET_UP, RECORDER_RUNS, RECORDER_STOPPED};
@@ -70,7 +70,7 @@ impl Recorder {
     }
 
     pub fn status(self) -> u8
-        ensures { result ≡ statusStatus (recorderOf self) }
+        ensures { result ≡ status_status (recorder_of self) }
     {
         if self.ready == 0 {
             return NOT_SET_UP;

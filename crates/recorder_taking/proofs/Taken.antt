@@ -6,78 +6,78 @@ use Prim.Native.Nat.{ℕ, ◌-◌, ◌<◌}
 use native.Mathlib.Omega.{arith}
 use borrow.Author.Tests.{eq-eqb, ne_eqb}
 use Rattle.document.specs.Stores.{stored}
-use Rattle.document.specs.Run.{Run, placeBegins, setOf, setTaken, ranTick, memoryAfterTick}
-use Rattle.document.specs.Recorder.{Recorder, tickedMemory}
-use Rattle.recorder_history.proofs.Ticks.{stopped-run, stopped-memory, waits-run, waits-memory, takes_run, takes_memory}
+use Rattle.document.specs.Run.{Run, place_begins, set_of, set_taken, ran_tick, memory_after_tick}
+use Rattle.document.specs.Recorder.{Recorder, ticked_memory}
+use Rattle.recorder_history.proofs.Ticks.{stopped_run, stopped_memory, waits_run, waits_memory, takes_run, takes_memory}
 use Rattle.recorder_plans.specs.State.{plan_of}
 use Rattle.recorder_runs.specs.declared.run.Run.{Run as RunState}
-use Rattle.recorder_runs.specs.State.{is_set, run_of, runKept, withWait}
-use Rattle.recorder_runs.proofs.Granted.{run-bounds}
-use Rattle.recorder_runs.proofs.Kept.{run-again, waited-again}
+use Rattle.recorder_runs.specs.State.{is_set, run_of, run_kept, with_wait}
+use Rattle.recorder_runs.proofs.Granted.{run_bounds}
+use Rattle.recorder_runs.proofs.Kept.{run_again, waited_again}
 use Rattle.recorder_state.specs.declared.state.Recorder.{Recorder as RecorderState}
-use Rattle.recorder_state.specs.State.{recorderOf, with_run}
+use Rattle.recorder_state.specs.State.{recorder_of, with_run}
 use Rattle.recorder_state.specs.Bounds.{sound}
-use Rattle.recorder_state.proofs.Readings.{at-absent, at-planned}
-use Rattle.recorder_state.proofs.Keeps.{Parts, sound-parts}
-use Rattle.recorder_taking.specs.Tick.{tickedState}
+use Rattle.recorder_state.proofs.Readings.{at_absent, at_planned}
+use Rattle.recorder_state.proofs.Keeps.{Parts, sound_parts}
+use Rattle.recorder_taking.specs.Tick.{ticked_state}
 
 module _ (r : RecorderState) (m : List ℕ) where
   -- the recorder and the memory that a tick leaves
   abbrev pub Leaves : RecorderState → List ℕ → Type 0
-  Leaves next left = (tickedState r m ≡ next) × (tickedMemory (recorderOf r) m ≡ left)
+  Leaves next left = (ticked_state r m ≡ next) × (ticked_memory (recorder_of r) m ≡ left)
 
-  pub absent-leaves : r.ready ≡ 0 → Leaves r m
-  absent-leaves e = (
-    ap (λ (b : Bool). cond b r (with_run r (ranTick (plan_of r.plan) (run_of r.run) m))) (eq-eqb r.ready 0 e),
-    at-absent (λ (x : Recorder). tickedMemory x m) r e,
+  pub absent_leaves : r.ready ≡ 0 → Leaves r m
+  absent_leaves e = (
+    ap (λ (b : Bool). cond b r (with_run r (ran_tick (plan_of r.plan) (run_of r.run) m))) (eq-eqb r.ready 0 e),
+    at_absent (λ (x : Recorder). ticked_memory x m) r e,
   )
 
   module _ (s : sound r ≡ true) (n : r.ready ≡ 0 → ⊥) where
     pub parts : Parts r
-    parts = sound-parts r s (ne_eqb r.ready 0 n)
+    parts = sound_parts r s (ne_eqb r.ready 0 n)
 
-    planned-memory : tickedMemory (recorderOf r) m ≡ memoryAfterTick (plan_of r.plan) (run_of r.run) m
-    planned-memory = at-planned (λ (x : Recorder). tickedMemory x m) r n
+    planned_memory : ticked_memory (recorder_of r) m ≡ memory_after_tick (plan_of r.plan) (run_of r.run) m
+    planned_memory = at_planned (λ (x : Recorder). ticked_memory x m) r n
 
     -- the struct with another run
-    with-run : (q : RunState) (run : Run) → runKept run ≡ q → ranTick (plan_of r.plan) (run_of r.run) m ≡ run
-        → tickedState r m ≡ record { ready = r.ready; plan = r.plan; run = q }
-    with-run q run e t =
-        ap (λ (b : Bool). cond b r (with_run r (ranTick (plan_of r.plan) (run_of r.run) m))) (ne_eqb r.ready 0 n)
-        ∙ (λ i. record { ready = r.ready; plan = r.plan; run = (ap runKept t ∙ e) i })
+    with_run_lem : (q : RunState) (run : Run) → run_kept run ≡ q → ran_tick (plan_of r.plan) (run_of r.run) m ≡ run
+        → ticked_state r m ≡ record { ready = r.ready; plan = r.plan; run = q }
+    with_run_lem q run e t =
+        ap (λ (b : Bool). cond b r (with_run r (ran_tick (plan_of r.plan) (run_of r.run) m))) (ne_eqb r.ready 0 n)
+        ∙ (λ i. record { ready = r.ready; plan = r.plan; run = (ap run_kept t ∙ e) i })
 
-    pub stopped-leaves : r.run.running ≡ 0 → Leaves r m
-    stopped-leaves z =
+    pub stopped_leaves : r.run.running ≡ 0 → Leaves r m
+    stopped_leaves z =
         let f : is_set r.run.running ≡ false = rw z in (
-          with-run r.run (run_of r.run) (run-again r.plan r.run parts.run) (stopped-run (plan_of r.plan) (run_of r.run) m f),
-          planned-memory ∙ stopped-memory (plan_of r.plan) (run_of r.run) m f,
+          with_run_lem r.run (run_of r.run) (run_again r.plan r.run parts.run) (stopped_run (plan_of r.plan) (run_of r.run) m f),
+          planned_memory ∙ stopped_memory (plan_of r.plan) (run_of r.run) m f,
         )
 
     module _ (g : r.run.running ≡ 0 → ⊥) where
       pub runs : r.run.running ≡ 1
-      runs = omega (arith, (run-bounds r.plan r.run parts.run).running, g)
+      runs = omega (arith, (run_bounds r.plan r.run parts.run).running, g)
 
-      set-flag : is_set r.run.running ≡ true
-      set-flag = eq-eqb r.run.running 1 runs
+      set_flag : is_set r.run.running ≡ true
+      set_flag = eq-eqb r.run.running 1 runs
 
-      pub waiting-leaves : 0 < r.run.wait
+      pub waiting_leaves : 0 < r.run.wait
           → Leaves
           (record {
             ready = r.ready;
             plan = r.plan;
-            run = withWait r.run (r.run.wait - 1);
+            run = with_wait r.run (r.run.wait - 1);
           })
           m
-      waiting-leaves w = (
-        with-run _ _ (waited-again r.plan r.run parts.run) (waits-run (plan_of r.plan) (run_of r.run) m set-flag w),
-        planned-memory ∙ waits-memory (plan_of r.plan) (run_of r.run) m set-flag w,
+      waiting_leaves w = (
+        with_run_lem _ _ (waited_again r.plan r.run parts.run) (waits_run (plan_of r.plan) (run_of r.run) m set_flag w),
+        planned_memory ∙ waits_memory (plan_of r.plan) (run_of r.run) m set_flag w,
       )
 
-      pub due-leaves : r.run.wait ≡ 0
+      pub due_leaves : r.run.wait ≡ 0
           → Leaves
-          (with_run r (setTaken (plan_of r.plan) (run_of r.run) m))
-          (stored m (placeBegins (plan_of r.plan) r.run.place) (setOf (plan_of r.plan) m))
-      due-leaves z = (
-        with-run _ _ refl (takes_run (plan_of r.plan) (run_of r.run) m set-flag z),
-        planned-memory ∙ takes_memory (plan_of r.plan) (run_of r.run) m set-flag z,
+          (with_run r (set_taken (plan_of r.plan) (run_of r.run) m))
+          (stored m (place_begins (plan_of r.plan) r.run.place) (set_of (plan_of r.plan) m))
+      due_leaves z = (
+        with_run_lem _ _ refl (takes_run (plan_of r.plan) (run_of r.run) m set_flag z),
+        planned_memory ∙ takes_memory (plan_of r.plan) (run_of r.run) m set_flag z,
       )

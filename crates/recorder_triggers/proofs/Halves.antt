@@ -11,7 +11,7 @@ use mir.Val.{SFits, to_z, of_z}
 use mir.Syntax.{w64}
 use mir.Facts.{to_z_pos, to_z-of_z}
 use borrow.Author.Tests.{lt-ltb, le-ltb}
-use Rattle.document.specs.Values.{twosComplement}
+use Rattle.document.specs.Values.{twos_complement}
 use Rattle.memory_ranges.proofs.Widths.{four_bytes}
 
 pub shifted : (n : ℕ) → n ≤ 4 → 1 * 2 ^ (8 * n - 1) % 2 ^ 64 ≡ 2 ^ (8 * n - 1)
@@ -33,16 +33,16 @@ module _ (n x h : ℕ) (n1 : 1 ≤ n) (n4 : n ≤ 4) (eh : h ≡ 2 ^ (8 * n - 1)
   pub halves : (h + h ≡ 2 ^ (8 * n)) × (2 ^ (8 * n) ≤ 4294967296)
   halves = (omega (arith, double n n1), four_bytes n n4)
 
-  pub top-clear : x < h → to_z w64 x ≡ twosComplement n x
-  top-clear l = rw (lt-ltb x (2 ^ (8 * n - 1)) (omega arith)) (to_z_pos w64 (omega (arith, halves)))
+  pub top_clear : x < h → to_z w64 x ≡ twos_complement n x
+  top_clear l = rw (lt-ltb x (2 ^ (8 * n - 1)) (omega arith)) (to_z_pos w64 (omega (arith, halves)))
 
-  pub top-set-fits : h ≤ x → SFits w64 (pos 0 -ℤ to_z w64 ((h + h) - x))
-  top-set-fits l =
+  pub top_set_fits : h ≤ x → SFits w64 (pos 0 -ℤ to_z w64 ((h + h) - x))
+  top_set_fits l =
       rw (to_z_pos w64 {n = (h + h) - x} (omega (arith, halves)), minus ((h + h) - x) (omega (arith, halves)))
       (record { sfits = omega (arith, halves) })
 
-  pub top_set : h ≤ x → to_z w64 (of_z w64 (pos 0 -ℤ to_z w64 ((h + h) - x))) ≡ twosComplement n x
+  pub top_set : h ≤ x → to_z w64 (of_z w64 (pos 0 -ℤ to_z w64 ((h + h) - x))) ≡ twos_complement n x
   top_set l =
       let e : ((h + h) - x) - 1 ≡ 2 ^ (8 * n) - suc x = omega (arith, halves) in
-      to_z-of_z (top-set-fits l)
+      to_z-of_z (top_set_fits l)
       ∙ rw (le-ltb x (2 ^ (8 * n - 1)) (omega arith), to_z_pos w64 {n = (h + h) - x} (omega (arith, halves)), minus ((h + h) - x) (omega (arith, halves)), e)

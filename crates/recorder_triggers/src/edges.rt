@@ -1,6 +1,6 @@
 // The threshold at 1, 2 and 4 bytes: at or beyond it, and the edge that reaches it.
 ghost use Rattle.std.specs.Prelude.{◌≡◌, ℕ, ◌*◌, ◌^◌, ◌≤◌, ◌<◌};
-ghost use Rattle.document.specs.Trigger.{fires, isBeyond};
+ghost use Rattle.document.specs.Trigger.{fires, is_beyond};
 
 use crate::signed::signed_value;
 
@@ -13,7 +13,7 @@ const FALLING: u8 = 2;
 // Whether a value is at or beyond the threshold, as the mode looks. Without a trigger there is no size, and nothing to compare.
 pub fn is_beyond(mode: u8, sign: u8, size: usize, threshold: u32, this: u32) -> bool
     requires { ((mode ≡ 0 → ⊥) → 1 ≤ size) × (size ≤ 4) × (threshold < 2 ^ (8 * size)) × (this < 2 ^ (8 * size)) }
-    ensures { (address : ℕ) → result ≡ isBeyond (record { mode = mode; address = address; size = size; sign = sign; threshold = threshold }) this }
+    ensures { (address : ℕ) → result ≡ is_beyond (record { mode = mode; address = address; size = size; sign = sign; threshold = threshold }) this }
 {
     if mode == NO_TRIGGER {
         return false;

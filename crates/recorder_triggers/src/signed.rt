@@ -1,6 +1,6 @@
 // Numbers of up to four bytes, unsigned or two's complement.
 ghost use Rattle.std.specs.Prelude.{◌≡◌, ◌-◌, ◌*◌, ◌^◌, ◌≤◌, ◌<◌};
-ghost use Rattle.document.specs.Values.{twosComplement, signedValue};
+ghost use Rattle.document.specs.Values.{twos_complement, signed_value};
 
 use bytes_widths::u64_of_u32;
 
@@ -14,7 +14,7 @@ fn half(size: usize) -> u64
 
 fn twos_complement(size: usize, x: u64) -> i64
     requires { (1 ≤ size) × (size ≤ 4) × (x < 2 ^ (8 * size)) }
-    ensures { result ≡ twosComplement size x }
+    ensures { result ≡ twos_complement size x }
 {
     let h = half(size);
     if x < h {
@@ -27,7 +27,7 @@ fn twos_complement(size: usize, x: u64) -> i64
 // A number of `size` bytes as the sign field reads it; who asks has a number of that size.
 pub(crate) fn signed_value(sign: u8, size: usize, x: u32) -> i64
     requires { (1 ≤ size) × (size ≤ 4) × (x < 2 ^ (8 * size)) }
-    ensures { result ≡ signedValue sign size x }
+    ensures { result ≡ signed_value sign size x }
 {
     if sign == 1 {
         return twos_complement(size, u64_of_u32(x));

@@ -1,10 +1,10 @@
 // The scope's setup: the first refusal that applies.
 ghost use Rattle.std.specs.Prelude.{◌≡◌};
-ghost use Rattle.scope_state.specs.Setup.{setUpStatus};
+ghost use Rattle.scope_state.specs.Setup.{set_up_status};
 
 // Any data part will do.
 pub fn set_up_status(ex: bool, body: &[u8]) -> u8
-    ensures { result ≡ setUpStatus ex body.now }
+    ensures { result ≡ set_up_status ex body.now }
 {
     if !variables_surveys::is_whole(body, ex) {
         return codes_table::LAYOUT_WRONG;

@@ -6,5 +6,5 @@ abbrev pub place_of : ℕ → ℕ
 place_of at = cond (ltb at 65536) at 0
 
 -- upper case
-abbrev pub glyphOf : ℕ → ℕ
-glyphOf value = cond (ltb value 10) (48 + value) (55 + value)
+abbrev pub glyph_of : ℕ → ℕ
+glyph_of value = cond (ltb value 10) (48 + value) (55 + value)

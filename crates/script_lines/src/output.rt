@@ -1,6 +1,6 @@
 // Output through a lent buffer and a place in it. A full buffer is written out, so that no line is too long.
 ghost use Rattle.std.specs.Prelude.{◌≡◌, ◌+◌, ◌<◌, set};
-ghost use Rattle.script_lines.specs.Output.{place_of, glyphOf};
+ghost use Rattle.script_lines.specs.Output.{place_of, glyph_of};
 
 use libc::{STDERR_FILENO, STDOUT_FILENO};
 
@@ -56,7 +56,7 @@ pub fn put_decimal(value: u64, out: &mut [u8; 65536], at: usize) -> usize {
 // The character of a value below 16, in upper case.
 fn glyph(value: u8) -> u8
     requires { value < 16 }
-    ensures { result ≡ glyphOf value }
+    ensures { result ≡ glyph_of value }
 {
     if value < 10 { 48 + value } else { 55 + value }
 }

@@ -1,6 +1,6 @@
 // What a word says: a byte in hex or a decimal number. A word that says neither is told apart.
 ghost use Rattle.std.specs.Prelude.{◌≡◌, ◌≤◌, ◌<◌};
-ghost use Rattle.script_numbers.specs.Numbers.{digitOf, hexOf, decimalOf};
+ghost use Rattle.script_numbers.specs.Numbers.{digit_of, hex_of, decimal_of};
 
 #[derive(Drop)]
 pub enum Byte {
@@ -16,7 +16,7 @@ pub enum Number {
 
 // The value of a hex digit of either case, or 16 for any other character.
 fn digit(character: u8) -> u8
-    ensures { (result ≡ digitOf character) × (result ≤ 16) }
+    ensures { (result ≡ digit_of character) × (result ≤ 16) }
 {
     if character < 48 {
         return 16;
@@ -41,7 +41,7 @@ fn digit(character: u8) -> u8
 
 // One or two hex digits.
 pub fn hex(text: &[u8]) -> Byte
-    ensures { result ≡ hexOf text.now }
+    ensures { result ≡ hex_of text.now }
 {
     if text.len() == 1 {
         let only = digit(text[0]);
@@ -72,7 +72,7 @@ fn wide(value: u8) -> u64
 
 // Decimal digits only, as long as the number fits.
 pub fn decimal(text: &[u8]) -> Number
-    ensures { result ≡ decimalOf text.now }
+    ensures { result ≡ decimal_of text.now }
 {
     if text.len() == 0 {
         return Number::No;

@@ -9,12 +9,12 @@ use lib.ListN.{length, get_or, drop}
 use lib.Seq.{drop-cons}
 use Rattle.script_words.specs.Words.{blank, spread}
 
-pub spread-goes : (blanks : Bool) (line : List ℕ) (i : ℕ) → i < length line → beq (blank (get_or line i 0)) blanks ≡ true
+pub spread_goes : (blanks : Bool) (line : List ℕ) (i : ℕ) → i < length line → beq (blank (get_or line i 0)) blanks ≡ true
     → i + 1 + spread blanks (drop (i + 1) line) ≡ i + spread blanks (drop i line)
-spread-goes blanks line i h same =
+spread_goes blanks line i h same =
     let e : spread blanks (drop i line) ≡ suc (spread blanks (drop (i + 1) line)) = rw (add-one, drop-cons line i 0) (rw same) in
     omega arith
 
-pub spread-stops : (blanks : Bool) (line : List ℕ) (i : ℕ) → i < length line → beq (blank (get_or line i 0)) blanks ≡ false
+pub spread_stops : (blanks : Bool) (line : List ℕ) (i : ℕ) → i < length line → beq (blank (get_or line i 0)) blanks ≡ false
     → spread blanks (drop i line) ≡ 0
-spread-stops blanks line i h other = rw (drop-cons line i 0) (rw other)
+spread_stops blanks line i h other = rw (drop-cons line i 0) (rw other)

@@ -1,7 +1,7 @@
 -- The operands of a line: what the word at a place says, and where the next may begin.
 use Rattle.std.specs.Prelude.{List, ℕ}
-use Rattle.script_words.specs.Words.{word_of, wordEnd}
-use Rattle.script_numbers.specs.Numbers.{hexOf, decimalOf}
+use Rattle.script_words.specs.Words.{word_of, word_end}
+use Rattle.script_numbers.specs.Numbers.{hex_of, decimal_of}
 use Rattle.script_numbers.specs.declared.Byte.{Byte}
 use Rattle.script_numbers.specs.declared.Byte.TheVariants as Byte
 use Rattle.script_numbers.specs.declared.Number.{Number}
@@ -11,16 +11,16 @@ use Rattle.script_words.specs.declared.operands.ByteRead.TheVariants as ByteRead
 use Rattle.script_words.specs.declared.operands.NumberRead.{NumberRead}
 use Rattle.script_words.specs.declared.operands.NumberRead.TheVariants as NumberRead
 
-abbrev pub byteThen : Byte → ℕ → ByteRead
-byteThen (Byte.Is value) next = ByteRead.Is value next
-byteThen Byte.No next = ByteRead.No
+abbrev pub byte_then : Byte → ℕ → ByteRead
+byte_then (Byte.Is value) next = ByteRead.Is value next
+byte_then Byte.No next = ByteRead.No
 
-abbrev pub numberThen : Number → ℕ → NumberRead
-numberThen (Number.Is value) next = NumberRead.Is value next
-numberThen Number.No next = NumberRead.No
+abbrev pub number_then : Number → ℕ → NumberRead
+number_then (Number.Is value) next = NumberRead.Is value next
+number_then Number.No next = NumberRead.No
 
 abbrev pub byte_at : List ℕ → ℕ → ByteRead
-byte_at line from = byteThen (hexOf (word_of line from)) (wordEnd line from)
+byte_at line from = byte_then (hex_of (word_of line from)) (word_end line from)
 
 abbrev pub number_at : List ℕ → ℕ → NumberRead
-number_at line from = numberThen (decimalOf (word_of line from)) (wordEnd line from)
+number_at line from = number_then (decimal_of (word_of line from)) (word_end line from)

@@ -13,18 +13,18 @@ spread blanks [] = 0
 spread blanks (c ∷ cs) = cond (beq (blank c) blanks) (suc (spread blanks cs)) 0
 
 -- the first word at or behind a place: white space is passed over, then all that is none is the word
-abbrev pub wordStart : List ℕ → ℕ → ℕ
-wordStart line from = min from (length line) + spread true (drop from line)
+abbrev pub word_start : List ℕ → ℕ → ℕ
+word_start line from = min from (length line) + spread true (drop from line)
 
-abbrev pub wordEnd : List ℕ → ℕ → ℕ
-wordEnd line from = wordStart line from + spread false (drop (wordStart line from) line)
+abbrev pub word_end : List ℕ → ℕ → ℕ
+word_end line from = word_start line from + spread false (drop (word_start line from) line)
 
 abbrev pub word_of : List ℕ → ℕ → List ℕ
-word_of line from = take (wordEnd line from - wordStart line from) (drop (wordStart line from) line)
+word_of line from = take (word_end line from - word_start line from) (drop (word_start line from) line)
 
 pub record Found (line : List ℕ) (from : ℕ) (r : Word) : Type 0 where
-  pub start : r.start ≡ wordStart line from
-  pub end : r.end ≡ wordEnd line from
+  pub start : r.start ≡ word_start line from
+  pub end : r.end ≡ word_end line from
   pub behind : min from (length line) ≤ r.start
   pub ordered : r.start ≤ r.end
   pub within : r.end ≤ length line

@@ -1,7 +1,7 @@
 // Answers whose data are words, each low byte first.
 ghost use Rattle.std.specs.Prelude.{◌++◌, ◌≤◌, length};
-ghost use Rattle.document.specs.Numbers.{answerRoom, done};
-ghost use Rattle.document.specs.Values.{littleEndian};
+ghost use Rattle.document.specs.Numbers.{answer_room, done};
+ghost use Rattle.document.specs.Values.{little_endian};
 ghost use Rattle.line_wire.specs.Told.{Told};
 
 use codes_table::DONE;
@@ -9,8 +9,8 @@ use line_answers::begin;
 use line_wire::doubling::{put_sum, put_word};
 
 pub fn done_word(word: u16, out: &mut [u8]) -> usize
-    requires { answerRoom ≤ length out.old }
-    ensures { Told (record { status = done; body = littleEndian 2 word }) out.old result out.new }
+    requires { answer_room ≤ length out.old }
+    ensures { Told (record { status = done; body = little_endian 2 word }) out.old result out.new }
 {
     let front = begin(DONE, out);
     let behind = put_word(front, word, out);
@@ -18,8 +18,8 @@ pub fn done_word(word: u16, out: &mut [u8]) -> usize
 }
 
 pub fn done_two_words(first: u16, second: u16, out: &mut [u8]) -> usize
-    requires { answerRoom ≤ length out.old }
-    ensures { Told (record { status = done; body = littleEndian 2 first ++ littleEndian 2 second }) out.old result out.new }
+    requires { answer_room ≤ length out.old }
+    ensures { Told (record { status = done; body = little_endian 2 first ++ little_endian 2 second }) out.old result out.new }
 {
     let front = begin(DONE, out);
     let between = put_word(front, first, out);
@@ -28,8 +28,8 @@ pub fn done_two_words(first: u16, second: u16, out: &mut [u8]) -> usize
 }
 
 pub fn done_three_words(first: u16, second: u16, third: u16, out: &mut [u8]) -> usize
-    requires { answerRoom ≤ length out.old }
-    ensures { Told (record { status = done; body = littleEndian 2 first ++ (littleEndian 2 second ++ littleEndian 2 third) }) out.old result out.new }
+    requires { answer_room ≤ length out.old }
+    ensures { Told (record { status = done; body = little_endian 2 first ++ (little_endian 2 second ++ little_endian 2 third) }) out.old result out.new }
 {
     let front = begin(DONE, out);
     let one = put_word(front, first, out);

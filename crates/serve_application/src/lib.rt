@@ -1,17 +1,17 @@
 // The application command over the line: 0x10 and 0xC6.
 ghost use Rattle.std.specs.Prelude.{◌≡◌, List, ℕ, ◌≤◌, length};
-ghost use Rattle.document.specs.Numbers.{answerRoom};
-ghost use Rattle.document.specs.Application.{resultByte};
+ghost use Rattle.document.specs.Numbers.{answer_room};
+ghost use Rattle.document.specs.Application.{result_byte};
 ghost use Rattle.document.specs.Commands.{served};
 ghost use Rattle.document.specs.declared.Operation.TheVariants.{SendCommand, CommandResult};
 ghost use Rattle.document.specs.declared.Service.{Service};
-ghost use Rattle.document_outcomes.specs.Known.{knownAs};
+ghost use Rattle.document_outcomes.specs.Known.{known_as};
 ghost use Rattle.line_wire.specs.Told.{Told};
-ghost use Rattle.application_state.specs.State.{applicationOf};
-ghost use Rattle.state_parts.specs.State.{gateOf};
-ghost use Rattle.state_byte.specs.After.{instrumentsAfter};
-ghost use Rattle.state_block.specs.Places.{bodyPlace, scopePlace, stateLength};
-ghost use Rattle.state_block.specs.Layout.{dataTo, decodedApplication, decodedInstruments};
+ghost use Rattle.application_state.specs.State.{application_of};
+ghost use Rattle.state_parts.specs.State.{gate_of};
+ghost use Rattle.state_byte.specs.After.{instruments_after};
+ghost use Rattle.state_block.specs.Places.{body_place, scope_place, state_length};
+ghost use Rattle.state_block.specs.Layout.{data_to, decoded_application, decoded_instruments};
 ghost use Rattle.serve_recorder.specs.Operates.{Settles};
 
 use application_block::{is_pending, send};
@@ -22,8 +22,8 @@ use state_block::{APPLICATION, BODY, RESULT};
 
 // The message's data stand in the block, up to a place. What is refused stores nothing.
 pub fn send_command(state: &mut [u8], to: usize) -> u8
-    requires { (stateLength ≤ length state.old) × (bodyPlace ≤ to) × (to ≤ scopePlace) }
-    ensures { (memory : List ℕ) (s : Service) → Settles (served (gateOf (decodedInstruments state.old) memory) (knownAs SendCommand s) (dataTo state.old to)) (instrumentsAfter SendCommand (decodedInstruments state.old) s (dataTo state.old to)) state.old result state.new memory }
+    requires { (state_length ≤ length state.old) × (body_place ≤ to) × (to ≤ scope_place) }
+    ensures { (memory : List ℕ) (s : Service) → Settles (served (gate_of (decoded_instruments state.old) memory) (known_as SendCommand s) (data_to state.old to)) (instruments_after SendCommand (decoded_instruments state.old) s (data_to state.old to)) state.old result state.new memory }
 {
     if is_pending(state) {
         return BUSY;
@@ -37,8 +37,8 @@ pub fn send_command(state: &mut [u8], to: usize) -> u8
 
 // One byte: whether there was a command, whether its result is in, or the result.
 fn result_byte(state: &[u8]) -> u8
-    requires { stateLength ≤ length state.now }
-    ensures { result ≡ resultByte (applicationOf (decodedApplication state.now)) }
+    requires { state_length ≤ length state.now }
+    ensures { result ≡ result_byte (application_of (decoded_application state.now)) }
 {
     if is_pending(state) {
         return NO_RESULT;
@@ -50,8 +50,8 @@ fn result_byte(state: &[u8]) -> u8
 }
 
 pub fn command_result(state: &[u8], out: &mut [u8]) -> usize
-    requires { (stateLength ≤ length state.now) × (answerRoom ≤ length out.old) }
-    ensures { (memory : List ℕ) (s : Service) (body : List ℕ) → Told (served (gateOf (decodedInstruments state.now) memory) (knownAs CommandResult s) body).answer out.old result out.new }
+    requires { (state_length ≤ length state.now) × (answer_room ≤ length out.old) }
+    ensures { (memory : List ℕ) (s : Service) (body : List ℕ) → Told (served (gate_of (decoded_instruments state.now) memory) (known_as CommandResult s) body).answer out.old result out.new }
 {
     done_with(&[result_byte(state)], out)
 }

@@ -8,30 +8,30 @@ use native.Mathlib.Omega.{arith}
 use borrow.Author.Tests.{eqb-true, not-false}
 use lib.ListN.{length}
 use Rattle.document.specs.Numbers.{done}
-use Rattle.document.specs.Fields.{hasSize, sizeField, dataPlace}
+use Rattle.document.specs.Fields.{has_size, size_field, data_place}
 use Rattle.document.specs.Refusals.{first_of}
 use Rattle.document.specs.declared.Service.{Service}
 use Rattle.document.proofs.Cases.{split, neither}
-use Rattle.document_outcomes.proofs.Firsts.{none-applies}
-use Rattle.serve_fields.specs.Found.{ownLines, OwnFits}
+use Rattle.document_outcomes.proofs.Firsts.{none_applies}
+use Rattle.serve_fields.specs.Found.{own_lines, OwnFits}
 
 -- so many parts are few bytes
-pub parts-few : (parts size : ℕ) → parts ≤ 2 → size < 256 → parts * size ≤ 510
-parts-few parts size few small = let most : size ≤ 255 = omega arith in omega (arith, mul-le-mul_left parts most)
+pub parts_few : (parts size : ℕ) → parts ≤ 2 → size < 256 → parts * size ≤ 510
+parts_few parts size few small = let most : size ≤ 255 = omega arith in omega (arith, mul-le-mul_left parts most)
 
-right-length : (sized right : Bool) → sized ≡ true → sized && not right ≡ false → right ≡ true
-right-length true right holds given = not-false right given
-right-length false right holds given = neither holds
+right_length : (sized right : Bool) → sized ≡ true → sized && not right ≡ false → right ≡ true
+right_length true right holds given = not-false right given
+right_length false right holds given = neither holds
 
 module _ (s : Service) (body : List ℕ) (parts : ℕ) (own : OwnFits s parts body) where
   -- what the fields themselves do not refuse lies within the data
-  pub fields_fit : first_of (ownLines s body (parts * sizeField s body)) ≡ done → dataPlace s + parts * sizeField s body ≤ length body
+  pub fields_fit : first_of (own_lines s body (parts * size_field s body)) ≡ done → data_place s + parts * size_field s body ≤ length body
   fields_fit none =
-      split (hasSize s)
+      split (has_size s)
       (λ sized.
-      let right = (none-applies (ownLines s body (parts * sizeField s body)) (refl, refl, (refl, refl, tt)) none).0 in
-      let given : length body ≡ dataPlace s + parts * sizeField s body = eqb-true _ _ (right-length _ _ sized right) in
+      let right = (none_applies (own_lines s body (parts * size_field s body)) (refl, refl, (refl, refl, tt)) none).0 in
+      let given : length body ≡ data_place s + parts * size_field s body = eqb-true _ _ (right_length _ _ sized right) in
       omega (arith, given))
       (λ unsized.
-      let size : s.size ≡ sizeField s body = rw unsized refl in
-      subst (λ (n : ℕ). dataPlace s + parts * n ≤ length body) size (own unsized))
+      let size : s.size ≡ size_field s body = rw unsized refl in
+      subst (λ (n : ℕ). data_place s + parts * n ≤ length body) size (own unsized))

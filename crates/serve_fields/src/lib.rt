@@ -2,8 +2,8 @@
 ghost use Rattle.std.specs.Prelude.{◌≡◌, ℕ, ◌+◌, ◌-◌, ◌*◌, ◌≤◌, ◌<◌, length};
 ghost use Rattle.document.specs.Areas.{bytes_at};
 ghost use Rattle.document.specs.Values.{number};
-ghost use Rattle.document.specs.Fields.{sizeField, addressPlace};
-ghost use Rattle.serve_fields.specs.Found.{ownStatus, OwnFits, AreFields};
+ghost use Rattle.document.specs.Fields.{size_field, address_place};
+ghost use Rattle.serve_fields.specs.Found.{own_status, OwnFits, AreFields};
 
 use bytes_widths::usize_of_u8;
 use codes_table::{DONE, LAYOUT_WRONG, SIZE_WRONG};
@@ -21,7 +21,7 @@ pub struct Fields {
 
 // The command's own size, or the one that the data begin with.
 fn size_in(service: Service, body: &[u8]) -> usize
-    ensures { (result ≡ sizeField service body.now) × (result < 256) }
+    ensures { (result ≡ size_field service body.now) × (result < 256) }
 {
     if service.size != 0 {
         return usize_of_u8(service.size);
@@ -33,7 +33,7 @@ fn size_in(service: Service, body: &[u8]) -> usize
 }
 
 fn address_place(service: Service) -> usize
-    ensures { (result ≡ addressPlace service) × (result ≤ 1) }
+    ensures { (result ≡ address_place service) × (result ≤ 1) }
 {
     if service.size == 0 { 1 } else { 0 }
 }
@@ -48,7 +48,7 @@ fn address_in(body: &[u8], from: usize, to: usize) -> u32
 
 // A command with a size of its own has the length that its code gives.
 fn own_status(service: Service, size: usize, length: usize, given: usize) -> u8
-    ensures { result ≡ ownStatus service size length given }
+    ensures { result ≡ own_status service size length given }
 {
     if service.size != 0 {
         return DONE;
@@ -65,7 +65,7 @@ fn own_status(service: Service, size: usize, length: usize, given: usize) -> u8
 // Behind the address stand so many parts of the access's size: none, data, or data and mask.
 pub fn block_in(service: Service, body: &[u8], parts: usize) -> Fields
     requires { (parts ≤ 2) × OwnFits service parts body.now }
-    ensures { (n : ℕ) → n ≡ parts * sizeField service body.now → AreFields service body.now n result }
+    ensures { (n : ℕ) → n ≡ parts * size_field service body.now → AreFields service body.now n result }
 {
     let size = size_in(service, body);
     let from = address_place(service);

@@ -6,48 +6,48 @@ use Prim.Native.Nat.{ℕ, ◌+◌, ◌-◌, ◌≤◌}
 use native.Mathlib.Omega.{arith}
 use borrow.Author.Tests.{eq-eqb, ne_eqb, lt-ltb, le-ltb}
 use lib.ListN.{length, drop, length-drop}
-use Rattle.document.specs.Numbers.{done, layoutWrong, sizeWrong, rangeWrong}
-use Rattle.document.specs.Areas.{mayBeRead}
-use Rattle.document.specs.Values.{number, littleEndian}
-use Rattle.document.specs.Variables.{addressWidth}
-use Rattle.document.specs.Strings.{stringLength, stringEnds}
+use Rattle.document.specs.Numbers.{done, layout_wrong, size_wrong, range_wrong}
+use Rattle.document.specs.Areas.{may_be_read}
+use Rattle.document.specs.Values.{number, little_endian}
+use Rattle.document.specs.Variables.{address_width}
+use Rattle.document.specs.Strings.{string_length, string_ends}
 use Rattle.document.specs.Gate.{Gate}
 use Rattle.document.specs.Commands.{served}
 use Rattle.document.specs.Answer.{Answer}
 use Rattle.document.specs.declared.Operation.TheVariants.{MeasureString}
 use Rattle.document.specs.declared.Service.{Service}
-use Rattle.document_outcomes.specs.Known.{knownAs}
+use Rattle.document_outcomes.specs.Known.{known_as}
 use Rattle.memory_strings.proofs.Zeros.{ends}
 
 -- a string ends where its length falls short of memory's end
-pub ends-within : (memory : List ℕ) (at : ℕ) → at ≤ length memory → (at + stringLength memory at ≡ length memory → ⊥)
-    → at + stringLength memory at ≤ length memory → stringEnds memory at ≡ true
-ends-within memory at inside short within =
-    rw (ends (drop at memory), length-drop) (lt-ltb (stringLength memory at) (length memory - at) (omega (arith, short)))
+pub ends_within : (memory : List ℕ) (at : ℕ) → at ≤ length memory → (at + string_length memory at ≡ length memory → ⊥)
+    → at + string_length memory at ≤ length memory → string_ends memory at ≡ true
+ends_within memory at inside short within =
+    rw (ends (drop at memory), length-drop) (lt-ltb (string_length memory at) (length memory - at) (omega (arith, short)))
 
-pub ends-not : (memory : List ℕ) (at : ℕ) → at + stringLength memory at ≡ length memory → stringEnds memory at ≡ false
-ends-not memory at long =
-    rw (ends (drop at memory), length-drop) (le-ltb (stringLength memory at) (length memory - at) (omega (arith, long)))
+pub ends_not : (memory : List ℕ) (at : ℕ) → at + string_length memory at ≡ length memory → string_ends memory at ≡ false
+ends_not memory at long =
+    rw (ends (drop at memory), length-drop) (le-ltb (string_length memory at) (length memory - at) (omega (arith, long)))
 
 module _ (g : Gate) (s : Service) (body : List ℕ) where
-  abbrev statusAlone : ℕ → Answer
-  statusAlone status = record { status = status; body = [] }
+  abbrev status_alone : ℕ → Answer
+  status_alone status = record { status = status; body = [] }
 
-  pub string-layout : (length body ≡ addressWidth s.ex → ⊥) → statusAlone layoutWrong ≡ (served g (knownAs MeasureString s) body).answer
+  pub string_layout : (length body ≡ address_width s.ex → ⊥) → status_alone layout_wrong ≡ (served g (known_as MeasureString s) body).answer
   unfolding served
-  string-layout other = rw (ne_eqb (length body) (addressWidth s.ex) other) refl
+  string_layout other = rw (ne_eqb (length body) (address_width s.ex) other) refl
 
-  module _ (whole : length body ≡ addressWidth s.ex) where
-    pub string-outside : mayBeRead (number body) 1 ≡ false → statusAlone rangeWrong ≡ (served g (knownAs MeasureString s) body).answer
+  module _ (whole : length body ≡ address_width s.ex) where
+    pub string_outside : may_be_read (number body) 1 ≡ false → status_alone range_wrong ≡ (served g (known_as MeasureString s) body).answer
     unfolding served
-    string-outside out = rw (eq-eqb (length body) (addressWidth s.ex) whole, out) refl
+    string_outside out = rw (eq-eqb (length body) (address_width s.ex) whole, out) refl
 
-    module _ (inside : mayBeRead (number body) 1 ≡ true) where
-      pub string-unended : stringEnds g.memory (number body) ≡ false → statusAlone sizeWrong ≡ (served g (knownAs MeasureString s) body).answer
+    module _ (inside : may_be_read (number body) 1 ≡ true) where
+      pub string_unended : string_ends g.memory (number body) ≡ false → status_alone size_wrong ≡ (served g (known_as MeasureString s) body).answer
       unfolding served
-      string-unended none = rw (eq-eqb (length body) (addressWidth s.ex) whole, inside, none) refl
+      string_unended none = rw (eq-eqb (length body) (address_width s.ex) whole, inside, none) refl
 
-      pub string-told : stringEnds g.memory (number body) ≡ true
-          → record { status = done; body = littleEndian 2 (stringLength g.memory (number body)) } ≡ (served g (knownAs MeasureString s) body).answer
+      pub string_told : string_ends g.memory (number body) ≡ true
+          → record { status = done; body = little_endian 2 (string_length g.memory (number body)) } ≡ (served g (known_as MeasureString s) body).answer
       unfolding served
-      string-told ended = rw (eq-eqb (length body) (addressWidth s.ex) whole, inside, ended) refl
+      string_told ended = rw (eq-eqb (length body) (address_width s.ex) whole, inside, ended) refl

@@ -1,11 +1,11 @@
 // The length of a string in memory: 0xD4 and 0xE6.
 ghost use Rattle.std.specs.Prelude.{◌≡◌, ◌≤◌, length};
-ghost use Rattle.document.specs.Numbers.{answerRoom};
-ghost use Rattle.document.specs.Areas.{memoryEnd};
+ghost use Rattle.document.specs.Numbers.{answer_room};
+ghost use Rattle.document.specs.Areas.{memory_end};
 ghost use Rattle.document.specs.Commands.{served};
 ghost use Rattle.document.specs.Gate.{Gate};
 ghost use Rattle.document.specs.declared.Operation.TheVariants.{MeasureString};
-ghost use Rattle.document_outcomes.specs.Known.{knownAs};
+ghost use Rattle.document_outcomes.specs.Known.{known_as};
 ghost use Rattle.line_wire.specs.Told.{Told};
 
 use bytes_widths::usize_of_u32;
@@ -18,8 +18,8 @@ use variables_definitions::address_width;
 
 // The message's data are the address. What has no zero before memory's end is no string.
 pub fn measure_string(service: Service, body: &[u8], memory: &[u8], out: &mut [u8]) -> usize
-    requires { (length memory.now ≡ memoryEnd) × (answerRoom ≤ length out.old) }
-    ensures { (g : Gate) → g.memory ≡ memory.now → Told (served g (knownAs MeasureString service) body.now).answer out.old result out.new }
+    requires { (length memory.now ≡ memory_end) × (answer_room ≤ length out.old) }
+    ensures { (g : Gate) → g.memory ≡ memory.now → Told (served g (known_as MeasureString service) body.now).answer out.old result out.new }
 {
     if body.len() != address_width(service.ex) {
         return status_alone(LAYOUT_WRONG, out);

@@ -12,40 +12,40 @@ use Rattle.document.specs.declared.Operation.{Operation}
 use Rattle.document.specs.declared.Service.{Service}
 use Rattle.document.proofs.Cases.{split}
 use Rattle.recorder_state.specs.declared.state.Recorder.{Recorder}
-use Rattle.recorder_state.specs.State.{recorderOf}
-use Rattle.recorder_state.specs.Calls.{startStatus, stopStatus, startedState, haltedState}
-use Rattle.document_outcomes.specs.Known.{knownAs}
-use Rattle.document_outcomes.specs.Changes.{changeOf, leavesMemory}
-use Rattle.document_outcomes.proofs.Served.{served-memory-kept}
-use Rattle.state_parts.specs.State.{Instruments, gateOf}
-use Rattle.state_byte.specs.After.{instrumentsAfter}
-use Rattle.state_block.specs.Places.{scopePlace, stateLength}
-use Rattle.state_block.specs.Layout.{decodedInstruments, encodedInstruments}
-use Rattle.state_block.proofs.Stored.{same-instruments}
-use Rattle.serve_recorder.specs.Operates.{statusAlone, Settles}
+use Rattle.recorder_state.specs.State.{recorder_of}
+use Rattle.recorder_state.specs.Calls.{start_status, stop_status, started_state, halted_state}
+use Rattle.document_outcomes.specs.Known.{known_as}
+use Rattle.document_outcomes.specs.Changes.{change_of, leaves_memory}
+use Rattle.document_outcomes.proofs.Served.{served_memory_kept}
+use Rattle.state_parts.specs.State.{Instruments, gate_of}
+use Rattle.state_byte.specs.After.{instruments_after}
+use Rattle.state_block.specs.Places.{scope_place, state_length}
+use Rattle.state_block.specs.Layout.{decoded_instruments, encoded_instruments}
+use Rattle.state_block.proofs.Stored.{same_instruments}
+use Rattle.serve_recorder.specs.Operates.{status_alone, Settles}
 
-pub settles : (o : Operation) → leavesMemory (changeOf o) ≡ true → (block memory : List ℕ) (s : Service) (body : List ℕ) (status : ℕ) (after : List ℕ)
-    → statusAlone status ≡ (served (gateOf (decodedInstruments block) memory) (knownAs o s) body).answer
-    → after ≡ sets block scopePlace (encodedInstruments (instrumentsAfter o (decodedInstruments block) s body))
-    → Settles (served (gateOf (decodedInstruments block) memory) (knownAs o s) body) (instrumentsAfter o (decodedInstruments block) s body) block status after memory
+pub settles : (o : Operation) → leaves_memory (change_of o) ≡ true → (block memory : List ℕ) (s : Service) (body : List ℕ) (status : ℕ) (after : List ℕ)
+    → status_alone status ≡ (served (gate_of (decoded_instruments block) memory) (known_as o s) body).answer
+    → after ≡ sets block scope_place (encoded_instruments (instruments_after o (decoded_instruments block) s body))
+    → Settles (served (gate_of (decoded_instruments block) memory) (known_as o s) body) (instruments_after o (decoded_instruments block) s body) block status after memory
 settles o leaves block memory s body status after said stored =
     record {
       answer = said;
-      memory = sym (served-memory-kept (gateOf (decodedInstruments block) memory) (knownAs o s) body leaves);
+      memory = sym (served_memory_kept (gate_of (decoded_instruments block) memory) (known_as o s) body leaves);
       kept = stored;
     }
 
 -- what is set up stays, so the block does
-pub same_block : (block : List ℕ) → stateLength ≤ length block → ((i : ℕ) → get_or block i 0 < 256) → (next : Instruments) → decodedInstruments block ≡ next
-    → block ≡ sets block scopePlace (encodedInstruments next)
+pub same_block : (block : List ℕ) → state_length ≤ length block → ((i : ℕ) → get_or block i 0 < 256) → (next : Instruments) → decoded_instruments block ≡ next
+    → block ≡ sets block scope_place (encoded_instruments next)
 same_block block long small next kept =
-    sym (same-instruments block long small) ∙ ap (λ (k : Instruments). sets block scopePlace (encodedInstruments k)) kept
+    sym (same_instruments block long small) ∙ ap (λ (k : Instruments). sets block scope_place (encoded_instruments k)) kept
 
 -- a start and a stop change the run alone
-pub started-run : (r : Recorder) → record { ready = r.ready; plan = r.plan; run = (startedState r).run } ≡ startedState r
-started-run r =
-    split (eqb (startStatus (recorderOf r)) done) (λ begun. rw begun refl) (λ not-begun. rw not-begun refl)
+pub started_run : (r : Recorder) → record { ready = r.ready; plan = r.plan; run = (started_state r).run } ≡ started_state r
+started_run r =
+    split (eqb (start_status (recorder_of r)) done) (λ begun. rw begun refl) (λ not-begun. rw not-begun refl)
 
-pub halted-run : (r : Recorder) → record { ready = r.ready; plan = r.plan; run = (haltedState r).run } ≡ haltedState r
-halted-run r =
-    split (eqb (stopStatus (recorderOf r)) done) (λ halts. rw halts refl) (λ stays. rw stays refl)
+pub halted_run_lem : (r : Recorder) → record { ready = r.ready; plan = r.plan; run = (halted_state r).run } ≡ halted_state r
+halted_run_lem r =
+    split (eqb (stop_status (recorder_of r)) done) (λ halts. rw halts refl) (λ stays. rw stays refl)

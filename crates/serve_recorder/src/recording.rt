@@ -1,23 +1,23 @@
 // The recorder's commands.
 ghost use Rattle.std.specs.Prelude.{◌≡◌, cond, List, ◌++◌, ℕ, ◌≤◌, eqb, length};
 ghost use Rattle.std.proofs.lemmas.List.Edits.{sets};
-ghost use Rattle.document.specs.Areas.{bufferBegin};
-ghost use Rattle.document.specs.Numbers.{answerRoom, done};
-ghost use Rattle.document.specs.Values.{littleEndian};
-ghost use Rattle.document.specs.Variables.{addressWidth};
-ghost use Rattle.document.specs.Recorder.{isRunning};
+ghost use Rattle.document.specs.Areas.{buffer_begin};
+ghost use Rattle.document.specs.Numbers.{answer_room, done};
+ghost use Rattle.document.specs.Values.{little_endian};
+ghost use Rattle.document.specs.Variables.{address_width};
+ghost use Rattle.document.specs.Recorder.{is_running};
 ghost use Rattle.document.specs.Commands.{served};
 ghost use Rattle.document.specs.declared.Operation.TheVariants.{PrepareAndStart, Start, Stop, Status, QueryBuffer};
 ghost use Rattle.document.specs.declared.Service.{Service};
-ghost use Rattle.document_outcomes.specs.Known.{knownAs};
+ghost use Rattle.document_outcomes.specs.Known.{known_as};
 ghost use Rattle.line_wire.specs.Told.{Told};
-ghost use Rattle.recorder_state.specs.State.{recorderOf};
-ghost use Rattle.recorder_state.specs.Preparing.{prepareStatus, preparedState};
-ghost use Rattle.state_parts.specs.State.{gateOf, withRecorder};
-ghost use Rattle.state_byte.specs.After.{instrumentsAfter};
-ghost use Rattle.state_block.specs.Places.{bodyPlace, scopePlace, stateLength};
-ghost use Rattle.state_block.specs.Layout.{dataTo, decodedRecorder, decodedInstruments, encodedInstruments};
-ghost use Rattle.serve_recorder.specs.Operates.{statusAlone, Settles};
+ghost use Rattle.recorder_state.specs.State.{recorder_of};
+ghost use Rattle.recorder_state.specs.Preparing.{prepare_status, prepared_state};
+ghost use Rattle.state_parts.specs.State.{gate_of, with_recorder};
+ghost use Rattle.state_byte.specs.After.{instruments_after};
+ghost use Rattle.state_block.specs.Places.{body_place, scope_place, state_length};
+ghost use Rattle.state_block.specs.Layout.{data_to, decoded_recorder, decoded_instruments, encoded_instruments};
+ghost use Rattle.serve_recorder.specs.Operates.{status_alone, Settles};
 
 use codes_table::DONE;
 use document::Service;
@@ -29,8 +29,8 @@ use state_setups::store_prepared;
 
 // The message's data stand in the block, up to a place. What is refused stores nothing.
 fn prepare(state: &mut [u8], ex: bool, to: usize) -> u8
-    requires { (stateLength ≤ length state.old) × (bodyPlace ≤ to) × (to ≤ scopePlace) }
-    ensures { (result ≡ prepareStatus (isRunning (recorderOf (decodedRecorder state.old))) ex (dataTo state.old to)) × (state.new ≡ cond (eqb result done) (sets state.old scopePlace (encodedInstruments (withRecorder (decodedInstruments state.old) (preparedState ex (dataTo state.old to))))) state.old) }
+    requires { (state_length ≤ length state.old) × (body_place ≤ to) × (to ≤ scope_place) }
+    ensures { (result ≡ prepare_status (is_running (recorder_of (decoded_recorder state.old))) ex (data_to state.old to)) × (state.new ≡ cond (eqb result done) (sets state.old scope_place (encoded_instruments (with_recorder (decoded_instruments state.old) (prepared_state ex (data_to state.old to))))) state.old) }
 {
     let status = prepare_status(recorder_runs(state), ex, &state[BODY..to]);
     if status != DONE {
@@ -42,8 +42,8 @@ fn prepare(state: &mut [u8], ex: bool, to: usize) -> u8
 
 // The two in a row.
 pub fn prepare_and_start(state: &mut [u8], service: Service, to: usize) -> u8
-    requires { (stateLength ≤ length state.old) × (bodyPlace ≤ to) × (to ≤ scopePlace) }
-    ensures { (memory : List ℕ) → Settles (served (gateOf (decodedInstruments state.old) memory) (knownAs PrepareAndStart service) (dataTo state.old to)) (instrumentsAfter PrepareAndStart (decodedInstruments state.old) service (dataTo state.old to)) state.old result state.new memory }
+    requires { (state_length ≤ length state.old) × (body_place ≤ to) × (to ≤ scope_place) }
+    ensures { (memory : List ℕ) → Settles (served (gate_of (decoded_instruments state.old) memory) (known_as PrepareAndStart service) (data_to state.old to)) (instruments_after PrepareAndStart (decoded_instruments state.old) service (data_to state.old to)) state.old result state.new memory }
 {
     let status = prepare(state, service.ex, to);
     if status != DONE {
@@ -54,8 +54,8 @@ pub fn prepare_and_start(state: &mut [u8], service: Service, to: usize) -> u8
 
 // A start and a stop leave the plan as it is.
 pub fn start(state: &mut [u8]) -> u8
-    requires { stateLength ≤ length state.old }
-    ensures { (memory : List ℕ) (s : Service) (body : List ℕ) → Settles (served (gateOf (decodedInstruments state.old) memory) (knownAs Start s) body) (instrumentsAfter Start (decodedInstruments state.old) s body) state.old result state.new memory }
+    requires { state_length ≤ length state.old }
+    ensures { (memory : List ℕ) (s : Service) (body : List ℕ) → Settles (served (gate_of (decoded_instruments state.old) memory) (known_as Start s) body) (instruments_after Start (decoded_instruments state.old) s body) state.old result state.new memory }
 {
     let started = recorder_in(state).start();
     let next = started.next;
@@ -64,8 +64,8 @@ pub fn start(state: &mut [u8]) -> u8
 }
 
 pub fn stop(state: &mut [u8]) -> u8
-    requires { stateLength ≤ length state.old }
-    ensures { (memory : List ℕ) (s : Service) (body : List ℕ) → Settles (served (gateOf (decodedInstruments state.old) memory) (knownAs Stop s) body) (instrumentsAfter Stop (decodedInstruments state.old) s body) state.old result state.new memory }
+    requires { state_length ≤ length state.old }
+    ensures { (memory : List ℕ) (s : Service) (body : List ℕ) → Settles (served (gate_of (decoded_instruments state.old) memory) (known_as Stop s) body) (instruments_after Stop (decoded_instruments state.old) s body) state.old result state.new memory }
 {
     let stopped = recorder_in(state).stop();
     let next = stopped.next;
@@ -74,15 +74,15 @@ pub fn stop(state: &mut [u8]) -> u8
 }
 
 pub fn status(state: &[u8]) -> u8
-    requires { stateLength ≤ length state.now }
-    ensures { (memory : List ℕ) (s : Service) (body : List ℕ) → statusAlone result ≡ (served (gateOf (decodedInstruments state.now) memory) (knownAs Status s) body).answer }
+    requires { state_length ≤ length state.now }
+    ensures { (memory : List ℕ) (s : Service) (body : List ℕ) → status_alone result ≡ (served (gate_of (decoded_instruments state.now) memory) (known_as Status s) body).answer }
 {
     recorder_in(state).status()
 }
 
 pub fn query_buffer(state: &[u8], service: Service, out: &mut [u8]) -> usize
-    requires { (stateLength ≤ length state.now) × (answerRoom ≤ length out.old) }
-    ensures { (memory : List ℕ) (body : List ℕ) → Told (served (gateOf (decodedInstruments state.now) memory) (knownAs QueryBuffer service) body).answer out.old result out.new }
+    requires { (state_length ≤ length state.now) × (answer_room ≤ length out.old) }
+    ensures { (memory : List ℕ) (body : List ℕ) → Told (served (gate_of (decoded_instruments state.now) memory) (known_as QueryBuffer service) body).answer out.old result out.new }
 {
     let queried = recorder_in(state).query();
     if queried.status != DONE {
@@ -93,8 +93,8 @@ pub fn query_buffer(state: &[u8], service: Service, out: &mut [u8]) -> usize
 
 // Where the buffer begins, in two words or one, and the index of its oldest set.
 fn buffer_from(ex: bool, index: u16, out: &mut [u8]) -> usize
-    requires { answerRoom ≤ length out.old }
-    ensures { Told (record { status = done; body = littleEndian (addressWidth ex) bufferBegin ++ littleEndian 2 index }) out.old result out.new }
+    requires { answer_room ≤ length out.old }
+    ensures { Told (record { status = done; body = little_endian (address_width ex) buffer_begin ++ little_endian 2 index }) out.old result out.new }
 {
     if ex {
         return done_three_words(BUFFER_BEGIN as u16, 0, index, out);

@@ -1,17 +1,17 @@
 // The scope's reading: 0xC5.
 ghost use Rattle.std.specs.Prelude.{◌≡◌, true, List, ℕ, ◌≤◌, length};
-ghost use Rattle.document.specs.Areas.{memoryEnd};
-ghost use Rattle.document.specs.Numbers.{answerRoom};
+ghost use Rattle.document.specs.Areas.{memory_end};
+ghost use Rattle.document.specs.Numbers.{answer_room};
 ghost use Rattle.document.specs.Commands.{served};
 ghost use Rattle.document.specs.declared.Operation.TheVariants.{ReadScope};
 ghost use Rattle.document.specs.declared.Service.{Service};
 ghost use Rattle.line_wire.specs.Told.{Told};
-ghost use Rattle.document_outcomes.specs.Known.{knownAs};
+ghost use Rattle.document_outcomes.specs.Known.{known_as};
 ghost use Rattle.scope_state.specs.State.{sound};
-ghost use Rattle.scope_state.specs.Read.{readStatus};
-ghost use Rattle.state_parts.specs.State.{gateOf};
-ghost use Rattle.state_block.specs.Places.{stateLength};
-ghost use Rattle.state_block.specs.Layout.{decodedScope, decodedInstruments};
+ghost use Rattle.scope_state.specs.Read.{read_status};
+ghost use Rattle.state_parts.specs.State.{gate_of};
+ghost use Rattle.state_block.specs.Places.{state_length};
+ghost use Rattle.state_block.specs.Layout.{decoded_scope, decoded_instruments};
 
 use crate::values::put_values;
 use bytes_widths::usize_of_u8;
@@ -23,8 +23,8 @@ use state_block::{SCOPE, SCOPE_DEFINITIONS};
 use variables_sets::set_size;
 
 fn read_status(block: &[u8]) -> u8
-    requires { (stateLength ≤ length block.now) × (sound (decodedScope block.now) ≡ true) }
-    ensures { result ≡ readStatus (decodedScope block.now) }
+    requires { (state_length ≤ length block.now) × (sound (decoded_scope block.now) ≡ true) }
+    ensures { result ≡ read_status (decoded_scope block.now) }
 {
     let count = usize_of_u8(block[SCOPE]);
     if count == 0 {
@@ -37,8 +37,8 @@ fn read_status(block: &[u8]) -> u8
 }
 
 pub fn read_scope(state: &[u8], memory: &[u8], out: &mut [u8]) -> usize
-    requires { (stateLength ≤ length state.now) × (sound (decodedScope state.now) ≡ true) × (length memory.now ≡ memoryEnd) × (answerRoom ≤ length out.old) }
-    ensures { (s : Service) (body : List ℕ) → Told (served (gateOf (decodedInstruments state.now) memory.now) (knownAs ReadScope s) body).answer out.old result out.new }
+    requires { (state_length ≤ length state.now) × (sound (decoded_scope state.now) ≡ true) × (length memory.now ≡ memory_end) × (answer_room ≤ length out.old) }
+    ensures { (s : Service) (body : List ℕ) → Told (served (gate_of (decoded_instruments state.now) memory.now) (known_as ReadScope s) body).answer out.old result out.new }
 {
     let status = read_status(state);
     if status != DONE {

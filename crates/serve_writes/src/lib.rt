@@ -1,13 +1,13 @@
 // Writes, plain and masked. Payload and mask are handed on as parts of the message's data.
 ghost use Rattle.std.specs.Prelude.{◌≡◌, ◌+◌, ◌≤◌, length};
-ghost use Rattle.document.specs.Areas.{memoryEnd};
-ghost use Rattle.document.specs.Stores.{maskStored};
+ghost use Rattle.document.specs.Areas.{memory_end};
+ghost use Rattle.document.specs.Stores.{mask_stored};
 ghost use Rattle.document.specs.Commands.{served};
 ghost use Rattle.document.specs.Gate.{Gate};
 ghost use Rattle.document.specs.declared.Operation.TheVariants.{Write, WriteMasked};
-ghost use Rattle.document_outcomes.specs.Known.{knownAs};
+ghost use Rattle.document_outcomes.specs.Known.{known_as};
 ghost use Rattle.serve_fields.specs.Found.{OwnFits};
-ghost use Rattle.serve_writes.specs.WriteStatus.{writeStatus};
+ghost use Rattle.serve_writes.specs.WriteStatus.{write_status};
 ghost use Rattle.serve_writes.specs.Wrote.{Wrote};
 
 use bytes_fields::word_at;
@@ -20,7 +20,7 @@ use serve_fields::{Fields, block_in};
 
 // The one place where a write asks for permission; the stores behind it ask nothing.
 fn write_status(block: Fields) -> u8
-    ensures { (g : Gate) → result ≡ writeStatus g block }
+    ensures { (g : Gate) → result ≡ write_status g block }
 {
     if block.status != DONE {
         return block.status;
@@ -32,8 +32,8 @@ fn write_status(block: Fields) -> u8
 }
 
 pub fn write(service: Service, body: &[u8], memory: &mut [u8]) -> u8
-    requires { OwnFits service 1 body.now × (length memory.old ≡ memoryEnd) }
-    ensures { (g : Gate) → g.memory ≡ memory.old → Wrote (served g (knownAs Write service) body.now) result memory.new }
+    requires { OwnFits service 1 body.now × (length memory.old ≡ memory_end) }
+    ensures { (g : Gate) → g.memory ≡ memory.old → Wrote (served g (known_as Write service) body.now) result memory.new }
 {
     let block = block_in(service, body, 1);
     let status = write_status(block);
@@ -50,7 +50,7 @@ pub fn write(service: Service, body: &[u8], memory: &mut [u8]) -> u8
 // A word has its own form; everything else goes byte by byte.
 fn mix(memory: &mut [u8], at: usize, values: &[u8], masks: &[u8])
     requires { (at + length values.now ≤ length memory.old) × (length masks.now ≡ length values.now) }
-    ensures { memory.new ≡ maskStored memory.old at values.now masks.now }
+    ensures { memory.new ≡ mask_stored memory.old at values.now masks.now }
 {
     if values.len() == 2 {
         let value = word_at(values, 0);
@@ -62,8 +62,8 @@ fn mix(memory: &mut [u8], at: usize, values: &[u8], masks: &[u8])
 }
 
 pub fn write_masked(service: Service, body: &[u8], memory: &mut [u8]) -> u8
-    requires { OwnFits service 2 body.now × (length memory.old ≡ memoryEnd) }
-    ensures { (g : Gate) → g.memory ≡ memory.old → Wrote (served g (knownAs WriteMasked service) body.now) result memory.new }
+    requires { OwnFits service 2 body.now × (length memory.old ≡ memory_end) }
+    ensures { (g : Gate) → g.memory ≡ memory.old → Wrote (served g (known_as WriteMasked service) body.now) result memory.new }
 {
     let block = block_in(service, body, 2);
     let status = write_status(block);

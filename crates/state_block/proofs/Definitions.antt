@@ -9,40 +9,40 @@ use lib.ListN.{length, get_or, set, take, drop}
 use lib.Seq.{sets, drop-drop}
 use Rattle.document.specs.Areas.{bytes_at}
 use Rattle.document.specs.declared.Variable.{Variable}
-use Rattle.document.specs.Variables.{definitionIn, definitionsIn}
-use Rattle.state_block.specs.Layout.{encodedDefinitions}
-use Rattle.bytes_fields.proofs.Ranges.{bytes-cons, bytes-append}
-use Rattle.bytes_fields.proofs.Numbers.{number-kept}
-use Rattle.bytes_fields.proofs.Definitions.{definition-here}
+use Rattle.document.specs.Variables.{definition_in, definitions_in}
+use Rattle.state_block.specs.Layout.{encoded_definitions}
+use Rattle.bytes_fields.proofs.Ranges.{bytes_cons, bytes_append}
+use Rattle.bytes_fields.proofs.Numbers.{number_kept}
+use Rattle.bytes_fields.proofs.Definitions.{definition_here}
 
 -- ---- read
 
 module _ (part : List ℕ) (at k : ℕ) where
   -- a turn of the reading
-  pub definitions-read : (list : List Variable) (v : Variable) → k < 8 → v ≡ definitionIn true (drop at part)
-      → sets (set list k v) (k + 1) (definitionsIn true (8 - (k + 1)) (drop (at + 5) part)) ≡ sets list k (definitionsIn true (8 - k) (drop at part))
-  definitions-read list v h e =
+  pub definitions_read : (list : List Variable) (v : Variable) → k < 8 → v ≡ definition_in true (drop at part)
+      → sets (set list k v) (k + 1) (definitions_in true (8 - (k + 1)) (drop (at + 5) part)) ≡ sets list k (definitions_in true (8 - k) (drop at part))
+  definitions_read list v h e =
       let m : 8 - k ≡ suc (8 - (k + 1)) = omega arith in
       rw (e, m, add-one k, drop-drop 5 at part)
 
 -- the first few of eight
-pub definitions-take : (count n : ℕ) (part : List ℕ) → count ≤ n → take count (definitionsIn true n part) ≡ definitionsIn true count part
-definitions-take zero n part h = refl
-definitions-take (suc count) zero part h = let z : ⊥ = omega arith in absurd z
-definitions-take (suc count) (suc n) part h =
-    ap (λ (vs : List Variable). definitionIn true part ∷ vs) (definitions-take count n (drop 5 part) (omega arith))
+pub definitions_take : (count n : ℕ) (part : List ℕ) → count ≤ n → take count (definitions_in true n part) ≡ definitions_in true count part
+definitions_take zero n part h = refl
+definitions_take (suc count) zero part h = let z : ⊥ = omega arith in absurd z
+definitions_take (suc count) (suc n) part h =
+    ap (λ (vs : List Variable). definition_in true part ∷ vs) (definitions_take count n (drop 5 part) (omega arith))
 
 -- ---- kept
 
 -- what was read is kept in the bytes that it was read from
-pub definitions-kept : (n : ℕ) (l : List ℕ) (at : ℕ) → ((i : ℕ) → get_or l i 0 < 256) → at + n * 5 ≤ length l
-    → encodedDefinitions (definitionsIn true n (drop at l)) ≡ bytes_at l at (n * 5)
-definitions-kept zero l at small h = refl
-definitions-kept (suc n) l at small h =
-    (λ i. encodedDefinitions (definition-here l at i ∷ definitionsIn true n (drop-drop 5 at l i)))
-    ∙ (λ i. get_or l at 0 ∷ number-kept l small (at + 1) 4 (omega arith) i ++ definitions-kept n l (at + 5) small (omega arith) i)
+pub definitions_kept : (n : ℕ) (l : List ℕ) (at : ℕ) → ((i : ℕ) → get_or l i 0 < 256) → at + n * 5 ≤ length l
+    → encoded_definitions (definitions_in true n (drop at l)) ≡ bytes_at l at (n * 5)
+definitions_kept zero l at small h = refl
+definitions_kept (suc n) l at small h =
+    (λ i. encoded_definitions (definition_here l at i ∷ definitions_in true n (drop-drop 5 at l i)))
+    ∙ (λ i. get_or l at 0 ∷ number_kept l small (at + 1) 4 (omega arith) i ++ definitions_kept n l (at + 5) small (omega arith) i)
     ∙ ap (λ (r : List ℕ). get_or l at 0 ∷ r) (joined ∙ ap (λ (k : ℕ). bytes_at l k (4 + n * 5)) next)
-    ∙ bytes-cons l at (4 + n * 5) (omega arith)
+    ∙ bytes_cons l at (4 + n * 5) (omega arith)
     ∙ ap (bytes_at l at) whole
   where
     next : at + 1 ≡ suc at
@@ -51,7 +51,7 @@ definitions-kept (suc n) l at small h =
     joined : bytes_at l (at + 1) 4 ++ bytes_at l (at + 5) (n * 5) ≡ bytes_at l (at + 1) (4 + n * 5)
     joined =
         let e : at + 5 ≡ at + 1 + 4 = omega arith in
-        ap (λ (k : ℕ). bytes_at l (at + 1) 4 ++ bytes_at l k (n * 5)) e ∙ bytes-append l (at + 1) 4 (n * 5)
+        ap (λ (k : ℕ). bytes_at l (at + 1) 4 ++ bytes_at l k (n * 5)) e ∙ bytes_append l (at + 1) 4 (n * 5)
 
     whole : suc (4 + n * 5) ≡ suc n * 5
     whole = omega arith

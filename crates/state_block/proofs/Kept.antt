@@ -4,114 +4,114 @@ use mathlib.Core.List.{List, [], ◌∷◌, ◌++◌}
 use Prim.Native.Nat.{ℕ, zero, suc, ◌+◌, ◌<◌, ◌≤◌}
 use native.Mathlib.Omega.{arith}
 use lib.ListN.{length, get_or, take}
-use Rattle.document.specs.Numbers.{mostData}
+use Rattle.document.specs.Numbers.{most_data}
 use Rattle.document.specs.Areas.{bytes_at}
 use Rattle.recorder_runs.specs.declared.run.Run.{Run}
-use Rattle.tables_state.specs.State.{listLength}
-use Rattle.state_block.specs.Layout.{decodedReceiver, decodedDefinitions, decodedVariables, decodedScope, decodedPlan, decodedRecorder, decodedApplication, decodedTables, decodedInstruments, decoded, encodedReceiver, encodedVariables, encodedScope, encodedNumbers, encodedRun, encodedRecorder, encodedApplication, encodedTables, encodedInstruments, encoded}
-use Rattle.state_block.specs.Places.{receiverLength, definitionsLength, variablesLength, numbersLength, planLength, runLength, recorderLength, applicationLength, tablesLength, instrumentsLength, bodyPlace, scopePlace, recorderPlace, planPlace, samplesPlace, postTriggerPlace, dividerPlace, triggerAddressPlace, triggerSizePlace, signPlace, thresholdPlace, recordedPlace, runPlace, fullPlace, watchPlace, waitPlace, placePlace, valuePlace, applicationPlace, commandPlace, tablesPlace, listPlace, stateLength}
-use Rattle.bytes_fields.proofs.Ranges.{bytes-cons, bytes-append}
-use Rattle.bytes_fields.proofs.Numbers.{number-kept}
-use Rattle.state_block.proofs.Definitions.{definitions-kept}
+use Rattle.tables_state.specs.State.{list_length}
+use Rattle.state_block.specs.Layout.{decoded_receiver, decoded_definitions, decoded_variables, decoded_scope, decoded_plan, decoded_recorder, decoded_application, decoded_tables, decoded_instruments, decoded, encoded_receiver, encoded_variables, encoded_scope, encoded_numbers, encoded_run, encoded_recorder, encoded_application, encoded_tables, encoded_instruments, encoded}
+use Rattle.state_block.specs.Places.{receiver_length, definitions_length, variables_length, numbers_length, plan_length, run_length, recorder_length, application_length, tables_length, instruments_length, body_place, scope_place, recorder_place, plan_place, samples_place, post_trigger_place, divider_place, trigger_address_place, trigger_size_place, sign_place, threshold_place, recorded_place, run_place, full_place, watch_place, wait_place, place_place, value_place, application_place, command_place, tables_place, list_place, state_length}
+use Rattle.bytes_fields.proofs.Ranges.{bytes_cons, bytes_append}
+use Rattle.bytes_fields.proofs.Numbers.{number_kept}
+use Rattle.state_block.proofs.Definitions.{definitions_kept}
 
 -- n bytes one by one
 abbrev each : List ℕ → ℕ → ℕ → List ℕ
 each l i zero = []
 each l i (suc n) = get_or l i 0 ∷ each l (suc i) n
 
-each-bytes : (n : ℕ) (l : List ℕ) (i : ℕ) → i + n ≤ length l → each l i n ≡ bytes_at l i n
-each-bytes zero l i h = refl
-each-bytes (suc n) l i h =
-    ap (λ (k : List ℕ). get_or l i 0 ∷ k) (each-bytes n l (suc i) (omega arith)) ∙ bytes-cons l i n (omega arith)
+each_bytes : (n : ℕ) (l : List ℕ) (i : ℕ) → i + n ≤ length l → each l i n ≡ bytes_at l i n
+each_bytes zero l i h = refl
+each_bytes (suc n) l i h =
+    ap (λ (k : List ℕ). get_or l i 0 ∷ k) (each_bytes n l (suc i) (omega arith)) ∙ bytes_cons l i n (omega arith)
 
 module _ (l : List ℕ) (small : (i : ℕ) → get_or l i 0 < 256) where
-  module _ (long : stateLength ≤ length l) where
-    pub receiver-kept : encodedReceiver (decodedReceiver l) ≡ bytes_at l 0 receiverLength
-    unfolding encodedReceiver decodedReceiver
-    receiver-kept = each-bytes receiverLength l 0 (omega arith)
+  module _ (long : state_length ≤ length l) where
+    pub receiver_kept : encoded_receiver (decoded_receiver l) ≡ bytes_at l 0 receiver_length
+    unfolding encoded_receiver decoded_receiver
+    receiver_kept = each_bytes receiver_length l 0 (omega arith)
 
-    variables-kept : (at : ℕ) → at + variablesLength ≤ length l → encodedVariables (decodedVariables l at) ≡ bytes_at l at variablesLength
-    unfolding decodedDefinitions
-    variables-kept at h =
+    variables_kept : (at : ℕ) → at + variables_length ≤ length l → encoded_variables (decoded_variables l at) ≡ bytes_at l at variables_length
+    unfolding decoded_definitions
+    variables_kept at h =
         let e : at + 1 ≡ suc at = omega arith in
-        ap (λ (k : List ℕ). get_or l at 0 ∷ k) (definitions-kept 8 l (at + 1) small (omega arith) ∙ ap (λ (k : ℕ). bytes_at l k definitionsLength) e)
-        ∙ bytes-cons l at definitionsLength (omega arith)
+        ap (λ (k : List ℕ). get_or l at 0 ∷ k) (definitions_kept 8 l (at + 1) small (omega arith) ∙ ap (λ (k : ℕ). bytes_at l k definitions_length) e)
+        ∙ bytes_cons l at definitions_length (omega arith)
 
-    pub scope_kept : encodedScope (decodedScope l) ≡ bytes_at l scopePlace variablesLength
-    unfolding encodedScope decodedScope
-    scope_kept = variables-kept scopePlace (omega arith)
+    pub scope_kept_lem : encoded_scope (decoded_scope l) ≡ bytes_at l scope_place variables_length
+    unfolding encoded_scope decoded_scope
+    scope_kept_lem = variables_kept scope_place (omega arith)
 
-    trigger-kept : get_or l triggerSizePlace 0 ∷ get_or l signPlace 0 ∷ bytes_at l thresholdPlace 4 ≡ bytes_at l triggerSizePlace 6
-    trigger-kept = ap (λ (k : List ℕ). get_or l triggerSizePlace 0 ∷ k) (bytes-cons l signPlace 4 (omega arith)) ∙ bytes-cons l triggerSizePlace 5 (omega arith)
+    trigger_kept : get_or l trigger_size_place 0 ∷ get_or l sign_place 0 ∷ bytes_at l threshold_place 4 ≡ bytes_at l trigger_size_place 6
+    trigger_kept = ap (λ (k : List ℕ). get_or l trigger_size_place 0 ∷ k) (bytes_cons l sign_place 4 (omega arith)) ∙ bytes_cons l trigger_size_place 5 (omega arith)
 
-    numbers-kept : encodedNumbers (decodedPlan l) ≡ bytes_at l planPlace numbersLength
-    numbers-kept =
+    numbers_kept : encoded_numbers (decoded_plan l) ≡ bytes_at l plan_place numbers_length
+    numbers_kept =
         (λ i.
-        (get_or l planPlace 0 ∷ number-kept l small samplesPlace 2 (omega arith) i)
-        ++ number-kept l small postTriggerPlace 2 (omega arith) i
-        ++ number-kept l small dividerPlace 2 (omega arith) i
-        ++ number-kept l small triggerAddressPlace 4 (omega arith) i
-        ++ (get_or l triggerSizePlace 0 ∷ get_or l signPlace 0 ∷ number-kept l small thresholdPlace 4 (omega arith) i))
-        ∙ (λ i. bytes-cons l planPlace 2 (omega arith) i ++ bytes_at l postTriggerPlace 2 ++ bytes_at l dividerPlace 2 ++ bytes_at l triggerAddressPlace 4 ++ trigger-kept i)
-        ∙ (λ i. bytes-append l planPlace 3 2 i ++ bytes_at l dividerPlace 2 ++ bytes_at l triggerAddressPlace 4 ++ bytes_at l triggerSizePlace 6)
-        ∙ (λ i. bytes-append l planPlace 5 2 i ++ bytes_at l triggerAddressPlace 4 ++ bytes_at l triggerSizePlace 6)
-        ∙ (λ i. bytes-append l planPlace 7 4 i ++ bytes_at l triggerSizePlace 6)
-        ∙ bytes-append l planPlace 11 6
+        (get_or l plan_place 0 ∷ number_kept l small samples_place 2 (omega arith) i)
+        ++ number_kept l small post_trigger_place 2 (omega arith) i
+        ++ number_kept l small divider_place 2 (omega arith) i
+        ++ number_kept l small trigger_address_place 4 (omega arith) i
+        ++ (get_or l trigger_size_place 0 ∷ get_or l sign_place 0 ∷ number_kept l small threshold_place 4 (omega arith) i))
+        ∙ (λ i. bytes_cons l plan_place 2 (omega arith) i ++ bytes_at l post_trigger_place 2 ++ bytes_at l divider_place 2 ++ bytes_at l trigger_address_place 4 ++ trigger_kept i)
+        ∙ (λ i. bytes_append l plan_place 3 2 i ++ bytes_at l divider_place 2 ++ bytes_at l trigger_address_place 4 ++ bytes_at l trigger_size_place 6)
+        ∙ (λ i. bytes_append l plan_place 5 2 i ++ bytes_at l trigger_address_place 4 ++ bytes_at l trigger_size_place 6)
+        ∙ (λ i. bytes_append l plan_place 7 4 i ++ bytes_at l trigger_size_place 6)
+        ∙ bytes_append l plan_place 11 6
 
     -- a recorder with another run
-    pub recorder-kept : (run : Run)
-        → encodedRecorder (record { ready = (decodedRecorder l).ready; plan = (decodedRecorder l).plan; run = run }) ≡ bytes_at l recorderPlace (1 + planLength) ++ encodedRun run
-    unfolding encodedRecorder decodedRecorder
-    recorder-kept run =
-        (λ i. (get_or l recorderPlace 0 ∷ numbers-kept i) ++ variables-kept recordedPlace (omega arith) i ++ encodedRun run)
-        ∙ (λ i. bytes-cons l recorderPlace numbersLength (omega arith) i ++ bytes_at l recordedPlace variablesLength ++ encodedRun run)
-        ∙ (λ i. bytes-append l recorderPlace (1 + numbersLength) variablesLength i ++ encodedRun run)
+    pub recorder_kept_lem : (run : Run)
+        → encoded_recorder (record { ready = (decoded_recorder l).ready; plan = (decoded_recorder l).plan; run = run }) ≡ bytes_at l recorder_place (1 + plan_length) ++ encoded_run run
+    unfolding encoded_recorder decoded_recorder
+    recorder_kept_lem run =
+        (λ i. (get_or l recorder_place 0 ∷ numbers_kept i) ++ variables_kept recorded_place (omega arith) i ++ encoded_run run)
+        ∙ (λ i. bytes_cons l recorder_place numbers_length (omega arith) i ++ bytes_at l recorded_place variables_length ++ encoded_run run)
+        ∙ (λ i. bytes_append l recorder_place (1 + numbers_length) variables_length i ++ encoded_run run)
 
-    run-kept : encodedRun (decodedRecorder l).run ≡ bytes_at l runPlace runLength
-    unfolding encodedRun decodedRecorder
-    run-kept =
+    run_kept_lem : encoded_run (decoded_recorder l).run ≡ bytes_at l run_place run_length
+    unfolding encoded_run decoded_recorder
+    run_kept_lem =
         (λ i.
-        (get_or l runPlace 0 ∷ get_or l fullPlace 0 ∷ get_or l watchPlace 0 ∷ number-kept l small waitPlace 2 (omega arith) i)
-        ++ number-kept l small placePlace 2 (omega arith) i
-        ++ number-kept l small valuePlace 4 (omega arith) i)
-        ∙ (λ i. each-bytes 3 l runPlace (omega arith) i ++ bytes_at l waitPlace 2 ++ bytes_at l placePlace 2 ++ bytes_at l valuePlace 4)
-        ∙ (λ i. bytes-append l runPlace 3 2 i ++ bytes_at l placePlace 2 ++ bytes_at l valuePlace 4)
-        ∙ (λ i. bytes-append l runPlace 5 2 i ++ bytes_at l valuePlace 4)
-        ∙ bytes-append l runPlace 7 4
+        (get_or l run_place 0 ∷ get_or l full_place 0 ∷ get_or l watch_place 0 ∷ number_kept l small wait_place 2 (omega arith) i)
+        ++ number_kept l small place_place 2 (omega arith) i
+        ++ number_kept l small value_place 4 (omega arith) i)
+        ∙ (λ i. each_bytes 3 l run_place (omega arith) i ++ bytes_at l wait_place 2 ++ bytes_at l place_place 2 ++ bytes_at l value_place 4)
+        ∙ (λ i. bytes_append l run_place 3 2 i ++ bytes_at l place_place 2 ++ bytes_at l value_place 4)
+        ∙ (λ i. bytes_append l run_place 5 2 i ++ bytes_at l value_place 4)
+        ∙ bytes_append l run_place 7 4
 
-    pub same-recorder-kept : encodedRecorder (decodedRecorder l) ≡ bytes_at l recorderPlace recorderLength
-    same-recorder-kept =
-        recorder-kept (decodedRecorder l).run
-        ∙ ap (λ (k : List ℕ). bytes_at l recorderPlace (1 + planLength) ++ k) run-kept
-        ∙ bytes-append l recorderPlace (1 + planLength) runLength
+    pub same_recorder_kept : encoded_recorder (decoded_recorder l) ≡ bytes_at l recorder_place recorder_length
+    same_recorder_kept =
+        recorder_kept_lem (decoded_recorder l).run
+        ∙ ap (λ (k : List ℕ). bytes_at l recorder_place (1 + plan_length) ++ k) run_kept_lem
+        ∙ bytes_append l recorder_place (1 + plan_length) run_length
 
-    pub application-kept : encodedApplication (decodedApplication l) ≡ bytes_at l applicationPlace applicationLength
-    unfolding encodedApplication decodedApplication
-    application-kept =
-        ap (λ (k : List ℕ). k ++ bytes_at l commandPlace mostData) (each-bytes 3 l applicationPlace (omega arith))
-        ∙ bytes-append l applicationPlace 3 mostData
+    pub application_kept : encoded_application (decoded_application l) ≡ bytes_at l application_place application_length
+    unfolding encoded_application decoded_application
+    application_kept =
+        ap (λ (k : List ℕ). k ++ bytes_at l command_place most_data) (each_bytes 3 l application_place (omega arith))
+        ∙ bytes_append l application_place 3 most_data
 
-    pub tables-kept : encodedTables (decodedTables l) ≡ bytes_at l tablesPlace tablesLength
-    unfolding encodedTables decodedTables
-    tables-kept = bytes-cons l tablesPlace listLength (omega arith)
+    pub tables_kept_lem : encoded_tables (decoded_tables l) ≡ bytes_at l tables_place tables_length
+    unfolding encoded_tables decoded_tables
+    tables_kept_lem = bytes_cons l tables_place list_length (omega arith)
 
     -- what stands behind the recorder, and behind the scope
-    pub behind-recorder-kept : encodedApplication (decodedApplication l) ++ encodedTables (decodedTables l) ≡ bytes_at l applicationPlace (applicationLength + tablesLength)
-    behind-recorder-kept = (λ i. application-kept i ++ tables-kept i) ∙ bytes-append l applicationPlace applicationLength tablesLength
+    pub behind_recorder_kept : encoded_application (decoded_application l) ++ encoded_tables (decoded_tables l) ≡ bytes_at l application_place (application_length + tables_length)
+    behind_recorder_kept = (λ i. application_kept i ++ tables_kept_lem i) ∙ bytes_append l application_place application_length tables_length
 
     pub behind-scope-kept :
-        encodedRecorder (decodedRecorder l) ++ (encodedApplication (decodedApplication l) ++ encodedTables (decodedTables l))
-        ≡ bytes_at l recorderPlace (recorderLength + (applicationLength + tablesLength))
+        encoded_recorder (decoded_recorder l) ++ (encoded_application (decoded_application l) ++ encoded_tables (decoded_tables l))
+        ≡ bytes_at l recorder_place (recorder_length + (application_length + tables_length))
     behind-scope-kept =
-        (λ i. same-recorder-kept i ++ behind-recorder-kept i) ∙ bytes-append l recorderPlace recorderLength (applicationLength + tablesLength)
+        (λ i. same_recorder_kept i ++ behind_recorder_kept i) ∙ bytes_append l recorder_place recorder_length (application_length + tables_length)
 
-    pub instruments-kept : encodedInstruments (decodedInstruments l) ≡ bytes_at l scopePlace instrumentsLength
-    instruments-kept =
-        (λ i. scope_kept i ++ behind-scope-kept i)
-        ∙ bytes-append l scopePlace variablesLength (recorderLength + (applicationLength + tablesLength))
+    pub instruments_kept_lem : encoded_instruments (decoded_instruments l) ≡ bytes_at l scope_place instruments_length
+    instruments_kept_lem =
+        (λ i. scope_kept_lem i ++ behind-scope-kept i)
+        ∙ bytes_append l scope_place variables_length (recorder_length + (application_length + tables_length))
 
     -- the whole
-    pub encoded-decoded : encoded (decoded l) ≡ take stateLength l
-    encoded-decoded =
-        (λ i. receiver-kept i ++ (ap (λ (k : List ℕ). bytes_at l bodyPlace mostData ++ k) instruments-kept ∙ bytes-append l bodyPlace mostData instrumentsLength) i)
-        ∙ bytes-append l 0 receiverLength (mostData + instrumentsLength)
+    pub encoded_decoded : encoded (decoded l) ≡ take state_length l
+    encoded_decoded =
+        (λ i. receiver_kept i ++ (ap (λ (k : List ℕ). bytes_at l body_place most_data ++ k) instruments_kept_lem ∙ bytes_append l body_place most_data instruments_length) i)
+        ∙ bytes_append l 0 receiver_length (most_data + instruments_length)

@@ -5,222 +5,222 @@ use Prim.Native.Nat.{ℕ, ◌+◌, ◌-◌, ◌<◌, ◌≤◌}
 use native.Mathlib.Omega.{arith}
 use lib.ListN.{length, get_or, set, take, drop, length-set, length-append, length-drop}
 use lib.Seq.{sets, length-sets, drop_at, drop-set-lt}
-use Rattle.document.specs.Numbers.{mostData}
+use Rattle.document.specs.Numbers.{most_data}
 use Rattle.document.specs.Areas.{bytes_at}
 use Rattle.line_receiver.specs.declared.Receiver.{Receiver}
 use Rattle.scope_state.specs.declared.Scope.{Scope}
 use Rattle.recorder_runs.specs.declared.run.Run.{Run}
 use Rattle.recorder_state.specs.declared.state.Recorder.{Recorder}
-use Rattle.application_state.specs.State.{Command, sentCommand, endedCommand}
-use Rattle.state_parts.specs.State.{Instruments, withScope, withRecorder, withApplication}
-use Rattle.memory_ranges.proofs.Stored.{bytes-behind}
-use Rattle.state_block.proofs.Ranges.{sets-part}
-use Rattle.state_block.specs.Layout.{decodedReceiver, decodedBody, decodedScope, decodedRecorder, decodedApplication, decodedInstruments, encodedReceiver, encodedScope, encodedRun, encodedRecorder, encodedApplication, encodedInstruments, encoded}
-use Rattle.state_block.specs.Places.{receiverLength, variablesLength, planLength, recorderLength, applicationLength, tablesLength, instrumentsLength, bodyPlace, scopePlace, recorderPlace, runPlace, applicationPlace, commandPlace, tablesPlace, stateLength}
-use Rattle.bytes_fields.proofs.Ranges.{bytes-length, bytes-append, sets_same, sets-set, sets-apart}
-use Rattle.state_block.proofs.Parts.{receiver-length, sets-two}
-use Rattle.state_block.proofs.Kept.{receiver-kept, scope_kept, recorder-kept, same-recorder-kept, application-kept, tables-kept, behind-recorder-kept, behind-scope-kept, instruments-kept}
+use Rattle.application_state.specs.State.{Command, sent_command, ended_command}
+use Rattle.state_parts.specs.State.{Instruments, with_scope, with_recorder, with_application}
+use Rattle.memory_ranges.proofs.Stored.{bytes_behind}
+use Rattle.state_block.proofs.Ranges.{sets_part}
+use Rattle.state_block.specs.Layout.{decoded_receiver, decoded_body, decoded_scope, decoded_recorder, decoded_application, decoded_instruments, encoded_receiver, encoded_scope, encoded_run, encoded_recorder, encoded_application, encoded_instruments, encoded}
+use Rattle.state_block.specs.Places.{receiver_length, variables_length, plan_length, recorder_length, application_length, tables_length, instruments_length, body_place, scope_place, recorder_place, run_place, application_place, command_place, tables_place, state_length}
+use Rattle.bytes_fields.proofs.Ranges.{bytes_length, bytes_append, sets_same, sets_set, sets_apart}
+use Rattle.state_block.proofs.Parts.{receiver_length_lem, sets_two}
+use Rattle.state_block.proofs.Kept.{receiver_kept, scope_kept_lem, recorder_kept_lem, same_recorder_kept, application_kept, tables_kept_lem, behind_recorder_kept, behind-scope-kept, instruments_kept_lem}
 
-module _ (block : List ℕ) (long : stateLength ≤ length block) where
-  parts-stored : (r : Receiver) (body rest : List ℕ) → length body ≡ mostData
-      → sets block 0 (encodedReceiver r ++ (body ++ rest)) ≡ sets (sets (sets block 0 (encodedReceiver r)) bodyPlace body) scopePlace rest
-  parts-stored r body rest e =
-      sets-two block (encodedReceiver r) (body ++ rest) 0 receiverLength bodyPlace (receiver-length r) refl
-      ∙ sets-two (sets block 0 (encodedReceiver r)) body rest bodyPlace mostData scopePlace e refl
+module _ (block : List ℕ) (long : state_length ≤ length block) where
+  parts_stored : (r : Receiver) (body rest : List ℕ) → length body ≡ most_data
+      → sets block 0 (encoded_receiver r ++ (body ++ rest)) ≡ sets (sets (sets block 0 (encoded_receiver r)) body_place body) scope_place rest
+  parts_stored r body rest e =
+      sets_two block (encoded_receiver r) (body ++ rest) 0 receiver_length body_place (receiver_length_lem r) refl
+      ∙ sets_two (sets block 0 (encoded_receiver r)) body rest body_place most_data scope_place e refl
 
   -- a range behind the receiver, stored over it
-  behind-same : (r : Receiver) (at n : ℕ) → receiverLength ≤ at → at + n ≤ stateLength → sets (sets block 0 (encodedReceiver r)) at (bytes_at block at n) ≡ sets block 0 (encodedReceiver r)
-  behind-same r at n h f =
-      ap (sets (sets block 0 (encodedReceiver r)) at) (sym (bytes-behind (encodedReceiver r) block 0 at n (omega (arith, receiver-length r))))
-      ∙ sets_same n (sets block 0 (encodedReceiver r)) at (omega (arith, length-sets block 0 (encodedReceiver r)))
+  behind_same : (r : Receiver) (at n : ℕ) → receiver_length ≤ at → at + n ≤ state_length → sets (sets block 0 (encoded_receiver r)) at (bytes_at block at n) ≡ sets block 0 (encoded_receiver r)
+  behind_same r at n h f =
+      ap (sets (sets block 0 (encoded_receiver r)) at) (sym (bytes_behind (encoded_receiver r) block 0 at n (omega (arith, receiver_length_lem r))))
+      ∙ sets_same n (sets block 0 (encoded_receiver r)) at (omega (arith, length-sets block 0 (encoded_receiver r)))
 
-  pub whole-stored : (r : Receiver) (i : Instruments)
-      → sets (sets block 0 (encodedReceiver r)) scopePlace (encodedInstruments i) ≡ sets block 0 (encoded (record { receiver = r; body = decodedBody block; instruments = i }))
-  whole-stored r i =
-      ap (λ (l : List ℕ). sets l scopePlace (encodedInstruments i)) (sym (behind-same r bodyPlace mostData (omega arith) (omega arith)))
-      ∙ sym (parts-stored r (decodedBody block) (encodedInstruments i) (bytes-length block bodyPlace mostData (omega arith)))
+  pub whole_stored : (r : Receiver) (i : Instruments)
+      → sets (sets block 0 (encoded_receiver r)) scope_place (encoded_instruments i) ≡ sets block 0 (encoded (record { receiver = r; body = decoded_body block; instruments = i }))
+  whole_stored r i =
+      ap (λ (l : List ℕ). sets l scope_place (encoded_instruments i)) (sym (behind_same r body_place most_data (omega arith) (omega arith)))
+      ∙ sym (parts_stored r (decoded_body block) (encoded_instruments i) (bytes_length block body_place most_data (omega arith)))
 
   -- the receiver, stored last
-  pub answered-stored : (r : Receiver) (i : Instruments)
-      → sets (sets block scopePlace (encodedInstruments i)) 0 (encodedReceiver r) ≡ sets block 0 (encoded (record { receiver = r; body = decodedBody block; instruments = i }))
-  answered-stored r i =
-      sets-apart (encodedInstruments i) (encodedReceiver r) block scopePlace 0 (omega (arith, receiver-length r)) ∙ whole-stored r i
+  pub answered_stored : (r : Receiver) (i : Instruments)
+      → sets (sets block scope_place (encoded_instruments i)) 0 (encoded_receiver r) ≡ sets block 0 (encoded (record { receiver = r; body = decoded_body block; instruments = i }))
+  answered_stored r i =
+      sets_apart (encoded_instruments i) (encoded_receiver r) block scope_place 0 (omega (arith, receiver_length_lem r)) ∙ whole_stored r i
 
   module _ (small : (i : ℕ) → get_or block i 0 < 256) where
-    pub quiet-stored : (r : Receiver)
-        → sets block 0 (encodedReceiver r) ≡ sets block 0 (encoded (record { receiver = r; body = decodedBody block; instruments = decodedInstruments block }))
-    quiet-stored r =
-        sym (behind-same r scopePlace instrumentsLength (omega arith) (omega arith))
-        ∙ ap (sets (sets block 0 (encodedReceiver r)) scopePlace) (sym (instruments-kept block small long))
-        ∙ whole-stored r (decodedInstruments block)
+    pub quiet_stored : (r : Receiver)
+        → sets block 0 (encoded_receiver r) ≡ sets block 0 (encoded (record { receiver = r; body = decoded_body block; instruments = decoded_instruments block }))
+    quiet_stored r =
+        sym (behind_same r scope_place instruments_length (omega arith) (omega arith))
+        ∙ ap (sets (sets block 0 (encoded_receiver r)) scope_place) (sym (instruments_kept_lem block small long))
+        ∙ whole_stored r (decoded_instruments block)
 
     -- data that are kept
-    pub data-stored : (r : Receiver) (at : ℕ) (bs : List ℕ) → at + length bs ≤ mostData
-        → sets (sets block 0 (encodedReceiver r)) (bodyPlace + at) bs ≡ sets block 0 (encoded (record { receiver = r; body = sets (decodedBody block) at bs; instruments = decodedInstruments block }))
-    data-stored r at bs h =
+    pub data_stored : (r : Receiver) (at : ℕ) (bs : List ℕ) → at + length bs ≤ most_data
+        → sets (sets block 0 (encoded_receiver r)) (body_place + at) bs ≡ sets block 0 (encoded (record { receiver = r; body = sets (decoded_body block) at bs; instruments = decoded_instruments block }))
+    data_stored r at bs h =
         sym
-        (parts-stored r (sets (decodedBody block) at bs) (encodedInstruments (decodedInstruments block)) (length-sets (decodedBody block) at bs ∙ bytes-length block bodyPlace mostData (omega arith))
-        ∙ ap (λ (l : List ℕ). sets l scopePlace (encodedInstruments (decodedInstruments block))) body-stored
-        ∙ ap (sets kept scopePlace) (instruments-kept block small long ∙ sym instruments-there)
-        ∙ sets_same instrumentsLength kept scopePlace (omega (arith, kept-length)))
+        (parts_stored r (sets (decoded_body block) at bs) (encoded_instruments (decoded_instruments block)) (length-sets (decoded_body block) at bs ∙ bytes_length block body_place most_data (omega arith))
+        ∙ ap (λ (l : List ℕ). sets l scope_place (encoded_instruments (decoded_instruments block))) body_stored
+        ∙ ap (sets kept scope_place) (instruments_kept_lem block small long ∙ sym instruments_there)
+        ∙ sets_same instruments_length kept scope_place (omega (arith, kept_length)))
       where
         headed : List ℕ
-        headed = sets block 0 (encodedReceiver r)
+        headed = sets block 0 (encoded_receiver r)
 
         kept : List ℕ
-        kept = sets headed (bodyPlace + at) bs
+        kept = sets headed (body_place + at) bs
 
-        headed-length : length headed ≡ length block
-        headed-length = length-sets block 0 (encodedReceiver r)
+        headed_length : length headed ≡ length block
+        headed_length = length-sets block 0 (encoded_receiver r)
 
-        kept-length : length kept ≡ length block
-        kept-length = length-sets headed (bodyPlace + at) bs ∙ headed-length
+        kept_length : length kept ≡ length block
+        kept_length = length-sets headed (body_place + at) bs ∙ headed_length
 
-        body-stored : sets headed bodyPlace (sets (decodedBody block) at bs) ≡ kept
-        body-stored =
-            ap (λ (l : List ℕ). sets headed bodyPlace (sets l at bs)) (sym (bytes-behind (encodedReceiver r) block 0 bodyPlace mostData (omega (arith, receiver-length r))))
-            ∙ sets-part bs headed bodyPlace mostData at h (omega (arith, headed-length))
+        body_stored : sets headed body_place (sets (decoded_body block) at bs) ≡ kept
+        body_stored =
+            ap (λ (l : List ℕ). sets headed body_place (sets l at bs)) (sym (bytes_behind (encoded_receiver r) block 0 body_place most_data (omega (arith, receiver_length_lem r))))
+            ∙ sets_part bs headed body_place most_data at h (omega (arith, headed_length))
 
-        instruments-there : bytes_at kept scopePlace instrumentsLength ≡ bytes_at block scopePlace instrumentsLength
-        instruments-there =
-            bytes-behind bs headed (bodyPlace + at) scopePlace instrumentsLength (omega (arith, h))
-            ∙ bytes-behind (encodedReceiver r) block 0 scopePlace instrumentsLength (omega (arith, receiver-length r))
+        instruments_there : bytes_at kept scope_place instruments_length ≡ bytes_at block scope_place instruments_length
+        instruments_there =
+            bytes_behind bs headed (body_place + at) scope_place instruments_length (omega (arith, h))
+            ∙ bytes_behind (encoded_receiver r) block 0 scope_place instruments_length (omega (arith, receiver_length_lem r))
 
-    pub keep-stored : (r : Receiver) (at b : ℕ) → at < mostData
-        → set (sets block 0 (encodedReceiver r)) (bodyPlace + at) b ≡ sets block 0 (encoded (record { receiver = r; body = set (decodedBody block) at b; instruments = decodedInstruments block }))
-    keep-stored r at b h = data-stored r at (b ∷ []) (omega (arith, h))
+    pub keep_stored : (r : Receiver) (at b : ℕ) → at < most_data
+        → set (sets block 0 (encoded_receiver r)) (body_place + at) b ≡ sets block 0 (encoded (record { receiver = r; body = set (decoded_body block) at b; instruments = decoded_instruments block }))
+    keep_stored r at b h = data_stored r at (b ∷ []) (omega (arith, h))
 
     -- ---- one of the instruments, or a part of it: the others are there
 
-    same-scope : sets block scopePlace (encodedScope (decodedScope block)) ≡ block
-    same-scope = ap (sets block scopePlace) (scope_kept block small long) ∙ sets_same variablesLength block scopePlace (omega arith)
+    same_scope : sets block scope_place (encoded_scope (decoded_scope block)) ≡ block
+    same_scope = ap (sets block scope_place) (scope_kept_lem block small long) ∙ sets_same variables_length block scope_place (omega arith)
 
-    scope-width : length (encodedScope (decodedScope block)) ≡ variablesLength
-    scope-width = ap length (scope_kept block small long) ∙ bytes-length block scopePlace variablesLength (omega arith)
+    scope_width : length (encoded_scope (decoded_scope block)) ≡ variables_length
+    scope_width = ap length (scope_kept_lem block small long) ∙ bytes_length block scope_place variables_length (omega arith)
 
-    pub same-instruments : sets block scopePlace (encodedInstruments (decodedInstruments block)) ≡ block
-    same-instruments =
-        ap (sets block scopePlace) (instruments-kept block small long) ∙ sets_same instrumentsLength block scopePlace (omega arith)
+    pub same_instruments : sets block scope_place (encoded_instruments (decoded_instruments block)) ≡ block
+    same_instruments =
+        ap (sets block scope_place) (instruments_kept_lem block small long) ∙ sets_same instruments_length block scope_place (omega arith)
 
     -- a part, stored, and what stands behind it stored over what is there
-    behind-there : (l xs ys : List ℕ) (at n next m : ℕ) → length xs ≡ n → at + n ≡ next → next + m ≤ length l → ys ≡ bytes_at l next m
+    behind_there : (l xs ys : List ℕ) (at n next m : ℕ) → length xs ≡ n → at + n ≡ next → next + m ≤ length l → ys ≡ bytes_at l next m
         → sets l at (xs ++ ys) ≡ sets l at xs
-    behind-there l xs ys at n next m width place fits same =
-        sets-two l xs ys at n next width place
-        ∙ ap (sets (sets l at xs) next) (same ∙ sym (bytes-behind xs l at next m (omega (arith, width, place))))
+    behind_there l xs ys at n next m width place fits same =
+        sets_two l xs ys at n next width place
+        ∙ ap (sets (sets l at xs) next) (same ∙ sym (bytes_behind xs l at next m (omega (arith, width, place))))
         ∙ sets_same m (sets l at xs) next (omega (arith, length-sets l at xs))
 
-    pub scope-stored : (s : Scope) → length (encodedScope s) ≡ variablesLength
-        → sets block scopePlace (encodedScope s) ≡ sets block scopePlace (encodedInstruments (withScope (decodedInstruments block) s))
-    scope-stored s width =
-        sym (behind-there block (encodedScope s) _ scopePlace variablesLength recorderPlace (recorderLength + (applicationLength + tablesLength)) width refl (omega arith) (behind-scope-kept block small long))
+    pub scope_stored : (s : Scope) → length (encoded_scope s) ≡ variables_length
+        → sets block scope_place (encoded_scope s) ≡ sets block scope_place (encoded_instruments (with_scope (decoded_instruments block) s))
+    scope_stored s width =
+        sym (behind_there block (encoded_scope s) _ scope_place variables_length recorder_place (recorder_length + (application_length + tables_length)) width refl (omega arith) (behind-scope-kept block small long))
 
     -- behind the scope that is there
-    past-scope : (rest : List ℕ) → sets block scopePlace (encodedScope (decodedScope block) ++ rest) ≡ sets block recorderPlace rest
-    past-scope rest =
-        sets-two block (encodedScope (decodedScope block)) rest scopePlace variablesLength recorderPlace scope-width refl
-        ∙ ap (λ (l : List ℕ). sets l recorderPlace rest) same-scope
+    past_scope : (rest : List ℕ) → sets block scope_place (encoded_scope (decoded_scope block) ++ rest) ≡ sets block recorder_place rest
+    past_scope rest =
+        sets_two block (encoded_scope (decoded_scope block)) rest scope_place variables_length recorder_place scope_width refl
+        ∙ ap (λ (l : List ℕ). sets l recorder_place rest) same_scope
 
-    pub recorder-stored : (r : Recorder) → length (encodedRecorder r) ≡ recorderLength
-        → sets block recorderPlace (encodedRecorder r)
-        ≡ sets block scopePlace (encodedInstruments (withRecorder (decodedInstruments block) r))
-    recorder-stored r width =
+    pub recorder_stored : (r : Recorder) → length (encoded_recorder r) ≡ recorder_length
+        → sets block recorder_place (encoded_recorder r)
+        ≡ sets block scope_place (encoded_instruments (with_recorder (decoded_instruments block) r))
+    recorder_stored r width =
         sym
-        (past-scope _
-        ∙ behind-there block (encodedRecorder r) _ recorderPlace recorderLength applicationPlace (applicationLength + tablesLength) width refl (omega arith) (behind-recorder-kept block small long))
+        (past_scope _
+        ∙ behind_there block (encoded_recorder r) _ recorder_place recorder_length application_place (application_length + tables_length) width refl (omega arith) (behind_recorder_kept block small long))
 
-    same-recorder : sets block recorderPlace (encodedRecorder (decodedRecorder block)) ≡ block
-    same-recorder = ap (sets block recorderPlace) (same-recorder-kept block small long) ∙ sets_same recorderLength block recorderPlace (omega arith)
+    same_recorder : sets block recorder_place (encoded_recorder (decoded_recorder block)) ≡ block
+    same_recorder = ap (sets block recorder_place) (same_recorder_kept block small long) ∙ sets_same recorder_length block recorder_place (omega arith)
 
-    recorder-width : length (encodedRecorder (decodedRecorder block)) ≡ recorderLength
-    recorder-width = ap length (same-recorder-kept block small long) ∙ bytes-length block recorderPlace recorderLength (omega arith)
+    recorder_width : length (encoded_recorder (decoded_recorder block)) ≡ recorder_length
+    recorder_width = ap length (same_recorder_kept block small long) ∙ bytes_length block recorder_place recorder_length (omega arith)
 
     -- behind the scope and the recorder that are there
-    past-recorder : (rest : List ℕ)
-        → sets block scopePlace (encodedScope (decodedScope block) ++ (encodedRecorder (decodedRecorder block) ++ rest)) ≡ sets block applicationPlace rest
-    past-recorder rest =
-        past-scope (encodedRecorder (decodedRecorder block) ++ rest)
-        ∙ sets-two block (encodedRecorder (decodedRecorder block)) rest recorderPlace recorderLength applicationPlace recorder-width refl
-        ∙ ap (λ (l : List ℕ). sets l applicationPlace rest) same-recorder
+    past_recorder : (rest : List ℕ)
+        → sets block scope_place (encoded_scope (decoded_scope block) ++ (encoded_recorder (decoded_recorder block) ++ rest)) ≡ sets block application_place rest
+    past_recorder rest =
+        past_scope (encoded_recorder (decoded_recorder block) ++ rest)
+        ∙ sets_two block (encoded_recorder (decoded_recorder block)) rest recorder_place recorder_length application_place recorder_width refl
+        ∙ ap (λ (l : List ℕ). sets l application_place rest) same_recorder
 
-    pub application-stored : (c : Command) → length (encodedApplication c) ≡ applicationLength
-        → sets block applicationPlace (encodedApplication c)
-        ≡ sets block scopePlace (encodedInstruments (withApplication (decodedInstruments block) c))
-    application-stored c width =
+    pub application_stored : (c : Command) → length (encoded_application c) ≡ application_length
+        → sets block application_place (encoded_application c)
+        ≡ sets block scope_place (encoded_instruments (with_application (decoded_instruments block) c))
+    application_stored c width =
         sym
-        (past-recorder _
-        ∙ behind-there block (encodedApplication c) _ applicationPlace applicationLength tablesPlace tablesLength width refl (omega arith) (tables-kept block small long))
+        (past_recorder _
+        ∙ behind_there block (encoded_application c) _ application_place application_length tables_place tables_length width refl (omega arith) (tables_kept_lem block small long))
 
     -- the recorder in the block, with another run
     abbrev with_run : Run → Recorder
-    with_run run = record { ready = (decodedRecorder block).ready; plan = (decodedRecorder block).plan; run = run }
+    with_run run = record { ready = (decoded_recorder block).ready; plan = (decoded_recorder block).plan; run = run }
 
-    run-in-recorder : (run : Run) → sets block runPlace (encodedRun run) ≡ sets block recorderPlace (encodedRecorder (with_run run))
-    run-in-recorder run =
+    run_in_recorder : (run : Run) → sets block run_place (encoded_run run) ≡ sets block recorder_place (encoded_recorder (with_run run))
+    run_in_recorder run =
         sym
-        (ap (sets block recorderPlace) (recorder-kept block small long run)
-        ∙ sets-two block (bytes_at block recorderPlace (1 + planLength)) (encodedRun run) recorderPlace (1 + planLength) runPlace (bytes-length block recorderPlace (1 + planLength) (omega arith)) refl
-        ∙ ap (λ (l : List ℕ). sets l runPlace (encodedRun run)) (sets_same (1 + planLength) block recorderPlace (omega arith)))
+        (ap (sets block recorder_place) (recorder_kept_lem block small long run)
+        ∙ sets_two block (bytes_at block recorder_place (1 + plan_length)) (encoded_run run) recorder_place (1 + plan_length) run_place (bytes_length block recorder_place (1 + plan_length) (omega arith)) refl
+        ∙ ap (λ (l : List ℕ). sets l run_place (encoded_run run)) (sets_same (1 + plan_length) block recorder_place (omega arith)))
 
-    run-width : (run : Run) → length (encodedRecorder (with_run run)) ≡ recorderLength
-    unfolding encodedRun
-    run-width run =
-        ap length (recorder-kept block small long run)
-        ∙ length-append (bytes_at block recorderPlace (1 + planLength)) (encodedRun run)
-        ∙ omega (arith, bytes-length block recorderPlace (1 + planLength) (omega arith))
+    run_width : (run : Run) → length (encoded_recorder (with_run run)) ≡ recorder_length
+    unfolding encoded_run
+    run_width run =
+        ap length (recorder_kept_lem block small long run)
+        ∙ length-append (bytes_at block recorder_place (1 + plan_length)) (encoded_run run)
+        ∙ omega (arith, bytes_length block recorder_place (1 + plan_length) (omega arith))
 
-    pub run-stored : (run : Run)
-        → sets block runPlace (encodedRun run)
-        ≡ sets block scopePlace (encodedInstruments (withRecorder (decodedInstruments block) (with_run run)))
-    run-stored run = run-in-recorder run ∙ recorder-stored (with_run run) (run-width run)
+    pub run_stored : (run : Run)
+        → sets block run_place (encoded_run run)
+        ≡ sets block scope_place (encoded_instruments (with_recorder (decoded_instruments block) (with_run run)))
+    run_stored run = run_in_recorder run ∙ recorder_stored (with_run run) (run_width run)
 
     -- what is set up, behind the link as it is there
-    pub instruments-stored : (i : Instruments)
-        → sets block scopePlace (encodedInstruments i)
-        ≡ sets block 0 (encoded (record { receiver = decodedReceiver block; body = decodedBody block; instruments = i }))
-    instruments-stored i =
-        ap (λ (l : List ℕ). sets l scopePlace (encodedInstruments i))
-        (sym (ap (sets block 0) (receiver-kept block small long) ∙ sets_same receiverLength block 0 (omega arith)))
-        ∙ whole-stored (decodedReceiver block) i
+    pub instruments_stored : (i : Instruments)
+        → sets block scope_place (encoded_instruments i)
+        ≡ sets block 0 (encoded (record { receiver = decoded_receiver block; body = decoded_body block; instruments = i }))
+    instruments_stored i =
+        ap (λ (l : List ℕ). sets l scope_place (encoded_instruments i))
+        (sym (ap (sets block 0) (receiver_kept block small long) ∙ sets_same receiver_length block 0 (omega arith)))
+        ∙ whole_stored (decoded_receiver block) i
 
     -- ---- the application command, byte by byte
 
-    application-width : length (encodedApplication (decodedApplication block)) ≡ applicationLength
-    application-width = ap length (application-kept block small long) ∙ bytes-length block applicationPlace applicationLength (omega arith)
+    application_width : length (encoded_application (decoded_application block)) ≡ application_length
+    application_width = ap length (application_kept block small long) ∙ bytes_length block application_place application_length (omega arith)
 
     -- a byte of its head
-    pub head-stored : (k b : ℕ) (c : Command) → k < 3 → set (encodedApplication (decodedApplication block)) k b ≡ encodedApplication c
-        → set block (applicationPlace + k) b
-        ≡ sets block scopePlace (encodedInstruments (withApplication (decodedInstruments block) c))
-    head-stored k b c h same =
-        sym (sets-set applicationLength block applicationPlace k b (omega arith) (omega arith))
-        ∙ ap (λ (l : List ℕ). sets block applicationPlace (set l k b)) (sym (application-kept block small long))
-        ∙ ap (sets block applicationPlace) same
-        ∙ application-stored c (ap length (sym same) ∙ length-set (encodedApplication (decodedApplication block)) k b ∙ application-width)
+    pub head_stored : (k b : ℕ) (c : Command) → k < 3 → set (encoded_application (decoded_application block)) k b ≡ encoded_application c
+        → set block (application_place + k) b
+        ≡ sets block scope_place (encoded_instruments (with_application (decoded_instruments block) c))
+    head_stored k b c h same =
+        sym (sets_set application_length block application_place k b (omega arith) (omega arith))
+        ∙ ap (λ (l : List ℕ). sets block application_place (set l k b)) (sym (application_kept block small long))
+        ∙ ap (sets block application_place) same
+        ∙ application_stored c (ap length (sym same) ∙ length-set (encoded_application (decoded_application block)) k b ∙ application_width)
 
     -- a new one: its head, and its bytes in front of those that are there
-    pub command-stored : (body : List ℕ) → length body ≤ mostData
-        → sets block applicationPlace (1 ∷ length body ∷ 0 ∷ body)
-        ≡ sets block scopePlace (encodedInstruments (withApplication (decodedInstruments block) (sentCommand body (decodedApplication block))))
-    unfolding encodedApplication decodedApplication
-    command-stored body few =
+    pub command_stored : (body : List ℕ) → length body ≤ most_data
+        → sets block application_place (1 ∷ length body ∷ 0 ∷ body)
+        ≡ sets block scope_place (encoded_instruments (with_application (decoded_instruments block) (sent_command body (decoded_application block))))
+    unfolding encoded_application decoded_application
+    command_stored body few =
         let n = length body in
-        sym (behind-there block (1 ∷ n ∷ 0 ∷ body) (drop n (bytes_at block commandPlace mostData)) applicationPlace (3 + n) (commandPlace + n) (mostData - n) (omega arith) (omega arith) (omega arith) (bytes_left n few))
-        ∙ application-stored (sentCommand body (decodedApplication block))
-        (simp (length-append, length-drop) (omega (arith, few, bytes-length block commandPlace mostData (omega arith))))
+        sym (behind_there block (1 ∷ n ∷ 0 ∷ body) (drop n (bytes_at block command_place most_data)) application_place (3 + n) (command_place + n) (most_data - n) (omega arith) (omega arith) (omega arith) (bytes_left n few))
+        ∙ application_stored (sent_command body (decoded_application block))
+        (simp (length-append, length-drop) (omega (arith, few, bytes_length block command_place most_data (omega arith))))
       where
-        bytes_left : (n : ℕ) → n ≤ mostData → drop n (bytes_at block commandPlace mostData) ≡ bytes_at block (commandPlace + n) (mostData - n)
+        bytes_left : (n : ℕ) → n ≤ most_data → drop n (bytes_at block command_place most_data) ≡ bytes_at block (command_place + n) (most_data - n)
         bytes_left n small-enough =
-            let whole : mostData ≡ n + (mostData - n) = omega (arith, small-enough) in
-            ap (λ (k : ℕ). drop n (bytes_at block commandPlace k)) whole
-            ∙ ap (drop n) (sym (bytes-append block commandPlace n (mostData - n)))
-            ∙ drop_at (bytes_at block commandPlace n) (bytes_at block (commandPlace + n) (mostData - n)) n (bytes-length block commandPlace n (omega arith))
+            let whole : most_data ≡ n + (most_data - n) = omega (arith, small-enough) in
+            ap (λ (k : ℕ). drop n (bytes_at block command_place k)) whole
+            ∙ ap (drop n) (sym (bytes_append block command_place n (most_data - n)))
+            ∙ drop_at (bytes_at block command_place n) (bytes_at block (command_place + n) (most_data - n)) n (bytes_length block command_place n (omega arith))
 
     -- a result: its head, and the bytes that are there
-    pub ended-stored : (result : ℕ)
-        → sets block applicationPlace (3 ∷ 0 ∷ result ∷ [])
-        ≡ sets block scopePlace (encodedInstruments (withApplication (decodedInstruments block) (endedCommand result (decodedApplication block))))
-    unfolding encodedApplication decodedApplication
-    ended-stored result =
-        sym (behind-there block (3 ∷ 0 ∷ result ∷ []) (bytes_at block commandPlace mostData) applicationPlace 3 commandPlace mostData refl refl (omega arith) refl)
-        ∙ application-stored (endedCommand result (decodedApplication block)) (omega (arith, bytes-length block commandPlace mostData (omega arith)))
+    pub ended_stored : (result : ℕ)
+        → sets block application_place (3 ∷ 0 ∷ result ∷ [])
+        ≡ sets block scope_place (encoded_instruments (with_application (decoded_instruments block) (ended_command result (decoded_application block))))
+    unfolding encoded_application decoded_application
+    ended_stored result =
+        sym (behind_there block (3 ∷ 0 ∷ result ∷ []) (bytes_at block command_place most_data) application_place 3 command_place most_data refl refl (omega arith) refl)
+        ∙ application_stored (ended_command result (decoded_application block)) (omega (arith, bytes_length block command_place most_data (omega arith)))

@@ -1,10 +1,10 @@
 // From a block to the state that it is. Who asks has seen that the block is long enough: one question says whether it is.
 ghost use Rattle.std.specs.Prelude.{◌≡◌, true, ◌+◌, ◌≤◌, leb, length, drop};
-ghost use Rattle.document.specs.Variables.{definitionWidth, definitionIn};
-ghost use Rattle.document.specs.Recorder.{isRunning};
-ghost use Rattle.recorder_state.specs.State.{recorderOf};
-ghost use Rattle.state_block.specs.Layout.{decodedReceiver, decodedDefinitions, decodedVariables, decodedPlan, decodedRun, decodedRecorder};
-ghost use Rattle.state_block.specs.Places.{definitionsLength, variablesLength, stateLength};
+ghost use Rattle.document.specs.Variables.{definition_width, definition_in};
+ghost use Rattle.document.specs.Recorder.{is_running};
+ghost use Rattle.recorder_state.specs.State.{recorder_of};
+ghost use Rattle.state_block.specs.Layout.{decoded_receiver, decoded_definitions, decoded_variables, decoded_plan, decoded_run, decoded_recorder};
+ghost use Rattle.state_block.specs.Places.{definitions_length, variables_length, state_length};
 
 use crate::places::{
     DIVIDER, FULL, MODE, PLACE, POST_TRIGGER, READY, RECORDED, RUNNING, SAMPLES, SIGN,
@@ -14,14 +14,14 @@ use bytes_fields::{DEFINITION_WIDTH, long_at, word_at};
 use variables_list::MOST_VARIABLES;
 
 pub fn is_long_enough(block: &[u8]) -> bool
-    ensures { result ≡ leb stateLength (length block.now) }
+    ensures { result ≡ leb state_length (length block.now) }
 {
     STATE_LENGTH <= block.len()
 }
 
 pub fn receiver_in(block: &[u8]) -> line_receiver::Receiver
-    requires { stateLength ≤ length block.now }
-    ensures { result ≡ decodedReceiver block.now }
+    requires { state_length ≤ length block.now }
+    ensures { result ≡ decoded_receiver block.now }
 {
     line_receiver::Receiver {
         waiting: block[0],
@@ -34,8 +34,8 @@ pub fn receiver_in(block: &[u8]) -> line_receiver::Receiver
 }
 
 fn definition_at(block: &[u8], at: usize) -> document::Variable
-    requires { at + definitionWidth true ≤ length block.now }
-    ensures { result ≡ definitionIn true (drop at block.now) }
+    requires { at + definition_width true ≤ length block.now }
+    ensures { result ≡ definition_in true (drop at block.now) }
 {
     document::Variable {
         address: long_at(block, at + 1),
@@ -44,8 +44,8 @@ fn definition_at(block: &[u8], at: usize) -> document::Variable
 }
 
 fn definitions_at(block: &[u8], from: usize) -> [document::Variable; MOST_VARIABLES]
-    requires { from + definitionsLength ≤ length block.now }
-    ensures { result ≡ decodedDefinitions block.now from }
+    requires { from + definitions_length ≤ length block.now }
+    ensures { result ≡ decoded_definitions block.now from }
 {
     let mut list = [document::Variable {
         address: 0,
@@ -62,8 +62,8 @@ fn definitions_at(block: &[u8], from: usize) -> [document::Variable; MOST_VARIAB
 }
 
 fn variables_at(block: &[u8], at: usize) -> variables_list::Variables
-    requires { at + variablesLength ≤ length block.now }
-    ensures { result ≡ decodedVariables block.now at }
+    requires { at + variables_length ≤ length block.now }
+    ensures { result ≡ decoded_variables block.now at }
 {
     let list = definitions_at(block, at + 1);
     variables_list::Variables {
@@ -73,8 +73,8 @@ fn variables_at(block: &[u8], at: usize) -> variables_list::Variables
 }
 
 pub fn plan_in(block: &[u8]) -> recorder_plans::Plan
-    requires { stateLength ≤ length block.now }
-    ensures { result ≡ decodedPlan block.now }
+    requires { state_length ≤ length block.now }
+    ensures { result ≡ decoded_plan block.now }
 {
     let variables = variables_at(block, RECORDED);
     recorder_plans::Plan {
@@ -91,8 +91,8 @@ pub fn plan_in(block: &[u8]) -> recorder_plans::Plan
 }
 
 pub fn run_in(block: &[u8]) -> recorder_runs::Run
-    requires { stateLength ≤ length block.now }
-    ensures { result ≡ decodedRun block.now }
+    requires { state_length ≤ length block.now }
+    ensures { result ≡ decoded_run block.now }
 {
     recorder_runs::Run {
         running: block[RUNNING],
@@ -105,8 +105,8 @@ pub fn run_in(block: &[u8]) -> recorder_runs::Run
 }
 
 pub fn recorder_in(block: &[u8]) -> recorder_state::Recorder
-    requires { stateLength ≤ length block.now }
-    ensures { result ≡ decodedRecorder block.now }
+    requires { state_length ≤ length block.now }
+    ensures { result ≡ decoded_recorder block.now }
 {
     let plan = plan_in(block);
     let run = run_in(block);
@@ -119,8 +119,8 @@ pub fn recorder_in(block: &[u8]) -> recorder_state::Recorder
 
 // Whether the recorder runs, of which two bytes tell.
 pub fn recorder_runs(block: &[u8]) -> bool
-    requires { stateLength ≤ length block.now }
-    ensures { result ≡ isRunning (recorderOf (decodedRecorder block.now)) }
+    requires { state_length ≤ length block.now }
+    ensures { result ≡ is_running (recorder_of (decoded_recorder block.now)) }
 {
     if block[READY] == 0 {
         return false;

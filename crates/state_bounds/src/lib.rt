@@ -1,14 +1,14 @@
 // The bounds of a target's state, checked where it lies in its block: of the definitions only those that are set up are looked at.
 ghost use Rattle.std.specs.Prelude.{◌≡◌, true, false, ◌+◌, ◌≤◌, length, get_or, drop};
-ghost use Rattle.document.specs.Variables.{definitionsIn};
+ghost use Rattle.document.specs.Variables.{definitions_in};
 ghost use Rattle.scope_state.specs.State as scope;
 ghost use Rattle.recorder_plans.specs.Bounds as plans;
-ghost use Rattle.recorder_runs.specs.Bounds.{runSound};
+ghost use Rattle.recorder_runs.specs.Bounds.{run_sound};
 ghost use Rattle.recorder_state.specs.Bounds as recorder;
 ghost use Rattle.state_parts.specs.Bounds as state;
 ghost use Rattle.application_state.specs.State as application;
-ghost use Rattle.state_block.specs.Layout.{decoded, decodedScope, decodedPlan, decodedRun, decodedRecorder, decodedApplication};
-ghost use Rattle.state_block.specs.Places.{definitionsLength, triggerSizePlace, stateLength};
+ghost use Rattle.state_block.specs.Layout.{decoded, decoded_scope, decoded_plan, decoded_run, decoded_recorder, decoded_application};
+ghost use Rattle.state_block.specs.Places.{definitions_length, trigger_size_place, state_length};
 ghost use Rattle.state_bounds.specs.Measured.{measured};
 
 use application_state::{ENDED, MOST_RESULT, WAITING};
@@ -40,8 +40,8 @@ fn outside() -> Measured
 }
 
 fn measure(block: &[u8], from: usize, count: usize, limit: usize) -> Measured
-    requires { (count ≤ 8) × (from + definitionsLength ≤ length block.now) }
-    ensures { (result ≡ measured limit (definitionsIn true count (drop from block.now))) × (result.size ≤ 2040) }
+    requires { (count ≤ 8) × (from + definitions_length ≤ length block.now) }
+    ensures { (result ≡ measured limit (definitions_in true count (drop from block.now))) × (result.size ≤ 2040) }
 {
     let mut at = from;
     let mut left = count;
@@ -62,8 +62,8 @@ fn measure(block: &[u8], from: usize, count: usize, limit: usize) -> Measured
 }
 
 fn is_scope_sound(block: &[u8]) -> bool
-    requires { stateLength ≤ length block.now }
-    ensures { result ≡ scope.sound (decodedScope block.now) }
+    requires { state_length ≤ length block.now }
+    ensures { result ≡ scope.sound (decoded_scope block.now) }
 {
     let count = usize_of_u8(block[SCOPE]);
     if count > MOST_VARIABLES {
@@ -74,8 +74,8 @@ fn is_scope_sound(block: &[u8]) -> bool
 
 // The recorded variables, and that so many sets of them go into the buffer.
 fn are_recorded_sound(block: &[u8]) -> bool
-    requires { stateLength ≤ length block.now }
-    ensures { result ≡ plans.variablesSound (decodedPlan block.now).samples (decodedPlan block.now).variables }
+    requires { state_length ≤ length block.now }
+    ensures { result ≡ plans.variables_sound (decoded_plan block.now).samples (decoded_plan block.now).variables }
 {
     let count = usize_of_u8(block[RECORDED]);
     if count == 0 {
@@ -92,8 +92,8 @@ fn are_recorded_sound(block: &[u8]) -> bool
 }
 
 fn is_plan_sound(block: &[u8]) -> bool
-    requires { stateLength ≤ length block.now }
-    ensures { result ≡ plans.planSound (decodedPlan block.now) }
+    requires { state_length ≤ length block.now }
+    ensures { result ≡ plans.plan_sound (decoded_plan block.now) }
 {
     if word_at(block, SAMPLES) == 0 {
         return false;
@@ -111,8 +111,8 @@ fn is_plan_sound(block: &[u8]) -> bool
 }
 
 fn is_run_sound(block: &[u8]) -> bool
-    requires { (stateLength ≤ length block.now) × (get_or block.now triggerSizePlace 0 ≤ 4) }
-    ensures { result ≡ runSound (decodedPlan block.now) (decodedRun block.now) }
+    requires { (state_length ≤ length block.now) × (get_or block.now trigger_size_place 0 ≤ 4) }
+    ensures { result ≡ run_sound (decoded_plan block.now) (decoded_run block.now) }
 {
     run_in(block).is_sound(
         word_at(block, SAMPLES),
@@ -124,8 +124,8 @@ fn is_run_sound(block: &[u8]) -> bool
 
 // While nothing is set up, nothing else is looked at.
 fn is_recorder_sound(block: &[u8]) -> bool
-    requires { stateLength ≤ length block.now }
-    ensures { result ≡ recorder.sound (decodedRecorder block.now) }
+    requires { state_length ≤ length block.now }
+    ensures { result ≡ recorder.sound (decoded_recorder block.now) }
 {
     let ready = block[READY];
     if ready == 0 {
@@ -142,8 +142,8 @@ fn is_recorder_sound(block: &[u8]) -> bool
 
 // What a phase does not look at may be anything.
 fn is_application_sound(block: &[u8]) -> bool
-    requires { stateLength ≤ length block.now }
-    ensures { result ≡ application.sound (decodedApplication block.now) }
+    requires { state_length ≤ length block.now }
+    ensures { result ≡ application.sound (decoded_application block.now) }
 {
     let phase = block[APPLICATION];
     if phase == WAITING {
@@ -158,7 +158,7 @@ fn is_application_sound(block: &[u8]) -> bool
 
 // Whether every part of the state is within its bounds.
 pub fn is_sound(block: &[u8]) -> bool
-    requires { stateLength ≤ length block.now }
+    requires { state_length ≤ length block.now }
     ensures { result ≡ state.sound (decoded block.now) }
 {
     let receiver = receiver_in(block);

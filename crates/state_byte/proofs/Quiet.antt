@@ -8,19 +8,19 @@ use native.Mathlib.Omega.{arith}
 use borrow.Author.Tests.{eq-eqb, ne_eqb, lt-ltb}
 use lib.ListN.{length, drop, set}
 use lib.Seq.{sets}
-use Rattle.document.specs.Numbers.{answerRoom}
+use Rattle.document.specs.Numbers.{answer_room}
 use Rattle.document.specs.Sum.{total}
 use Rattle.line_receiver.specs.declared.Receiver.{Receiver}
 use Rattle.line_receiver.specs.declared.Reaction.{Reaction}
 use Rattle.line_receiver.specs.declared.Event.TheVariants.{Nothing, Keep}
-use Rattle.line_receiver.specs.Bounds.{idle, dataNext}
-use Rattle.line_receiver.specs.Step.{added, stepped, afterByte, byteEvent}
+use Rattle.line_receiver.specs.Bounds.{idle, data_next}
+use Rattle.line_receiver.specs.Step.{added, stepped, after_byte, byte_event}
 use Rattle.state_parts.specs.State.{Target}
-use Rattle.state_byte.specs.Turn.{silent, keeping, withReceiver, turn}
-use Rattle.state_byte.specs.Walk.{Walk, byteTurn, room, walked}
-use Rattle.state_byte.specs.Quiet.{passedReceiver, passedTarget}
-use Rattle.state_byte.proofs.TurnLaws.{by-event}
-use Rattle.state_byte.proofs.Walks.{walked_on, heardOnly, silent-onward}
+use Rattle.state_byte.specs.Turn.{silent, keeping, with_receiver, turn}
+use Rattle.state_byte.specs.Walk.{Walk, byte_turn, room, walked}
+use Rattle.state_byte.specs.Quiet.{passed_receiver, passed_target}
+use Rattle.state_byte.proofs.TurnLaws.{by_event}
+use Rattle.state_byte.proofs.Walks.{walked_on, heard_only, silent_onward}
 
 -- no byte of these is a 0x2B
 abbrev pub NoPlus : List ℕ → Type 0
@@ -30,26 +30,26 @@ NoPlus (b ∷ bs) = (b ≡ 0x2B → ⊥) × NoPlus bs
 -- ---- outside a message
 
 module _ (r : Receiver) (calm : r.waiting ≡ 0) (outside : r.phase ≡ idle) where
-  idle-step : (b : ℕ) → (b ≡ 0x2B → ⊥) → stepped r b ≡ record { next = r; event = Nothing }
-  unfolding stepped afterByte byteEvent
-  idle-step b other = rw (ne_eqb b 0x2B other, calm, outside) refl
+  idle_step : (b : ℕ) → (b ≡ 0x2B → ⊥) → stepped r b ≡ record { next = r; event = Nothing }
+  unfolding stepped after_byte byte_event
+  idle_step b other = rw (ne_eqb b 0x2B other, calm, outside) refl
 
-module _ (w : Walk) (long : answerRoom ≤ room w) (calm : w.next.receiver.waiting ≡ 0) (outside : w.next.receiver.phase ≡ idle) where
-  idle-byte : (b : ℕ) → (b ≡ 0x2B → ⊥) → byteTurn w b ≡ silent w.next w.memory (drop w.written w.buffer)
-  idle-byte b other =
-      let step = idle-step w.next.receiver calm outside b other in
-      by-event w.next b w.memory (drop w.written w.buffer) Nothing (ap (λ (s : Reaction). s.event) step)
-      ∙ (λ i. silent (withReceiver w.next (step i).next) w.memory (drop w.written w.buffer))
+module _ (w : Walk) (long : answer_room ≤ room w) (calm : w.next.receiver.waiting ≡ 0) (outside : w.next.receiver.phase ≡ idle) where
+  idle_byte : (b : ℕ) → (b ≡ 0x2B → ⊥) → byte_turn w b ≡ silent w.next w.memory (drop w.written w.buffer)
+  idle_byte b other =
+      let step = idle_step w.next.receiver calm outside b other in
+      by_event w.next b w.memory (drop w.written w.buffer) Nothing (ap (λ (s : Reaction). s.event) step)
+      ∙ (λ i. silent (with_receiver w.next (step i).next) w.memory (drop w.written w.buffer))
 
 -- a run of literals outside a message
-pub idle-passed : (bs rest : List ℕ) (w : Walk) → answerRoom ≤ room w → w.next.receiver.waiting ≡ 0 → w.next.receiver.phase ≡ idle → NoPlus bs
-    → walked w (bs ++ rest) ≡ walked (heardOnly w (length bs) w.next) rest
-idle-passed [] rest w long calm outside none =
+pub idle_passed : (bs rest : List ℕ) (w : Walk) → answer_room ≤ room w → w.next.receiver.waiting ≡ 0 → w.next.receiver.phase ≡ idle → NoPlus bs
+    → walked w (bs ++ rest) ≡ walked (heard_only w (length bs) w.next) rest
+idle_passed [] rest w long calm outside none =
     λ i. walked (record { taken = sym (add-zero w.taken) i; written = w.written; next = w.next; memory = w.memory; buffer = w.buffer }) rest
-idle-passed (b ∷ bs) rest w long calm outside none =
-    walked_on w b (bs ++ rest) long _ (idle-byte w long calm outside b none.0)
-    ∙ (λ i. walked (silent-onward w w.next i) (bs ++ rest))
-    ∙ idle-passed bs rest (heardOnly w 1 w.next) long calm outside none.1
+idle_passed (b ∷ bs) rest w long calm outside none =
+    walked_on w b (bs ++ rest) long _ (idle_byte w long calm outside b none.0)
+    ∙ (λ i. walked (silent_onward w w.next i) (bs ++ rest))
+    ∙ idle_passed bs rest (heard_only w 1 w.next) long calm outside none.1
     ∙ (λ i. walked (record { taken = counted i; written = w.written; next = w.next; memory = w.memory; buffer = w.buffer }) rest)
   where
     counted : w.taken + 1 + length bs ≡ w.taken + suc (length bs)
@@ -57,33 +57,33 @@ idle-passed (b ∷ bs) rest w long calm outside none =
 
 -- ---- inside a message's data
 
-module _ (r : Receiver) (calm : r.waiting ≡ 0) (inside : r.phase ≡ dataNext) (b : ℕ) (other : b ≡ 0x2B → ⊥) (more : r.have + 1 < r.length) (kept : r.have < 64) where
-  data-step : stepped r b ≡ record { next = passedReceiver r (b ∷ []); event = Keep r.have b }
-  unfolding stepped afterByte byteEvent
-  data-step =
+module _ (r : Receiver) (calm : r.waiting ≡ 0) (inside : r.phase ≡ data_next) (b : ℕ) (other : b ≡ 0x2B → ⊥) (more : r.have + 1 < r.length) (kept : r.have < 64) where
+  data_step : stepped r b ≡ record { next = passed_receiver r (b ∷ []); event = Keep r.have b }
+  unfolding stepped after_byte byte_event
+  data_step =
       let first : r.have < r.length = omega (arith, more) in
       rw (ne_eqb b 0x2B other, calm, inside, lt-ltb r.have r.length first, lt-ltb (r.have + 1) r.length more, lt-ltb r.have 64 kept)
-      (λ i. record { next = record { waiting = 0; phase = dataNext; command = r.command; length = r.length; have = r.have + 1; sum = summed i }; event = Keep r.have b })
+      (λ i. record { next = record { waiting = 0; phase = data_next; command = r.command; length = r.length; have = r.have + 1; sum = summed i }; event = Keep r.have b })
     where
       summed : (r.sum + b) % 256 ≡ (r.sum + total (b ∷ [])) % 256
       summed = omega arith
 
-data-byte : (w : Walk) → w.next.receiver.waiting ≡ 0 → w.next.receiver.phase ≡ dataNext → (b : ℕ) → (b ≡ 0x2B → ⊥)
+data_byte : (w : Walk) → w.next.receiver.waiting ≡ 0 → w.next.receiver.phase ≡ data_next → (b : ℕ) → (b ≡ 0x2B → ⊥)
     → w.next.receiver.have + 1 < w.next.receiver.length → w.next.receiver.have < 64
-    → byteTurn w b ≡ silent (passedTarget w.next (b ∷ [])) w.memory (drop w.written w.buffer)
-data-byte w calm inside b other more kept =
-    let step = data-step w.next.receiver calm inside b other more kept in
-    by-event w.next b w.memory (drop w.written w.buffer) (Keep w.next.receiver.have b) (ap (λ (s : Reaction). s.event) step)
-    ∙ (λ i. silent (keeping (withReceiver w.next (step i).next) w.next.receiver.have b) w.memory (drop w.written w.buffer))
+    → byte_turn w b ≡ silent (passed_target w.next (b ∷ [])) w.memory (drop w.written w.buffer)
+data_byte w calm inside b other more kept =
+    let step = data_step w.next.receiver calm inside b other more kept in
+    by_event w.next b w.memory (drop w.written w.buffer) (Keep w.next.receiver.have b) (ap (λ (s : Reaction). s.event) step)
+    ∙ (λ i. silent (keeping (with_receiver w.next (step i).next) w.next.receiver.have b) w.memory (drop w.written w.buffer))
 
 -- one byte, then those behind it
-passed-again : (t : Target) (b : ℕ) (bs : List ℕ) → passedTarget (passedTarget t (b ∷ [])) bs ≡ passedTarget t (b ∷ bs)
-passed-again t b bs i =
+passed_again : (t : Target) (b : ℕ) (bs : List ℕ) → passed_target (passed_target t (b ∷ [])) bs ≡ passed_target t (b ∷ bs)
+passed_again t b bs i =
     record {
       receiver =
           record {
             waiting = 0;
-            phase = dataNext;
+            phase = data_next;
             command = t.receiver.command;
             length = t.receiver.length;
             have = placed i;
@@ -100,10 +100,10 @@ passed-again t b bs i =
     summed = omega arith
 
 -- a run of data bytes, none of which is the last that is kept
-pub data-passed : (bs rest : List ℕ) (w : Walk) → answerRoom ≤ room w → w.next.receiver.waiting ≡ 0 → w.next.receiver.phase ≡ dataNext
+pub data_passed : (bs rest : List ℕ) (w : Walk) → answer_room ≤ room w → w.next.receiver.waiting ≡ 0 → w.next.receiver.phase ≡ data_next
     → w.next.receiver.sum < 256 → NoPlus bs → w.next.receiver.have + length bs < w.next.receiver.length → w.next.receiver.have + length bs ≤ 63
-    → walked w (bs ++ rest) ≡ walked (heardOnly w (length bs) (passedTarget w.next bs)) rest
-data-passed [] rest w long calm inside small none more kept =
+    → walked w (bs ++ rest) ≡ walked (heard_only w (length bs) (passed_target w.next bs)) rest
+data_passed [] rest w long calm inside small none more kept =
     let t = w.next in
     let sum : t.receiver.sum ≡ (t.receiver.sum + 0) % 256 = omega (arith, small) in
     λ i. walked
@@ -128,11 +128,11 @@ data-passed [] rest w long calm inside small none more kept =
       buffer = w.buffer;
     })
     rest
-data-passed (b ∷ bs) rest w long calm inside small none more kept =
-    walked_on w b (bs ++ rest) long _ (data-byte w calm inside b none.0 (omega (arith, more)) (omega (arith, kept)))
-    ∙ (λ i. walked (silent-onward w (passedTarget w.next (b ∷ [])) i) (bs ++ rest))
-    ∙ data-passed bs rest (heardOnly w 1 (passedTarget w.next (b ∷ []))) long refl refl (omega arith) none.1 (omega (arith, more)) (omega (arith, kept))
-    ∙ (λ i. walked (record { taken = counted i; written = w.written; next = passed-again w.next b bs i; memory = w.memory; buffer = w.buffer }) rest)
+data_passed (b ∷ bs) rest w long calm inside small none more kept =
+    walked_on w b (bs ++ rest) long _ (data_byte w calm inside b none.0 (omega (arith, more)) (omega (arith, kept)))
+    ∙ (λ i. walked (silent_onward w (passed_target w.next (b ∷ [])) i) (bs ++ rest))
+    ∙ data_passed bs rest (heard_only w 1 (passed_target w.next (b ∷ []))) long refl refl (omega arith) none.1 (omega (arith, more)) (omega (arith, kept))
+    ∙ (λ i. walked (record { taken = counted i; written = w.written; next = passed_again w.next b bs i; memory = w.memory; buffer = w.buffer }) rest)
   where
     counted : w.taken + 1 + length bs ≡ w.taken + suc (length bs)
     counted = omega arith

@@ -3,26 +3,26 @@ use Rattle.std.specs.Prelude.{cond, not, List, [], ◌∷◌, ℕ, zero, suc, �
 use Rattle.std.proofs.lemmas.List.Edits.{sets}
 use Rattle.document.specs.Sum.{total}
 use Rattle.line_receiver.specs.declared.Receiver.{Receiver}
-use Rattle.line_receiver.specs.Bounds.{idle, dataNext}
+use Rattle.line_receiver.specs.Bounds.{idle, data_next}
 use Rattle.state_parts.specs.State.{Target}
 
 -- ---- what a run of data leaves
 
-abbrev pub passedReceiver : Receiver → List ℕ → Receiver
-passedReceiver r bs =
+abbrev pub passed_receiver : Receiver → List ℕ → Receiver
+passed_receiver r bs =
     record {
       waiting = 0;
-      phase = dataNext;
+      phase = data_next;
       command = r.command;
       length = r.length;
       have = r.have + length bs;
       sum = (r.sum + total bs) % 256;
     }
 
-abbrev pub passedTarget : Target → List ℕ → Target
-passedTarget t bs =
+abbrev pub passed_target : Target → List ℕ → Target
+passed_target t bs =
     record {
-      receiver = passedReceiver t.receiver bs;
+      receiver = passed_receiver t.receiver bs;
       body = sets t.body t.receiver.have bs;
       instruments = t.instruments;
     }
@@ -30,26 +30,26 @@ passedTarget t bs =
 -- ---- how long a run is
 
 -- how many of the first n bytes come before a 0x2B
-abbrev pub plainAhead : ℕ → List ℕ → ℕ
-plainAhead zero bs = 0
-plainAhead (suc n) [] = 0
-plainAhead (suc n) (b ∷ bs) = cond (eqb b 0x2B) 0 (suc (plainAhead n bs))
+abbrev pub plain_ahead : ℕ → List ℕ → ℕ
+plain_ahead zero bs = 0
+plain_ahead (suc n) [] = 0
+plain_ahead (suc n) (b ∷ bs) = cond (eqb b 0x2B) 0 (suc (plain_ahead n bs))
 
 -- "A data part holds at most 64 bytes"
-abbrev pub lastKept : ℕ → ℕ
-lastKept n = cond (ltb 64 n) 64 n
+abbrev pub last_kept : ℕ → ℕ
+last_kept n = cond (ltb 64 n) 64 n
 
 -- before the last that is kept
-abbrev pub dataAhead : Receiver → ℕ
-dataAhead r = lastKept r.length - r.have - 1
+abbrev pub data_ahead : Receiver → ℕ
+data_ahead r = last_kept r.length - r.have - 1
 
 -- of these bytes so many are passed over, and this is what they leave
-unfoldable pub passedOver : Target → List ℕ → ℕ
-passedOver t bs =
+unfoldable pub passed_over : Target → List ℕ → ℕ
+passed_over t bs =
     cond (not (eqb t.receiver.waiting 0)) 0
-    (cond (eqb t.receiver.phase idle) (plainAhead (length bs) bs)
-    (cond (eqb t.receiver.phase dataNext) (plainAhead (dataAhead t.receiver) bs) 0))
+    (cond (eqb t.receiver.phase idle) (plain_ahead (length bs) bs)
+    (cond (eqb t.receiver.phase data_next) (plain_ahead (data_ahead t.receiver) bs) 0))
 
 unfoldable pub passed_by : Target → List ℕ → Target
 passed_by t bs =
-    cond (eqb (passedOver t bs) 0) t (cond (eqb t.receiver.phase dataNext) (passedTarget t (take (passedOver t bs) bs)) t)
+    cond (eqb (passed_over t bs) 0) t (cond (eqb t.receiver.phase data_next) (passed_target t (take (passed_over t bs) bs)) t)

@@ -1,6 +1,6 @@
 -- A block of bytes (2026-05): each is taken as it would be singly, and the answers stand one behind another in the lent buffer.
 use Rattle.std.specs.Prelude.{cond, List, [], ◌∷◌, ◌++◌, ℕ, ◌+◌, ◌-◌, ltb, length, take, drop}
-use Rattle.document.specs.Numbers.{answerRoom}
+use Rattle.document.specs.Numbers.{answer_room}
 use Rattle.state_parts.specs.State.{Target}
 use Rattle.state_byte.specs.Turn.{Turn, turn}
 
@@ -16,8 +16,8 @@ abbrev pub begun : Target → List ℕ → List ℕ → Walk
 begun t memory buffer = record { taken = 0; written = 0; next = t; memory = memory; buffer = buffer }
 
 -- a byte, singly: it is lent what is left of the buffer
-abbrev pub byteTurn : Walk → ℕ → Turn
-byteTurn w b = turn w.next b w.memory (drop w.written w.buffer)
+abbrev pub byte_turn : Walk → ℕ → Turn
+byte_turn w b = turn w.next b w.memory (drop w.written w.buffer)
 
 abbrev pub onward : Walk → Turn → Walk
 onward w u =
@@ -35,4 +35,4 @@ room w = length w.buffer - w.written
 -- "It takes bytes while 132 bytes of room are left, and no longer"
 unfoldable pub walked : Walk → List ℕ → Walk
 walked w [] = w
-walked w (b ∷ bs) = cond (ltb (room w) answerRoom) w (walked (onward w (byteTurn w b)) bs)
+walked w (b ∷ bs) = cond (ltb (room w) answer_room) w (walked (onward w (byte_turn w b)) bs)

@@ -2,13 +2,13 @@
 ghost use Rattle.std.specs.Prelude.{◌≡◌, true, false, ◌+◌, ◌*◌, ◌≤◌, length, drop};
 ghost use Rattle.std.proofs.lemmas.List.Edits.{sets};
 ghost use Rattle.document.specs.Numbers.{done};
-ghost use Rattle.document.specs.Variables.{definitionWidth, definitionsIn, countIn, variablesIn, lengthGiven};
+ghost use Rattle.document.specs.Variables.{definition_width, definitions_in, count_in, variables_in, length_given};
 ghost use Rattle.variables_list.specs.State.{kept};
-ghost use Rattle.recorder_setups.specs.Setup.{bodyStatus};
-ghost use Rattle.recorder_state.specs.Preparing.{preparedState};
-ghost use Rattle.state_block.specs.Layout.{encodedDefinitions, encodedVariables};
-ghost use Rattle.state_block.specs.Changes.{blockWithRecorder};
-ghost use Rattle.state_block.specs.Places.{variablesLength, stateLength};
+ghost use Rattle.recorder_setups.specs.Setup.{body_status};
+ghost use Rattle.recorder_state.specs.Preparing.{prepared_state};
+ghost use Rattle.state_block.specs.Layout.{encoded_definitions, encoded_variables};
+ghost use Rattle.state_block.specs.Changes.{block_with_recorder};
+ghost use Rattle.state_block.specs.Places.{variables_length, state_length};
 
 use bytes_fields::{DEFINITION_WIDTH, put_definition};
 use bytes_widths::usize_of_u8;
@@ -19,8 +19,8 @@ use state_setups::{complete_definitions, prepare_run, store_numbers};
 use variables_definitions::address_width;
 
 fn give_definitions(block: &mut [u8], at: usize, part: &[u8], n: usize)
-    requires { (1 + n * definitionWidth false ≤ length part.now) × (at + n * definitionWidth true ≤ length block.old) }
-    ensures { block.new ≡ sets block.old at (encodedDefinitions (definitionsIn false n (drop 1 part.now))) }
+    requires { (1 + n * definition_width false ≤ length part.now) × (at + n * definition_width true ≤ length block.old) }
+    ensures { block.new ≡ sets block.old at (encoded_definitions (definitions_in false n (drop 1 part.now))) }
 {
     let width = address_width(false);
     let mut read = 1;
@@ -38,8 +38,8 @@ fn give_definitions(block: &mut [u8], at: usize, part: &[u8], n: usize)
 
 // A count, and the definitions behind it.
 fn give_variables(block: &mut [u8], at: usize, part: &[u8])
-    requires { (countIn part.now ≤ 8) × (lengthGiven false part.now ≤ length part.now) × (at + variablesLength ≤ length block.old) }
-    ensures { block.new ≡ sets block.old at (encodedVariables (kept (variablesIn false part.now))) }
+    requires { (count_in part.now ≤ 8) × (length_given false part.now ≤ length part.now) × (at + variables_length ≤ length block.old) }
+    ensures { block.new ≡ sets block.old at (encoded_variables (kept (variables_in false part.now))) }
 {
     let count = part[0];
     give_definitions(block, at + 1, part, usize_of_u8(count));
@@ -47,8 +47,8 @@ fn give_variables(block: &mut [u8], at: usize, part: &[u8])
 }
 
 pub fn store_given(block: &mut [u8], setup: &[u8])
-    requires { (stateLength ≤ length block.old) × (bodyStatus false setup.now ≡ done) }
-    ensures { block.new ≡ blockWithRecorder block.old (preparedState false setup.now) }
+    requires { (state_length ≤ length block.old) × (body_status false setup.now ≡ done) }
+    ensures { block.new ≡ block_with_recorder block.old (prepared_state false setup.now) }
 {
     let plan = read_plan(false, setup);
     store_numbers(block, plan);

@@ -12,34 +12,34 @@ use Rattle.document.specs.Numbers.{done}
 use Rattle.document.specs.Areas.{bytes_at}
 use Rattle.document.specs.Values.{number}
 use Rattle.document.specs.declared.Variable.{Variable}
-use Rattle.document.specs.Variables.{addressWidth, definitionWidth, definitionsIn, countIn, variablesIn}
-use Rattle.document.specs.Plan.{modeField, triggerSizeField, triggerIn, planIn, variablesPart, recordedIn, headWidth}
-use Rattle.document.specs.Run.{started, prepared, ranTick}
+use Rattle.document.specs.Variables.{address_width, definition_width, definitions_in, count_in, variables_in}
+use Rattle.document.specs.Plan.{mode_field, trigger_size_field, trigger_in, plan_in, variables_part, recorded_in, head_width}
+use Rattle.document.specs.Run.{started, prepared, ran_tick}
 use Rattle.document.proofs.Cases.{split}
 use Rattle.memory_ranges.proofs.Widths.{four_bytes}
-use Rattle.variables_list.specs.State.{noVariables, kept}
+use Rattle.variables_list.specs.State.{no_variables, kept}
 use Rattle.scope_state.specs.declared.Scope.{Scope}
 use Rattle.scope_state.specs.Setup as scope
-use Rattle.scope_state.proofs.Accepted.{next-taken, next-refused}
+use Rattle.scope_state.proofs.Accepted.{next_taken, next_refused}
 use Rattle.recorder_plans.specs.declared.plan.Plan.{Plan as PlanState}
-use Rattle.recorder_plans.specs.State.{planKept, plan_of}
-use Rattle.recorder_plans.specs.Bounds.{planSound}
-use Rattle.recorder_plans.proofs.Granted.{plan-bounds}
+use Rattle.recorder_plans.specs.State.{plan_kept, plan_of}
+use Rattle.recorder_plans.specs.Bounds.{plan_sound}
+use Rattle.recorder_plans.proofs.Granted.{plan_bounds}
 use Rattle.recorder_runs.specs.declared.run.Run.{Run as RunState}
 use Rattle.recorder_state.specs.declared.state.Recorder.{Recorder as RecorderState}
-use Rattle.recorder_runs.specs.State.{run_of, runKept, haltedRun}
-use Rattle.recorder_state.specs.State.{recorderOf, with_run, noRecorder}
-use Rattle.recorder_runs.specs.Bounds.{runSound}
+use Rattle.recorder_runs.specs.State.{run_of, run_kept, halted_run}
+use Rattle.recorder_state.specs.State.{recorder_of, with_run, no_recorder}
+use Rattle.recorder_runs.specs.Bounds.{run_sound}
 use Rattle.recorder_state.specs.Bounds.{sound}
-use Rattle.recorder_state.specs.Preparing.{preparedState}
-use Rattle.recorder_state.specs.Calls.{startStatus, stopStatus, startedState, haltedState}
-use Rattle.recorder_taking.specs.Tick.{tickedState}
-use Rattle.recorder_runs.proofs.Granted.{run-bounds, previous-fits, left-fits-post}
-use Rattle.recorder_runs.proofs.Kept.{by-watch}
-use Rattle.recorder_state.proofs.Keeps.{sound-parts}
+use Rattle.recorder_state.specs.Preparing.{prepared_state}
+use Rattle.recorder_state.specs.Calls.{start_status, stop_status, started_state, halted_state}
+use Rattle.recorder_taking.specs.Tick.{ticked_state}
+use Rattle.recorder_runs.proofs.Granted.{run_bounds, previous_fits, left_fits_post}
+use Rattle.recorder_runs.proofs.Kept.{by_watch}
+use Rattle.recorder_state.proofs.Keeps.{sound_parts}
 use Rattle.document.specs.Bytes.{AllBytes}
 use Rattle.state_parts.specs.Widths.{VariablesFit, PlanFits, RunFits, RecorderFits}
-use Rattle.state_parts.proofs.ByteLaws.{take_short, all_take, all_drop, all-range, number-below-256}
+use Rattle.state_parts.proofs.ByteLaws.{take_short, all_take, all_drop, all_range, number_below_256}
 
 -- ---- definitions whose addresses fit
 abbrev AllFit : List Variable → Type 0
@@ -51,132 +51,132 @@ fit_at [] all i = omega arith
 fit_at (v ∷ vs) all zero = all.0
 fit_at (v ∷ vs) all (suc i) = fit_at vs all.1 i
 
-fit-set : (vs : List Variable) (i : ℕ) (v : Variable) → AllFit vs → v.address < 256 ^ 4 → AllFit (set vs i v)
-fit-set [] i v all h = tt
-fit-set (w ∷ vs) zero v all h = (h, all.1)
-fit-set (w ∷ vs) (suc i) v all h = (all.0, fit-set vs i v all.1 h)
+fit_set : (vs : List Variable) (i : ℕ) (v : Variable) → AllFit vs → v.address < 256 ^ 4 → AllFit (set vs i v)
+fit_set [] i v all h = tt
+fit_set (w ∷ vs) zero v all h = (h, all.1)
+fit_set (w ∷ vs) (suc i) v all h = (all.0, fit_set vs i v all.1 h)
 
-fit-sets : (ws vs : List Variable) (i : ℕ) → AllFit vs → AllFit ws → AllFit (sets vs i ws)
-fit-sets [] vs i p q = p
-fit-sets (w ∷ ws) vs i p q = fit-sets ws (set vs i w) (suc i) (fit-set vs i w p q.0) q.1
+fit_sets : (ws vs : List Variable) (i : ℕ) → AllFit vs → AllFit ws → AllFit (sets vs i ws)
+fit_sets [] vs i p q = p
+fit_sets (w ∷ ws) vs i p q = fit_sets ws (set vs i w) (suc i) (fit_set vs i w p q.0) q.1
 
-pub range-below : (body : List ℕ) (at n : ℕ) → AllBytes body → number (bytes_at body at n) < 256 ^ n
-range-below body at n all = number-below-256 (bytes_at body at n) n (all-range body at n all) (take_short n (drop at body))
+pub range_below : (body : List ℕ) (at n : ℕ) → AllBytes body → number (bytes_at body at n) < 256 ^ n
+range_below body at n all = number_below_256 (bytes_at body at n) n (all_range body at n all) (take_short n (drop at body))
 
-address_below : (ex : Bool) (body : List ℕ) (at : ℕ) → AllBytes body → number (bytes_at body at (addressWidth ex)) < 256 ^ 4
-address_below true body at all = range-below body at 4 all
-address_below false body at all = omega (arith, range-below body at 2 all)
+address_below : (ex : Bool) (body : List ℕ) (at : ℕ) → AllBytes body → number (bytes_at body at (address_width ex)) < 256 ^ 4
+address_below true body at all = range_below body at 4 all
+address_below false body at all = omega (arith, range_below body at 2 all)
 
-definitions-fit : (ex : Bool) (n : ℕ) (part : List ℕ) → AllBytes part → AllFit (definitionsIn ex n part)
-definitions-fit ex zero part all = tt
-definitions-fit ex (suc n) part all =
-    (address_below ex part 1 all, definitions-fit ex n (drop (definitionWidth ex) part) (all_drop (definitionWidth ex) part all))
+definitions_fit : (ex : Bool) (n : ℕ) (part : List ℕ) → AllBytes part → AllFit (definitions_in ex n part)
+definitions_fit ex zero part all = tt
+definitions_fit ex (suc n) part all =
+    (address_below ex part 1 all, definitions_fit ex n (drop (definition_width ex) part) (all_drop (definition_width ex) part all))
 
-pub kept-fit : (vs : List Variable) → AllFit vs → VariablesFit (kept vs)
-kept-fit vs all =
+pub kept_fit : (vs : List Variable) → AllFit vs → VariablesFit (kept vs)
+kept_fit vs all =
     record {
-      eight = length-sets noVariables 0 vs;
-      addresses = fit_at (sets noVariables 0 vs) (fit-sets vs noVariables 0 none all);
+      eight = length-sets no_variables 0 vs;
+      addresses = fit_at (sets no_variables 0 vs) (fit_sets vs no_variables 0 none all);
     }
   where
-    none : AllFit noVariables
+    none : AllFit no_variables
     none = (omega arith, (omega arith, (omega arith, (omega arith, (omega arith, (omega arith, (omega arith, (omega arith, tt))))))))
 
 -- ---- a setup's plan
-trigger-fit : (ex : Bool) (body : List ℕ) → AllBytes body
-    → ((triggerIn ex body).address < 256 ^ 4) × ((triggerIn ex body).threshold < 256 ^ 4)
-trigger-fit ex body all =
-    split (eqb (modeField body) 0)
+trigger_fit : (ex : Bool) (body : List ℕ) → AllBytes body
+    → ((trigger_in ex body).address < 256 ^ 4) × ((trigger_in ex body).threshold < 256 ^ 4)
+trigger_fit ex body all =
+    split (eqb (mode_field body) 0)
     (λ none. rw none (omega arith, omega arith))
     (λ some.
-    let size : ℕ = triggerSizeField ex body in
-    let four : List ℕ = bytes_at body (9 + addressWidth ex) 4 in
+    let size : ℕ = trigger_size_field ex body in
+    let four : List ℕ = bytes_at body (9 + address_width ex) 4 in
     rw some (
       address_below ex body 7 all,
-      number-below-256 (take size four) 4 (all_take size four (all-range body (9 + addressWidth ex) 4 all)) (front-short size four (take_short 4 (drop (9 + addressWidth ex) body))),
+      number_below_256 (take size four) 4 (all_take size four (all_range body (9 + address_width ex) 4 all)) (front_short size four (take_short 4 (drop (9 + address_width ex) body))),
     ))
   where
-    front-short : (n : ℕ) (l : List ℕ) → length l ≤ 4 → length (take n l) ≤ 4
-    front-short n l h = rw length-take (omega (arith, h))
+    front_short : (n : ℕ) (l : List ℕ) → length l ≤ 4 → length (take n l) ≤ 4
+    front_short n l h = rw length-take (omega (arith, h))
 
-plan-fit : (ex : Bool) (body : List ℕ) → AllBytes body → PlanFits (planKept (planIn ex body) (kept (recordedIn ex body)))
-unfolding planIn
-plan-fit ex body all =
-    let t = trigger-fit ex body all in
+plan_fit : (ex : Bool) (body : List ℕ) → AllBytes body → PlanFits (plan_kept (plan_in ex body) (kept (recorded_in ex body)))
+unfolding plan_in
+plan_fit ex body all =
+    let t = trigger_fit ex body all in
     record {
-      samples = range-below body 1 2 all;
-      after = range-below body 3 2 all;
-      divider = range-below body 5 2 all;
+      samples = range_below body 1 2 all;
+      after = range_below body 3 2 all;
+      divider = range_below body 5 2 all;
       address = t.0;
       threshold = t.1;
       variables =
-          kept-fit (recordedIn ex body)
-          (definitions-fit ex (countIn (variablesPart ex body)) (drop 1 (variablesPart ex body))
-          (all_drop 1 (variablesPart ex body) (all_drop (headWidth ex) body all)));
+          kept_fit (recorded_in ex body)
+          (definitions_fit ex (count_in (variables_part ex body)) (drop 1 (variables_part ex body))
+          (all_drop 1 (variables_part ex body) (all_drop (head_width ex) body all)));
     }
 
 -- ---- a run within bounds
-run-fit : (p : PlanState) (r : RunState) → PlanFits p → planSound p ≡ true → runSound p r ≡ true → RunFits r
-run-fit p r fits ps rs =
-    let b = run-bounds p r rs in
-    let size : p.size ≤ 4 = (plan-bounds p ps).trigger.small in
+run_fit : (p : PlanState) (r : RunState) → PlanFits p → plan_sound p ≡ true → run_sound p r ≡ true → RunFits r
+run_fit p r fits ps rs =
+    let b = run_bounds p r rs in
+    let size : p.size ≤ 4 = (plan_bounds p ps).trigger.small in
     record {
       wait = omega (arith, b.wait, fits.divider);
       place = omega (arith, b.place, fits.samples);
       value =
-          by-watch p.size p.post_trigger r.running r.watch r.value b.watch
+          by_watch p.size p.post_trigger r.running r.watch r.value b.watch
           (λ e zero-value. omega (arith, zero-value))
-          (λ e. omega (arith, previous-fits p.size p.post_trigger r.running r.watch r.value b.watch e, four_bytes p.size size))
-          (λ n0 n1 e. omega (arith, left-fits-post p.size p.post_trigger r.running r.watch r.value b.watch n0 n1, fits.after));
+          (λ e. omega (arith, previous_fits p.size p.post_trigger r.running r.watch r.value b.watch e, four_bytes p.size size))
+          (λ n0 n1 e. omega (arith, left_fits_post p.size p.post_trigger r.running r.watch r.value b.watch n0 n1, fits.after));
     }
 
-halted-run-fit : (r : RunState) → RunFits r → RunFits (haltedRun r)
-halted-run-fit r fits = record { wait = fits.wait; place = fits.place; value = fits.value }
+halted_run_fit : (r : RunState) → RunFits r → RunFits (halted_run r)
+halted_run_fit r fits = record { wait = fits.wait; place = fits.place; value = fits.value }
 
 -- a run as a start leaves it, or a preparing
-started-run-fit : RunFits (runKept started)
-started-run-fit = record { wait = omega arith; place = omega arith; value = omega arith }
+started_run_fit : RunFits (run_kept started)
+started_run_fit = record { wait = omega arith; place = omega arith; value = omega arith }
 
-prepared-run-fit : RunFits (runKept prepared)
-prepared-run-fit = halted-run-fit (runKept started) started-run-fit
+prepared_run_fit : RunFits (run_kept prepared)
+prepared_run_fit = halted_run_fit (run_kept started) started_run_fit
 
 -- ---- what the calls of scope and recorder leave
-pub scope-fit : (s : Scope) (ex : Bool) (body : List ℕ) → AllBytes body → VariablesFit s.variables → VariablesFit (scope.setUpNext s ex body).variables
-scope-fit s ex body all fits =
-    split (eqb (scope.setUpStatus ex body) done)
-    (λ t. subst (λ (q : Scope). VariablesFit q.variables) (sym (next-taken ex body s (eqb-true _ _ t)))
-    (kept-fit (variablesIn ex body) (definitions-fit ex (countIn body) (drop 1 body) (all_drop 1 body all))))
-    (λ f. subst (λ (q : Scope). VariablesFit q.variables) (sym (next-refused ex body s (eqb-false _ _ f))) fits)
+pub scope_fit : (s : Scope) (ex : Bool) (body : List ℕ) → AllBytes body → VariablesFit s.variables → VariablesFit (scope.set_up_next s ex body).variables
+scope_fit s ex body all fits =
+    split (eqb (scope.set_up_status ex body) done)
+    (λ t. subst (λ (q : Scope). VariablesFit q.variables) (sym (next_taken ex body s (eqb-true _ _ t)))
+    (kept_fit (variables_in ex body) (definitions_fit ex (count_in body) (drop 1 body) (all_drop 1 body all))))
+    (λ f. subst (λ (q : Scope). VariablesFit q.variables) (sym (next_refused ex body s (eqb-false _ _ f))) fits)
 
-pub prepared-fit : (ex : Bool) (body : List ℕ) → AllBytes body → RecorderFits (preparedState ex body)
-prepared-fit ex body all =
-    record { plan = plan-fit ex body all; run = prepared-run-fit }
+pub prepared_fit : (ex : Bool) (body : List ℕ) → AllBytes body → RecorderFits (prepared_state ex body)
+prepared_fit ex body all =
+    record { plan = plan_fit ex body all; run = prepared_run_fit }
 
-pub started-fit : (r : RecorderState) → RecorderFits r → RecorderFits (startedState r)
-started-fit r fits =
-    split (eqb (startStatus (recorderOf r)) done)
-    (λ t. rw t (record { plan = fits.plan; run = started-run-fit }))
+pub started_fit : (r : RecorderState) → RecorderFits r → RecorderFits (started_state r)
+started_fit r fits =
+    split (eqb (start_status (recorder_of r)) done)
+    (λ t. rw t (record { plan = fits.plan; run = started_run_fit }))
     (λ f. rw f fits)
 
-pub halted-fit : (r : RecorderState) → RecorderFits r → RecorderFits (haltedState r)
-halted-fit r fits =
-    split (eqb (stopStatus (recorderOf r)) done)
-    (λ t. rw t (record { plan = fits.plan; run = halted-run-fit r.run fits.run }))
+pub halted_fit : (r : RecorderState) → RecorderFits r → RecorderFits (halted_state r)
+halted_fit r fits =
+    split (eqb (stop_status (recorder_of r)) done)
+    (λ t. rw t (record { plan = fits.plan; run = halted_run_fit r.run fits.run }))
     (λ f. rw f fits)
 
-pub ticked-fit : (r : RecorderState) (m : List ℕ) → sound (tickedState r m) ≡ true → RecorderFits r → RecorderFits (tickedState r m)
-ticked-fit r m s fits =
+pub ticked_fit : (r : RecorderState) (m : List ℕ) → sound (ticked_state r m) ≡ true → RecorderFits r → RecorderFits (ticked_state r m)
+ticked_fit r m s fits =
     split (eqb r.ready 0)
     (λ t. rw t fits)
     (λ f.
-    let next : RecorderState = with_run r (ranTick (plan_of r.plan) (run_of r.run) m) in
-    let same : tickedState r m ≡ next = ap (λ (b : Bool). cond b r next) f in
-    let parts = sound-parts next (ap sound (sym same) ∙ s) f in
+    let next : RecorderState = with_run r (ran_tick (plan_of r.plan) (run_of r.run) m) in
+    let same : ticked_state r m ≡ next = ap (λ (b : Bool). cond b r next) f in
+    let parts = sound_parts next (ap sound (sym same) ∙ s) f in
     subst (λ (q : RecorderState). RecorderFits q) (sym same)
-    (record { plan = fits.plan; run = run-fit r.plan next.run fits.plan parts.plan parts.run }))
+    (record { plan = fits.plan; run = run_fit r.plan next.run fits.plan parts.plan parts.run }))
 
-pub no-recorder-fit : RecorderFits noRecorder
-no-recorder-fit =
+pub no_recorder_fit : RecorderFits no_recorder
+no_recorder_fit =
     record {
       plan =
           record {
@@ -185,7 +185,7 @@ no-recorder-fit =
             divider = omega arith;
             address = omega arith;
             threshold = omega arith;
-            variables = kept-fit [] tt;
+            variables = kept_fit [] tt;
           };
-      run = prepared-run-fit;
+      run = prepared_run_fit;
     }

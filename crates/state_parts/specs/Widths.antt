@@ -1,11 +1,11 @@
 -- The widths of a state's numbers, and the lengths of its lists: what a block of bytes has room for.
 use Rattle.std.specs.Prelude.{◌≡◌, ℕ, ◌^◌, ◌<◌, length, get_or}
-use Rattle.document.specs.Numbers.{mostData}
+use Rattle.document.specs.Numbers.{most_data}
 use Rattle.variables_list.specs.declared.Variables.{Variables}
 use Rattle.recorder_plans.specs.declared.plan.Plan.{Plan}
 use Rattle.recorder_runs.specs.declared.run.Run.{Run}
 use Rattle.recorder_state.specs.declared.state.Recorder.{Recorder}
-use Rattle.tables_state.specs.State.{listLength}
+use Rattle.tables_state.specs.State.{list_length}
 use Rattle.state_parts.specs.State.{Target}
 
 pub record VariablesFit (v : Variables) : Type 0 where
@@ -30,8 +30,8 @@ pub record RecorderFits (r : Recorder) : Type 0 where
   pub run : RunFits r.run
 
 pub record TargetFits (t : Target) : Type 0 where
-  pub body : length t.body ≡ mostData
+  pub body : length t.body ≡ most_data
   pub scope : VariablesFit t.instruments.scope.variables
   pub recorder : RecorderFits t.instruments.recorder
-  pub application : length t.instruments.application.bytes ≡ mostData
-  pub tables : length t.instruments.tables.list ≡ listLength
+  pub application : length t.instruments.application.bytes ≡ most_data
+  pub tables : length t.instruments.tables.list ≡ list_length

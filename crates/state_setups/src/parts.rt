@@ -2,10 +2,10 @@
 // behind the last of up to eight.
 ghost use Rattle.std.specs.Prelude.{◌≡◌, true, ◌+◌, ◌-◌, ◌*◌, ◌≤◌, length, set, drop, replicate};
 ghost use Rattle.std.proofs.lemmas.List.Edits.{sets};
-ghost use Rattle.document.specs.Variables.{definitionWidth, definitionsIn, countIn, variablesIn, lengthGiven};
+ghost use Rattle.document.specs.Variables.{definition_width, definitions_in, count_in, variables_in, length_given};
 ghost use Rattle.variables_list.specs.State.{kept};
-ghost use Rattle.state_block.specs.Layout.{encodedDefinitions, encodedVariables};
-ghost use Rattle.state_block.specs.Places.{variablesLength};
+ghost use Rattle.state_block.specs.Layout.{encoded_definitions, encoded_variables};
+ghost use Rattle.state_block.specs.Places.{variables_length};
 
 use bytes_fields::{DEFINITION_WIDTH, clear, put_definition};
 use bytes_widths::usize_of_u8;
@@ -15,8 +15,8 @@ use variables_list::MOST_VARIABLES;
 
 // All that is read lies in front of all that is written.
 fn store_definitions(block: &mut [u8], at: usize, from: usize, n: usize, ex: bool)
-    requires { (from + n * definitionWidth ex ≤ at) × (at + n * definitionWidth true ≤ length block.old) }
-    ensures { block.new ≡ sets block.old at (encodedDefinitions (definitionsIn ex n (drop from block.old))) }
+    requires { (from + n * definition_width ex ≤ at) × (at + n * definition_width true ≤ length block.old) }
+    ensures { block.new ≡ sets block.old at (encoded_definitions (definitions_in ex n (drop from block.old))) }
 {
     let width = address_width(ex);
     let mut read = from;
@@ -34,8 +34,8 @@ fn store_definitions(block: &mut [u8], at: usize, from: usize, n: usize, ex: boo
 
 // The count in front of the definitions, and zeros behind them.
 pub fn complete_definitions(block: &mut [u8], at: usize, count: u8)
-    requires { (count ≤ 8) × (at + variablesLength ≤ length block.old) }
-    ensures { block.new ≡ sets (set block.old at count) (at + 1 + count * definitionWidth true) (replicate ((8 - count) * definitionWidth true) 0) }
+    requires { (count ≤ 8) × (at + variables_length ≤ length block.old) }
+    ensures { block.new ≡ sets (set block.old at count) (at + 1 + count * definition_width true) (replicate ((8 - count) * definition_width true) 0) }
 {
     let n = usize_of_u8(count);
     block[at] = count;
@@ -44,8 +44,8 @@ pub fn complete_definitions(block: &mut [u8], at: usize, count: u8)
 }
 
 pub(crate) fn store_variables(block: &mut [u8], at: usize, from: usize, ex: bool)
-    requires { (countIn (drop from block.old) ≤ 8) × (from + lengthGiven ex (drop from block.old) ≤ at) × (at + variablesLength ≤ length block.old) }
-    ensures { block.new ≡ sets block.old at (encodedVariables (kept (variablesIn ex (drop from block.old)))) }
+    requires { (count_in (drop from block.old) ≤ 8) × (from + length_given ex (drop from block.old) ≤ at) × (at + variables_length ≤ length block.old) }
+    ensures { block.new ≡ sets block.old at (encoded_variables (kept (variables_in ex (drop from block.old)))) }
 {
     let count = block[from];
     let n = usize_of_u8(count);

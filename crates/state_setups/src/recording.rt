@@ -3,12 +3,12 @@ ghost use Rattle.std.specs.Prelude.{◌≡◌, ◌≤◌, length, set};
 ghost use Rattle.std.proofs.lemmas.List.Edits.{sets};
 ghost use Rattle.document.specs.Numbers.{done};
 ghost use Rattle.document.specs.Run.{prepared};
-ghost use Rattle.recorder_setups.specs.Setup.{bodyStatus};
-ghost use Rattle.recorder_runs.specs.State.{runKept};
-ghost use Rattle.recorder_state.specs.Preparing.{preparedState};
-ghost use Rattle.state_block.specs.Layout.{dataTo, encodedNumbers, encodedRun};
-ghost use Rattle.state_block.specs.Changes.{blockWithRecorder};
-ghost use Rattle.state_block.specs.Places.{bodyPlace, scopePlace, recorderPlace, planPlace, runPlace, stateLength};
+ghost use Rattle.recorder_setups.specs.Setup.{body_status};
+ghost use Rattle.recorder_runs.specs.State.{run_kept};
+ghost use Rattle.recorder_state.specs.Preparing.{prepared_state};
+ghost use Rattle.state_block.specs.Layout.{data_to, encoded_numbers, encoded_run};
+ghost use Rattle.state_block.specs.Changes.{block_with_recorder};
+ghost use Rattle.state_block.specs.Places.{body_place, scope_place, recorder_place, plan_place, run_place, state_length};
 
 use crate::parts::store_variables;
 use recorder_plans::Plan;
@@ -17,16 +17,16 @@ use state_block::{BODY, READY, RECORDED, put_numbers, put_run, run_in};
 
 // The plan without its variables, from now on the one that is set up.
 pub fn store_numbers(block: &mut [u8], plan: Plan)
-    requires { stateLength ≤ length block.old }
-    ensures { block.new ≡ sets (set block.old recorderPlace 1) planPlace (encodedNumbers plan) }
+    requires { state_length ≤ length block.old }
+    ensures { block.new ≡ sets (set block.old recorder_place 1) plan_place (encoded_numbers plan) }
 {
     block[READY] = 1;
     put_numbers(block, plan);
 }
 
 pub fn prepare_run(block: &mut [u8])
-    requires { stateLength ≤ length block.old }
-    ensures { block.new ≡ sets block.old runPlace (encodedRun (runKept prepared)) }
+    requires { state_length ≤ length block.old }
+    ensures { block.new ≡ sets block.old run_place (encoded_run (run_kept prepared)) }
 {
     let former = run_in(block);
     let run = former.prepared();
@@ -35,8 +35,8 @@ pub fn prepare_run(block: &mut [u8])
 
 // The message's data stand in the block, up to a place.
 pub fn store_prepared(block: &mut [u8], ex: bool, to: usize)
-    requires { (stateLength ≤ length block.old) × (bodyPlace ≤ to) × (to ≤ scopePlace) × (bodyStatus ex (dataTo block.old to) ≡ done) }
-    ensures { block.new ≡ blockWithRecorder block.old (preparedState ex (dataTo block.old to)) }
+    requires { (state_length ≤ length block.old) × (body_place ≤ to) × (to ≤ scope_place) × (body_status ex (data_to block.old to) ≡ done) }
+    ensures { block.new ≡ block_with_recorder block.old (prepared_state ex (data_to block.old to)) }
 {
     let plan = read_plan(ex, &block[BODY..to]);
     let from = BODY + head_width(ex);

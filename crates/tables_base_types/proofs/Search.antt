@@ -8,27 +8,27 @@ use lib.Dec.{eqb}
 use lib.ListN.{length, get_or, drop, drop_of_length-le}
 use lib.Seq.{drop-cons}
 use borrow.Author.Tests.{eq-eqb, ne_eqb}
-use Rattle.document.specs.BaseTypes.{BaseType, baseTypes, sizeOfCode}
+use Rattle.document.specs.BaseTypes.{BaseType, base_types, size_of_code}
 
 abbrev pub codes : List ℕ
-codes = map (λ (t : BaseType). t.code) baseTypes
+codes = map (λ (t : BaseType). t.code) base_types
 
 abbrev pub sizes : List ℕ
-sizes = map (λ (t : BaseType). t.size) baseTypes
+sizes = map (λ (t : BaseType). t.size) base_types
 
 -- the size beside the first of these codes that is the one looked for, or 0
-abbrev sizeBeside : ℕ → List ℕ → List ℕ → ℕ
-sizeBeside code [] ss = 0
-sizeBeside code (c ∷ cs) [] = 0
-sizeBeside code (c ∷ cs) (s ∷ ss) = cond (eqb code c) s (sizeBeside code cs ss)
+abbrev size_beside : ℕ → List ℕ → List ℕ → ℕ
+size_beside code [] ss = 0
+size_beside code (c ∷ cs) [] = 0
+size_beside code (c ∷ cs) (s ∷ ss) = cond (eqb code c) s (size_beside code cs ss)
 
 -- what a search from row i on finds
 unfoldable pub found : ℕ → ℕ → ℕ
-found code i = sizeBeside code (drop i codes) (drop i sizes)
+found code i = size_beside code (drop i codes) (drop i sizes)
 
-pub all-rows : (code : ℕ) → found code 0 ≡ sizeOfCode code
-unfolding found sizeOfCode
-all-rows code = refl
+pub all_rows : (code : ℕ) → found code 0 ≡ size_of_code code
+unfolding found size_of_code
+all_rows code = refl
 
 pub no_row : (code i : ℕ) → length codes ≤ i → found code i ≡ 0
 unfolding found

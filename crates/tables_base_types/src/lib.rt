@@ -1,6 +1,6 @@
 // The base types: a table of their codes, and of how many bytes a value of each takes.
 ghost use Rattle.std.specs.Prelude.{◌≡◌};
-ghost use Rattle.document.specs.BaseTypes.{sizeOfCode};
+ghost use Rattle.document.specs.BaseTypes.{size_of_code};
 
 const COUNT: usize = 14;
 
@@ -12,7 +12,7 @@ const SIZES: [u8; COUNT] = [1, 1, 2, 2, 2, 2, 4, 4, 4, 4, 4, 8, 8, 8];
 
 // The size of a base type, or 0 for any other code.
 pub fn size_of(code: u8) -> u8
-    ensures { result ≡ sizeOfCode code }
+    ensures { result ≡ size_of_code code }
 {
     let mut i = 0;
     while i < COUNT {

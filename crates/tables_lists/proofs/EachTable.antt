@@ -8,50 +8,50 @@ use lib.ListN.{length, drop, length-drop}
 use lib.Seq.{drop-drop}
 use Rattle.document.specs.Areas.{bytes_at}
 use Rattle.document.specs.Values.{number}
-use Rattle.document.specs.Tables.{pairSize, tablesIn, isTableGood, areTablesGood}
+use Rattle.document.specs.Tables.{pair_size, tables_in, is_table_good, are_tables_good}
 
 -- ---- an address and a size, 2 bytes each
 
-first-pair : (bs : List ℕ) → pairSize ≤ length bs
-    → tablesIn bs ≡ record { address = number (bytes_at bs 0 2); size = number (bytes_at bs 2 2) } ∷ tablesIn (drop pairSize bs)
-first-pair [] h = let none : ⊥ = omega arith in absurd none
-first-pair (a ∷ []) h = let none : ⊥ = omega arith in absurd none
-first-pair (a ∷ b ∷ []) h = let none : ⊥ = omega arith in absurd none
-first-pair (a ∷ b ∷ c ∷ []) h = let none : ⊥ = omega arith in absurd none
-first-pair (a ∷ b ∷ c ∷ d ∷ rest) h = refl
+first_pair : (bs : List ℕ) → pair_size ≤ length bs
+    → tables_in bs ≡ record { address = number (bytes_at bs 0 2); size = number (bytes_at bs 2 2) } ∷ tables_in (drop pair_size bs)
+first_pair [] h = let none : ⊥ = omega arith in absurd none
+first_pair (a ∷ []) h = let none : ⊥ = omega arith in absurd none
+first_pair (a ∷ b ∷ []) h = let none : ⊥ = omega arith in absurd none
+first_pair (a ∷ b ∷ c ∷ []) h = let none : ⊥ = omega arith in absurd none
+first_pair (a ∷ b ∷ c ∷ d ∷ rest) h = refl
 
-no-pair : (bs : List ℕ) → length bs < pairSize → tablesIn bs ≡ []
-no-pair [] h = refl
-no-pair (a ∷ []) h = refl
-no-pair (a ∷ b ∷ []) h = refl
-no-pair (a ∷ b ∷ c ∷ []) h = refl
-no-pair (a ∷ b ∷ c ∷ d ∷ rest) h = let none : ⊥ = omega arith in absurd none
+no_pair : (bs : List ℕ) → length bs < pair_size → tables_in bs ≡ []
+no_pair [] h = refl
+no_pair (a ∷ []) h = refl
+no_pair (a ∷ b ∷ []) h = refl
+no_pair (a ∷ b ∷ c ∷ []) h = refl
+no_pair (a ∷ b ∷ c ∷ d ∷ rest) h = let none : ⊥ = omega arith in absurd none
 
 -- ---- from here on
 
 -- whether the tables from a place of the list on are good
-abbrev pub goodFrom : List ℕ → List ℕ → ℕ → Bool
-goodFrom memory list at = areTablesGood memory (tablesIn (drop at list))
+abbrev pub good_from : List ℕ → List ℕ → ℕ → Bool
+good_from memory list at = are_tables_good memory (tables_in (drop at list))
 
 module _ (memory list : List ℕ) (at : ℕ) where
-  pub none_left : length list - at < pairSize → goodFrom memory list at ≡ true
-  none_left h = ap (areTablesGood memory) (no-pair (drop at list) (rw length-drop h))
+  pub none_left : length list - at < pair_size → good_from memory list at ≡ true
+  none_left h = ap (are_tables_good memory) (no_pair (drop at list) (rw length-drop h))
 
-  module _ (more : pairSize ≤ length list - at) where
-    pair : tablesIn (drop at list)
-        ≡ record { address = number (bytes_at list at 2); size = number (bytes_at list (at + 2) 2) } ∷ tablesIn (drop (at + pairSize) list)
-    pair = first-pair (drop at list) (rw length-drop more) ∙ rw (drop-drop 2 at list, drop-drop 4 at list)
+  module _ (more : pair_size ≤ length list - at) where
+    pair : tables_in (drop at list)
+        ≡ record { address = number (bytes_at list at 2); size = number (bytes_at list (at + 2) 2) } ∷ tables_in (drop (at + pair_size) list)
+    pair = first_pair (drop at list) (rw length-drop more) ∙ rw (drop-drop 2 at list, drop-drop 4 at list)
 
     module _ (t : Bool) (address size : ℕ) (ea : address ≡ number (bytes_at list at 2)) (es : size ≡ number (bytes_at list (at + 2) 2))
-        (here : t ≡ isTableGood memory (record { address = address; size = size })) where
-      first : goodFrom memory list at ≡ t && goodFrom memory list (at + pairSize)
+        (here : t ≡ is_table_good memory (record { address = address; size = size })) where
+      first : good_from memory list at ≡ t && good_from memory list (at + pair_size)
       first =
-          ap (areTablesGood memory) pair
-          ∙ (λ i. isTableGood memory (record { address = sym ea i; size = sym es i }) && goodFrom memory list (at + pairSize))
-          ∙ (λ i. sym here i && goodFrom memory list (at + pairSize))
+          ap (are_tables_good memory) pair
+          ∙ (λ i. is_table_good memory (record { address = sym ea i; size = sym es i }) && good_from memory list (at + pair_size))
+          ∙ (λ i. sym here i && good_from memory list (at + pair_size))
 
-      pub hit : t ≡ false → goodFrom memory list at ≡ false
+      pub hit : t ≡ false → good_from memory list at ≡ false
       hit e = rw e at first
 
-      pub miss : t ≡ true → goodFrom memory list at ≡ goodFrom memory list (at + pairSize)
+      pub miss : t ≡ true → good_from memory list at ≡ good_from memory list (at + pair_size)
       miss e = rw e at first

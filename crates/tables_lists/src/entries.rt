@@ -1,7 +1,7 @@
 // The entries of a table: the type of each lies in memory, and where it is a base type, the size is its own.
 ghost use Rattle.std.specs.Prelude.{◌≡◌, ◌+◌, ◌*◌, ◌≤◌, ◌<◌, length};
-ghost use Rattle.document.specs.Areas.{memoryEnd, bytes_at};
-ghost use Rattle.document.specs.Tables.{entrySize, baseSize, isEntryGood, areEntriesGood};
+ghost use Rattle.document.specs.Areas.{memory_end, bytes_at};
+ghost use Rattle.document.specs.Tables.{entry_size, base_size, is_entry_good, are_entries_good};
 
 use bytes_fields::word_at;
 use bytes_widths::{u16_of_u8, usize_of_u16};
@@ -18,7 +18,7 @@ const INFO_PLACE: usize = 6;
 // The size of the base type whose string stands at an address, or 0: its code, and a zero behind it.
 fn base_size(memory: &[u8], address: usize) -> u16
     requires { address < length memory.now }
-    ensures { result ≡ baseSize memory.now address }
+    ensures { result ≡ base_size memory.now address }
 {
     let next = address + 1;
     if next >= memory.len() {
@@ -32,8 +32,8 @@ fn base_size(memory: &[u8], address: usize) -> u16
 
 // The entry at an address: its size is its info divided by 4, and that of its base type; another type has any size.
 fn is_entry_good(memory: &[u8], at: usize) -> bool
-    requires { (length memory.now ≡ memoryEnd) × (at + entrySize ≤ memoryEnd) }
-    ensures { result ≡ isEntryGood memory.now (bytes_at memory.now at entrySize) }
+    requires { (length memory.now ≡ memory_end) × (at + entry_size ≤ memory_end) }
+    ensures { result ≡ is_entry_good memory.now (bytes_at memory.now at entry_size) }
 {
     let type_address = usize_of_u16(word_at(memory, at + TYPE_PLACE));
     if type_address >= MEMORY_END {
@@ -48,8 +48,8 @@ fn is_entry_good(memory: &[u8], at: usize) -> bool
 
 // So many entries, one behind the other.
 pub(crate) fn are_entries_good(memory: &[u8], address: usize, count: usize) -> bool
-    requires { (length memory.now ≡ memoryEnd) × (address + count * entrySize ≤ memoryEnd) }
-    ensures { result ≡ areEntriesGood memory.now address count }
+    requires { (length memory.now ≡ memory_end) × (address + count * entry_size ≤ memory_end) }
+    ensures { result ≡ are_entries_good memory.now address count }
 {
     let mut at = address;
     let mut left = count;

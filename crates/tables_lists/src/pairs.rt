@@ -1,7 +1,7 @@
 // The list: an address and a size for each table, 2 bytes each.
 ghost use Rattle.std.specs.Prelude.{◌≡◌, length};
-ghost use Rattle.document.specs.Areas.{memoryEnd};
-ghost use Rattle.document.specs.Tables.{tablesIn, areTablesGood, isListGood};
+ghost use Rattle.document.specs.Areas.{memory_end};
+ghost use Rattle.document.specs.Tables.{tables_in, are_tables_good, is_list_good};
 
 use crate::places::is_table_good;
 use bytes_fields::word_at;
@@ -10,8 +10,8 @@ use tables_state::{LIST_LENGTH, PAIR};
 
 // Each whole pair.
 fn are_tables_good(memory: &[u8], list: &[u8]) -> bool
-    requires { length memory.now ≡ memoryEnd }
-    ensures { result ≡ areTablesGood memory.now (tablesIn list.now) }
+    requires { length memory.now ≡ memory_end }
+    ensures { result ≡ are_tables_good memory.now (tables_in list.now) }
 {
     let mut at = 0;
     while list.len() - at >= PAIR {
@@ -27,8 +27,8 @@ fn are_tables_good(memory: &[u8], list: &[u8]) -> bool
 
 // A list of any length; it is not good with more than 16 tables, nor with half a pair.
 pub fn is_list_good(memory: &[u8], list: &[u8]) -> bool
-    requires { length memory.now ≡ memoryEnd }
-    ensures { result ≡ isListGood memory.now list.now }
+    requires { length memory.now ≡ memory_end }
+    ensures { result ≡ is_list_good memory.now list.now }
 {
     if list.len() > LIST_LENGTH {
         return false;

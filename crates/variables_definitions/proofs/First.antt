@@ -3,10 +3,10 @@ use mathlib.Core.Path.{◌≡◌, refl}
 use mathlib.Core.Bool.{Bool, true, false}
 use native.Mathlib.Omega.{arith}
 use Rattle.document.specs.Numbers.{done}
-use Rattle.variables_definitions.specs.Wrong.{firstWrong}
+use Rattle.variables_definitions.specs.Wrong.{first_wrong}
 
-pub none-applies : (a b c : Bool) → firstWrong a b c ≡ done → (a ≡ false) × (b ≡ false) × (c ≡ false)
-none-applies false false false e = (refl, refl, refl)
-none-applies true b c e = let x : ⊥ = omega arith in absurd x
-none-applies false true c e = let x : ⊥ = omega arith in absurd x
-none-applies false false true e = let x : ⊥ = omega arith in absurd x
+pub none_applies : (a b c : Bool) → first_wrong a b c ≡ done → (a ≡ false) × (b ≡ false) × (c ≡ false)
+none_applies false false false e = (refl, refl, refl)
+none_applies true b c e = let x : ⊥ = omega arith in absurd x
+none_applies false true c e = let x : ⊥ = omega arith in absurd x
+none_applies false false true e = let x : ⊥ = omega arith in absurd x

@@ -1,29 +1,29 @@
 -- Reading definitions from a setup's data part.
 use Rattle.std.specs.Prelude.{Bool, cond, List, ℕ, ◌+◌, length, drop, eqb, leb}
 use Rattle.document.specs.declared.Variable.{Variable}
-use Rattle.document.specs.Variables.{definitionWidth, definitionIn, lengthGiven}
+use Rattle.document.specs.Variables.{definition_width, definition_in, length_given}
 use Rattle.variables_definitions.specs.declared.reader.Definition.{Definition}
 use Rattle.variables_definitions.specs.declared.reader.Definition.TheVariants.{Found, Short}
 use Rattle.variables_definitions.specs.declared.reader.Reader.{Reader}
 
 -- a part holds a whole definition at a place
-abbrev pub isThere : Bool → List ℕ → ℕ → Bool
-isThere ex part at = leb (at + definitionWidth ex) (length part)
+abbrev pub is_there : Bool → List ℕ → ℕ → Bool
+is_there ex part at = leb (at + definition_width ex) (length part)
 
-abbrev pub definitionAt : Bool → List ℕ → ℕ → Definition
-definitionAt ex part at = cond (isThere ex part at) (Found (definitionIn ex (drop at part))) Short
+abbrev pub definition_at : Bool → List ℕ → ℕ → Definition
+definition_at ex part at = cond (is_there ex part at) (Found (definition_in ex (drop at part))) Short
 
 -- "Each definition begins where the one before it ended."
-abbrev pub placeBehind : Bool → List ℕ → ℕ → ℕ
-placeBehind ex part at = cond (isThere ex part at) (at + definitionWidth ex) at
+abbrev pub place_behind : Bool → List ℕ → ℕ → ℕ
+place_behind ex part at = cond (is_there ex part at) (at + definition_width ex) at
 
-abbrev pub movedBehind : Bool → Reader → Reader
-movedBehind ex reader = record { part = reader.part; at = placeBehind ex reader.part.now reader.at }
+abbrev pub moved_behind : Bool → Reader → Reader
+moved_behind ex reader = record { part = reader.part; at = place_behind ex reader.part.now reader.at }
 
-abbrev pub variableOf : Definition → Variable
-variableOf (Found v) = v
-variableOf Short = record { address = 0; size = 0 }
+abbrev pub variable_of : Definition → Variable
+variable_of (Found v) = v
+variable_of Short = record { address = 0; size = 0 }
 
 -- "a data length that is not the one its fields give" is this one's negation
-abbrev pub isWhole : Bool → List ℕ → Bool
-isWhole ex part = eqb (length part) (lengthGiven ex part)
+abbrev pub is_whole : Bool → List ℕ → Bool
+is_whole ex part = eqb (length part) (length_given ex part)

@@ -1,7 +1,7 @@
 // The small reader: a data part, and the place where the next definition begins.
 ghost use Rattle.std.specs.Prelude.{◌≡◌, ◌≤◌};
-ghost use Rattle.document.specs.Variables.{addressWidth};
-ghost use Rattle.variables_definitions.specs.Parts.{isThere, definitionAt, placeBehind, movedBehind, variableOf};
+ghost use Rattle.document.specs.Variables.{address_width};
+ghost use Rattle.variables_definitions.specs.Parts.{is_there, definition_at, place_behind, moved_behind, variable_of};
 
 // What stands at a place of a part: a definition, or too few bytes.
 #[derive(Drop)]
@@ -12,13 +12,13 @@ pub enum Definition {
 
 // An address takes so many bytes, here and wherever else a message holds one.
 pub fn address_width(ex: bool) -> usize
-    ensures { (result ≡ addressWidth ex) × (result ≤ 4) }
+    ensures { (result ≡ address_width ex) × (result ≤ 4) }
 {
     if ex { 4 } else { 2 }
 }
 
 fn is_there(part: &[u8], at: usize, ex: bool) -> bool
-    ensures { result ≡ isThere ex part.now at }
+    ensures { result ≡ is_there ex part.now at }
 {
     if part.len() <= at {
         return false;
@@ -27,7 +27,7 @@ fn is_there(part: &[u8], at: usize, ex: bool) -> bool
 }
 
 fn definition_at(part: &[u8], at: usize, ex: bool) -> Definition
-    ensures { result ≡ definitionAt ex part.now at }
+    ensures { result ≡ definition_at ex part.now at }
 {
     if !is_there(part, at, ex) {
         return Definition::Short;
@@ -41,7 +41,7 @@ fn definition_at(part: &[u8], at: usize, ex: bool) -> Definition
 
 // Behind the definition at a place, or that place where there is none.
 fn place_behind(part: &[u8], at: usize, ex: bool) -> usize
-    ensures { result ≡ placeBehind ex part.now at }
+    ensures { result ≡ place_behind ex part.now at }
 {
     if !is_there(part, at, ex) {
         return at;
@@ -58,7 +58,7 @@ pub struct Reader<'a> {
 impl<'a> Reader<'a> {
     // Each definition begins where the one before it ended: the reader moves behind the one that it gives.
     pub fn next(&mut self, ex: bool) -> Definition
-        ensures { (result ≡ definitionAt ex self.old.part.now self.old.at) × (self.new ≡ movedBehind ex self.old) }
+        ensures { (result ≡ definition_at ex self.old.part.now self.old.at) × (self.new ≡ moved_behind ex self.old) }
     {
         let found = definition_at(self.part, self.at, ex);
         self.at = place_behind(self.part, self.at, ex);
@@ -68,7 +68,7 @@ impl<'a> Reader<'a> {
 
 // What was found, or where nothing was, a variable of no bytes.
 pub fn variable_of(found: Definition) -> document::Variable
-    ensures { result ≡ variableOf found }
+    ensures { result ≡ variable_of found }
 {
     match found {
         Definition::Found(variable) => variable,

@@ -11,65 +11,65 @@ use lib.Seq.{drop-cons, drop-set-add, drop-set-lt, get_or-drop, get_or-take, tak
 use Rattle.document.specs.Areas.{bytes_at}
 use Rattle.document.specs.Values.{number}
 use Rattle.document.specs.Stores.{stored}
-use Rattle.document.specs.Variables.{definitionsIn, allMay, setSize, values_of}
+use Rattle.document.specs.Variables.{definitions_in, all_may, set_size, values_of}
 use Rattle.document.proofs.Cases.{both}
-use Rattle.memory_ranges.proofs.Copies.{stored-append}
-use Rattle.memory_ranges.proofs.Stored.{take-sets, bytes-agree, byte-agree}
-use Rattle.bytes_fields.proofs.Ranges.{bytes-length}
-use Rattle.bytes_fields.proofs.Definitions.{definitions-first}
+use Rattle.memory_ranges.proofs.Copies.{stored_append}
+use Rattle.memory_ranges.proofs.Stored.{take_sets, bytes_agree, byte_agree}
+use Rattle.bytes_fields.proofs.Ranges.{bytes_length}
+use Rattle.bytes_fields.proofs.Definitions.{definitions_first}
 
 -- ---- one byte
 
 -- a store in a part that comes back is a store in the whole
-pub part-set : (memory : List ℕ) (at k j b : ℕ) → j < k
+pub part_set : (memory : List ℕ) (at k j b : ℕ) → j < k
     → take at memory ++ (set (take k (drop at memory)) j b ++ drop k (drop at memory)) ≡ set memory (at + j) b
-part-set m a k j b h =
+part_set m a k j b h =
     rw (← take-set-le a m (a + j) b (omega arith), ← take-set-lt k (drop a m) j b h, ← drop-set-lt k (drop a m) j b h, ← drop-set-add a m j b)
     (ap (λ (r : List ℕ). take a (set m (a + j) b) ++ r) (take-append-drop k (drop a (set m (a + j) b))) ∙ take-append-drop a (set m (a + j) b))
 
 byte_next : (m₀ m : List ℕ) (from size i o b : ℕ) → i < size → from + size ≤ length m₀ → b ≡ get_or m₀ (from + i) 0
     → stored (set m o b) (o + 1) (drop (i + 1) (bytes_at m₀ from size)) ≡ stored m o (drop i (bytes_at m₀ from size))
 byte_next m₀ m from size i o b h r e =
-    let l : i < length (bytes_at m₀ from size) = rw (bytes-length m₀ from size r) h in
+    let l : i < length (bytes_at m₀ from size) = rw (bytes_length m₀ from size r) h in
     rw (add-one i, add-one o, e, drop-cons (bytes_at m₀ from size) i 0 l, get_or-take size (drop from m₀) i 0 h, get_or-drop from m₀ i 0)
 
 module _ (m₀ m m' : List ℕ) (at done from size i b : ℕ) (h : i < size) (below : from + size ≤ at) (fits : at ≤ length m₀) where
-  pub byte-kept : m' ≡ set m (at + (done + i)) b → b ≡ get_or m (from + i) 0 → take at m ≡ take at m₀
+  pub byte_kept : m' ≡ set m (at + (done + i)) b → b ≡ get_or m (from + i) 0 → take at m ≡ take at m₀
       → (length m' ≡ length m)
       × (take at m' ≡ take at m₀)
       × (stored m' (at + done + (i + 1)) (drop (i + 1) (bytes_at m₀ from size)) ≡ stored m (at + done + i) (drop i (bytes_at m₀ from size)))
-  byte-kept e eb t =
+  byte_kept e eb t =
       let o : at + (done + i) ≡ at + done + i = omega arith in
       let p : at + done + (i + 1) ≡ at + done + i + 1 = omega arith in (
         ap length e ∙ length-set m (at + (done + i)) b,
         ap (take at) e ∙ take-set-le at m (at + (done + i)) b (omega arith) ∙ t,
-        rw (e, o, p) (byte_next m₀ m from size i (at + done + i) b h (omega arith) (eb ∙ byte-agree m m₀ at (from + i) t (omega arith))),
+        rw (e, o, p) (byte_next m₀ m from size i (at + done + i) b h (omega arith) (eb ∙ byte_agree m m₀ at (from + i) t (omega arith))),
       )
 
 -- ---- one variable
 
-pub stored-front : (m m' vs : List ℕ) (at i : ℕ) → at ≤ i → m' ≡ stored m i vs → take at m' ≡ take at m
-stored-front m m' vs at i h e = ap (take at) e ∙ take-sets vs m i at h
+pub stored_front : (m m' vs : List ℕ) (at i : ℕ) → at ≤ i → m' ≡ stored m i vs → take at m' ≡ take at m
+stored_front m m' vs at i h e = ap (take at) e ∙ take_sets vs m i at h
 
 -- a turn: the definition at this place of the block, and those behind it
 module _ (block : List ℕ) (next left size address : ℕ) (some : 0 < left)
     (es : size ≡ get_or block next 0) (ea : address ≡ number (bytes_at block (next + 1) 4)) where
-  first : definitionsIn true left (drop next block) ≡ record { address = address; size = size } ∷ definitionsIn true (left - 1) (drop (next + 5) block)
-  first = definitions-first block next left size address some es ea
+  first : definitions_in true left (drop next block) ≡ record { address = address; size = size } ∷ definitions_in true (left - 1) (drop (next + 5) block)
+  first = definitions_first block next left size address some es ea
 
-  pub size-first : setSize (definitionsIn true left (drop next block)) ≡ size + setSize (definitionsIn true (left - 1) (drop (next + 5) block))
-  size-first = ap setSize first
+  pub size_first : set_size (definitions_in true left (drop next block)) ≡ size + set_size (definitions_in true (left - 1) (drop (next + 5) block))
+  size_first = ap set_size first
 
-  pub may-first : (may : ℕ → ℕ → Bool) → allMay may (definitionsIn true left (drop next block)) ≡ true
-      → (may address size ≡ true) × (allMay may (definitionsIn true (left - 1) (drop (next + 5) block)) ≡ true)
-  may-first may e =
-      both (may address size) (allMay may (definitionsIn true (left - 1) (drop (next + 5) block))) (sym (ap (allMay may) first) ∙ e)
+  pub may_first : (may : ℕ → ℕ → Bool) → all_may may (definitions_in true left (drop next block)) ≡ true
+      → (may address size ≡ true) × (all_may may (definitions_in true (left - 1) (drop (next + 5) block)) ≡ true)
+  may_first may e =
+      both (may address size) (all_may may (definitions_in true (left - 1) (drop (next + 5) block))) (sym (ap (all_may may) first) ∙ e)
 
   module _ (m₀ m m' : List ℕ) (at done : ℕ) where
-    pub variable-kept : address + size ≤ at → address + size ≤ length m₀ → take at m ≡ take at m₀ → m' ≡ stored m (at + done) (bytes_at m address size)
-        → stored m' (at + (done + size)) (values_of m₀ (definitionsIn true (left - 1) (drop (next + 5) block)))
-        ≡ stored m (at + done) (values_of m₀ (definitionsIn true left (drop next block)))
-    variable-kept below fits t e =
-        let v : bytes_at m address size ≡ bytes_at m₀ address size = bytes-agree m m₀ at address size t below in
-        let p : at + (done + size) ≡ at + done + length (bytes_at m₀ address size) = omega (arith, bytes-length m₀ address size fits) in
-        rw (e, v, p, first, stored-append (bytes_at m₀ address size))
+    pub variable_kept : address + size ≤ at → address + size ≤ length m₀ → take at m ≡ take at m₀ → m' ≡ stored m (at + done) (bytes_at m address size)
+        → stored m' (at + (done + size)) (values_of m₀ (definitions_in true (left - 1) (drop (next + 5) block)))
+        ≡ stored m (at + done) (values_of m₀ (definitions_in true left (drop next block)))
+    variable_kept below fits t e =
+        let v : bytes_at m address size ≡ bytes_at m₀ address size = bytes_agree m m₀ at address size t below in
+        let p : at + (done + size) ≡ at + done + length (bytes_at m₀ address size) = omega (arith, bytes_length m₀ address size fits) in
+        rw (e, v, p, first, stored_append (bytes_at m₀ address size))

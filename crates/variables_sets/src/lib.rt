@@ -1,18 +1,18 @@
 // A set: the bytes of the recorded variables, copied in their order into a place of the ring. Their definitions are read where
 // they lie in a block, one by one.
 ghost use Rattle.std.specs.Prelude.{◌≡◌, true, ◌+◌, ◌*◌, ◌≤◌, ◌<◌, length, set};
-ghost use Rattle.document.specs.Areas.{bufferBegin, bytes_at};
+ghost use Rattle.document.specs.Areas.{buffer_begin, bytes_at};
 ghost use Rattle.document.specs.Stores.{stored};
-ghost use Rattle.document.specs.Variables.{definitionWidth, setSize, values_of};
-ghost use Rattle.variables_sets.specs.Recorded.{variablesAt, Recordable};
+ghost use Rattle.document.specs.Variables.{definition_width, set_size, values_of};
+ghost use Rattle.variables_sets.specs.Recorded.{variables_at, Recordable};
 
 use bytes_fields::{DEFINITION_WIDTH, long_at};
 use bytes_widths::{usize_of_u8, usize_of_u32};
 
 // How many bytes a set of `count` variables takes, the first of which is defined at `from`.
 pub fn set_size(block: &[u8], from: usize, count: usize) -> usize
-    requires { (count ≤ 8) × (from + 8 * definitionWidth true ≤ length block.now) }
-    ensures { (result ≡ setSize (variablesAt block.now from count)) × (result ≤ 2040) }
+    requires { (count ≤ 8) × (from + 8 * definition_width true ≤ length block.now) }
+    ensures { (result ≡ set_size (variables_at block.now from count)) × (result ≤ 2040) }
 {
     let mut at = from;
     let mut left = count;
@@ -48,8 +48,8 @@ fn copy_variable(memory: &mut [u8], from: usize, size: usize, at: usize, end: us
 // A set of `size` bytes into the place that begins at `at`, behind everything that may be recorded.
 pub fn copy_set(memory: &mut [u8], at: usize, size: usize, block: &[u8], from: usize, count: usize)
     requires recordable { Recordable block.now from count }
-    requires buffer_begin_le_at { (bufferBegin ≤ at) × (size ≡ setSize (variablesAt block.now from count)) × (at + size ≤ length memory.old) }
-    ensures { memory.new ≡ stored memory.old at (values_of memory.old (variablesAt block.now from count)) }
+    requires buffer_begin_le_at { (buffer_begin ≤ at) × (size ≡ set_size (variables_at block.now from count)) × (at + size ≤ length memory.old) }
+    ensures { memory.new ≡ stored memory.old at (values_of memory.old (variables_at block.now from count)) }
 {
     let end = at + size;
     let mut next = from;

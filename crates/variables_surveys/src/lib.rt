@@ -1,8 +1,8 @@
 // What a part's definitions come to, in one pass over the bytes where they stand.
 ghost use Rattle.std.specs.Prelude.{◌≡◌, true, ◌+◌, ◌*◌, ◌≤◌, length, drop};
-ghost use Rattle.document.specs.Variables.{definitionWidth, definitionsIn, countIn, variablesIn};
-ghost use Rattle.variables_definitions.specs.Parts.{variableOf, isWhole};
-ghost use Rattle.variables_surveys.specs.Survey.{lookedAt, surveyed};
+ghost use Rattle.document.specs.Variables.{definition_width, definitions_in, count_in, variables_in};
+ghost use Rattle.variables_definitions.specs.Parts.{variable_of, is_whole};
+ghost use Rattle.variables_surveys.specs.Survey.{looked_at, surveyed};
 
 use bytes_widths::usize_of_u8;
 use memory_ranges::within;
@@ -18,7 +18,7 @@ pub struct Surveyed {
 
 // The length is the one that the count gives.
 pub fn is_whole(part: &[u8], ex: bool) -> bool
-    ensures { result ≡ isWhole ex part.now }
+    ensures { result ≡ is_whole ex part.now }
 {
     if part.len() == 0 {
         return false;
@@ -29,7 +29,7 @@ pub fn is_whole(part: &[u8], ex: bool) -> bool
 // With one definition more. Seven before it add up to no more than 1,785 bytes.
 fn looked_at(before: Surveyed, found: Definition, limit: usize) -> Surveyed
     requires { before.size ≤ 1785 }
-    ensures { (result ≡ lookedAt limit before (variableOf found)) × (result.size ≤ before.size + 255) }
+    ensures { (result ≡ looked_at limit before (variable_of found)) × (result.size ≤ before.size + 255) }
 {
     let v = variable_of(found);
     let size = usize_of_u8(v.size);
@@ -42,8 +42,8 @@ fn looked_at(before: Surveyed, found: Definition, limit: usize) -> Surveyed
 
 // One reader reads all definitions of a part that holds them.
 fn survey_all(part: &[u8], count: usize, ex: bool, limit: usize) -> Surveyed
-    requires { (count ≤ 8) × (1 + count * definitionWidth ex ≤ length part.now) }
-    ensures { (result ≡ surveyed limit (definitionsIn ex count (drop 1 part.now))) × (result.size ≤ 2040) }
+    requires { (count ≤ 8) × (1 + count * definition_width ex ≤ length part.now) }
+    ensures { (result ≡ surveyed limit (definitions_in ex count (drop 1 part.now))) × (result.size ≤ 2040) }
 {
     let mut reader = Reader { part, at: 1 };
     let mut seen = Surveyed {
@@ -61,8 +61,8 @@ fn survey_all(part: &[u8], count: usize, ex: bool, limit: usize) -> Surveyed
 
 // Who asks has found the part whole, and its count no more than eight.
 pub fn survey(part: &[u8], ex: bool, limit: usize) -> Surveyed
-    requires { (isWhole ex part.now ≡ true) × (countIn part.now ≤ 8) }
-    ensures { (result ≡ surveyed limit (variablesIn ex part.now)) × (result.size ≤ 2040) }
+    requires { (is_whole ex part.now ≡ true) × (count_in part.now ≤ 8) }
+    ensures { (result ≡ surveyed limit (variables_in ex part.now)) × (result.size ≤ 2040) }
 {
     survey_all(part, usize_of_u8(part[0]), ex, limit)
 }

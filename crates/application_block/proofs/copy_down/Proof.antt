@@ -5,14 +5,14 @@ use native.Mathlib.Omega.{arith}
 use lib.ListN.{length, get_or, set}
 use lib.Seq.{sets}
 use Rattle.document.specs.Areas.{bytes_at}
-use Rattle.state_block.specs.Places.{bodyPlace, commandPlace}
+use Rattle.state_block.specs.Places.{body_place, command_place}
 use Rattle.application_block.proofs.Copied.{copied_next}
 use borrow.Author.Rules.{rules}
 use Rattle.application_block.proofs.copy_down.Statement.{statement}
 use Rattle.application_block.proofs.copy_down.Tie as tie
 
 abbrev invariant-loop : tie.invariant-loop
-invariant-loop state₀ count i₀ state i = (i ≤ count) × (length state ≡ length state₀) × (state ≡ sets state₀ commandPlace (bytes_at state₀ bodyPlace i))
+invariant-loop state₀ count i₀ state i = (i ≤ count) × (length state ≡ length state₀) × (state ≡ sets state₀ command_place (bytes_at state₀ body_place i))
 
 abbrev decreases-loop : tie.decreases-loop
 decreases-loop state₀ count i₀ state i = count - i
@@ -43,7 +43,7 @@ loop-again c =
     let s = c.before.before.before in
     let l = c.before.before.loop in
     let block = s.args.state.now in
-    (search rules, search rules, (λ j. set (l.invariant.2 j) (commandPlace + l.i) (get_or (l.invariant.2 j) (bodyPlace + l.i) 0)) ∙ copied_next block l.i s.requires.0 (omega (arith, s.requires.1, c.before.loop-test.true)))
+    (search rules, search rules, (λ j. set (l.invariant.2 j) (command_place + l.i) (get_or (l.invariant.2 j) (body_place + l.i) 0)) ∙ copied_next block l.i s.requires.0 (omega (arith, s.requires.1, c.before.loop-test.true)))
 
 same_length : tie.Need-same-length invariant-loop decreases-loop
 same_length c = search rules
@@ -53,7 +53,7 @@ returns c =
     let l = c.before.loop in
     let a = c.before.before.args in
     let all : l.i ≡ a.count = omega (arith, l.invariant.0, c.loop-test.false) in
-    l.invariant.2 ∙ ap (λ (n : ℕ). sets a.state.now commandPlace (bytes_at a.state.now bodyPlace n)) all
+    l.invariant.2 ∙ ap (λ (n : ℕ). sets a.state.now command_place (bytes_at a.state.now body_place n)) all
 
 pub copy-down-spec : {M : Type 1} → statement M
 copy-down-spec =

@@ -3,7 +3,7 @@ use mathlib.Core.Path.{ap, ◌∙◌}
 use mathlib.Core.List.{List}
 use Prim.Native.Nat.{ℕ}
 use lib.ListN.{set}
-use Rattle.state_block.proofs.Stored.{ended-stored}
+use Rattle.state_block.proofs.Stored.{ended_stored}
 use borrow.Author.Rules.{rules}
 use Rattle.application_block.proofs.report.Statement.{statement}
 use Rattle.application_block.proofs.report.Tie as tie
@@ -30,7 +30,7 @@ returns c =
     let block = s.args.state.now in
     third.put-byte3.ensures
     ∙ ap (λ (l : List ℕ). set l 183 s.args.res) (second.put-byte2.ensures ∙ ap (λ (l : List ℕ). set l 182 0) first.put_byte.ensures)
-    ∙ ended-stored block s.requires (λ i. (known.slice-known.given i).fits) s.args.res
+    ∙ ended_stored block s.requires (λ i. (known.slice-known.given i).fits) s.args.res
 
 pub report-spec : {M : Type 1} → statement M
 report-spec = tie.close (tie.spec put-byte-requires put-byte-requires-2 put-byte-requires-3 same_length returns)

@@ -5,12 +5,12 @@ use Prim.Native.Nat.{ℕ, ◌-◌, ◌≤◌}
 use native.Mathlib.Omega.{arith}
 use lib.ListN.{length, set}
 use lib.Seq.{sets}
-use Rattle.document.specs.Numbers.{mostData}
+use Rattle.document.specs.Numbers.{most_data}
 use Rattle.document.specs.Areas.{bytes_at}
-use Rattle.memory_ranges.proofs.Stored.{bytes-before}
-use Rattle.bytes_fields.proofs.Ranges.{bytes-length}
-use Rattle.state_block.specs.Places.{bodyPlace, applicationPlace, commandPlace}
-use Rattle.state_block.proofs.Stored.{command-stored}
+use Rattle.memory_ranges.proofs.Stored.{bytes_before}
+use Rattle.bytes_fields.proofs.Ranges.{bytes_length}
+use Rattle.state_block.specs.Places.{body_place, application_place, command_place}
+use Rattle.state_block.proofs.Stored.{command_stored}
 use borrow.Author.Rules.{rules}
 use Rattle.application_block.proofs.send.Statement.{statement}
 use Rattle.application_block.proofs.send.Tie as tie
@@ -45,19 +45,19 @@ returns c =
     let known = first.before.before in
     let s = known.before in
     let block = s.args.state.now in
-    let count : ℕ = s.args.to - bodyPlace in
-    let body : List ℕ = bytes_at block bodyPlace count in
-    let few : count ≤ mostData = omega (arith, s.requires.2) in
-    let width : length body ≡ count = bytes-length block bodyPlace count (omega (arith, s.requires.0, few)) in
-    let headed = sets block applicationPlace (1 ∷ count ∷ 0 ∷ []) in
-    let head : third.put-byte3.new.0 ≡ sets block applicationPlace (1 ∷ count ∷ 0 ∷ []) =
+    let count : ℕ = s.args.to - body_place in
+    let body : List ℕ = bytes_at block body_place count in
+    let few : count ≤ most_data = omega (arith, s.requires.2) in
+    let width : length body ≡ count = bytes_length block body_place count (omega (arith, s.requires.0, few)) in
+    let headed = sets block application_place (1 ∷ count ∷ 0 ∷ []) in
+    let head : third.put-byte3.new.0 ≡ sets block application_place (1 ∷ count ∷ 0 ∷ []) =
     third.put-byte3.ensures
     ∙ ap (λ (l : List ℕ). set l 183 0) (second.put-byte2.ensures ∙ ap (λ (l : List ℕ). set l 182 count) first.put_byte.ensures) in
     copied.copy-down.ensures
-    ∙ ap (λ (l : List ℕ). sets l commandPlace (bytes_at l bodyPlace count)) head
-    ∙ ap (sets headed commandPlace) (bytes-before (1 ∷ count ∷ 0 ∷ []) block applicationPlace bodyPlace count (omega (arith, few)))
-    ∙ ap (λ (n : ℕ). sets block applicationPlace (1 ∷ n ∷ 0 ∷ body)) (sym width)
-    ∙ command-stored block s.requires.0 (λ i. (known.slice-known.given i).fits) body (omega (arith, width, few))
+    ∙ ap (λ (l : List ℕ). sets l command_place (bytes_at l body_place count)) head
+    ∙ ap (sets headed command_place) (bytes_before (1 ∷ count ∷ 0 ∷ []) block application_place body_place count (omega (arith, few)))
+    ∙ ap (λ (n : ℕ). sets block application_place (1 ∷ n ∷ 0 ∷ body)) (sym width)
+    ∙ command_stored block s.requires.0 (λ i. (known.slice-known.given i).fits) body (omega (arith, width, few))
 
 pub send-spec : {M : Type 1} → statement M
 send-spec =

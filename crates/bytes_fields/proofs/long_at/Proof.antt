@@ -1,7 +1,7 @@
 -- Four bytes, each worth 256 of the one before it.
 use native.Mathlib.Omega.{arith}
 use borrow.Author.Rules.{rules}
-use Rattle.bytes_fields.proofs.Numbers.{number-four}
+use Rattle.bytes_fields.proofs.Numbers.{number_four}
 use Rattle.bytes_fields.proofs.long_at.Statement.{statement}
 use Rattle.bytes_fields.proofs.long_at.Tie as tie
 
@@ -61,7 +61,7 @@ returns c =
     let args = c.before.before.before.before.before.before.before.before.before.args in
     let u32-of-u8 = c.before.before.before.before.before.before.u32-of-u8 in
     let u32-of-u82 = c.before.before.before.before.u32-of-u82 in
-    let a = args in omega (arith, number-four a.block.now a.at (omega arith), u32-of-u8.ensures.0, u32-of-u82.ensures.0, c.before.before.u32-of-u83.ensures.0, c.u32-of-u84.ensures.0)
+    let a = args in omega (arith, number_four a.block.now a.at (omega arith), u32-of-u8.ensures.0, u32-of-u82.ensures.0, c.before.before.u32-of-u83.ensures.0, c.u32-of-u84.ensures.0)
 
 pub long-at-spec : {M : Type 1} → statement M
 long-at-spec =

@@ -5,7 +5,7 @@ use native.Mathlib.Omega.{arith}
 use lib.ListN.{set, length-set}
 use lib.Seq.{sets}
 use borrow.Author.Rules.{rules}
-use Rattle.document.specs.Values.{littleEndian}
+use Rattle.document.specs.Values.{little_endian}
 use Rattle.bytes_fields.proofs.put_definition.Statement.{statement}
 use Rattle.bytes_fields.proofs.put_definition.Tie as tie
 
@@ -27,7 +27,7 @@ returns c =
     let a = put.before.before.before.args in
     let next : a.at + 1 ≡ suc a.at = omega arith in
     put.put-long.ensures
-    ∙ ap (λ (n : ℕ). sets (set a.block.now a.at a.size) n (littleEndian 4 a.address)) next
+    ∙ ap (λ (n : ℕ). sets (set a.block.now a.at a.size) n (little_endian 4 a.address)) next
 
 pub put-definition-spec : {M : Type 1} → statement M
 put-definition-spec =

@@ -3,7 +3,7 @@ use Prim.Native.Nat.{◌/◌, ◌%◌}
 use native.Mathlib.Omega.{arith}
 use lib.ListN.{length-set}
 use borrow.Author.Rules.{rules}
-use Rattle.bytes_fields.proofs.Ranges.{four-set}
+use Rattle.bytes_fields.proofs.Ranges.{four_set}
 use Rattle.bytes_fields.proofs.put_long.Statement.{statement}
 use Rattle.bytes_fields.proofs.put_long.Tie as tie
 
@@ -44,7 +44,7 @@ same_length : tie.Need-same-length
 same_length c = search rules
 
 returns : tie.Need-returns
-returns c = four-set c.args.block.now c.args.at (c.args.x % 256) (c.args.x / 256 % 256) (c.args.x / 256 / 256 % 256) (c.args.x / 256 / 256 / 256 % 256)
+returns c = four_set c.args.block.now c.args.at (c.args.x % 256) (c.args.x / 256 % 256) (c.args.x / 256 / 256 % 256) (c.args.x / 256 / 256 / 256 % 256)
 
 pub put-long-spec : {M : Type 1} → statement M
 put-long-spec =

@@ -3,7 +3,7 @@ use Prim.Native.Nat.{◌/◌, ◌%◌}
 use native.Mathlib.Omega.{arith}
 use lib.ListN.{length-set}
 use borrow.Author.Rules.{rules}
-use Rattle.bytes_fields.proofs.Ranges.{two-set}
+use Rattle.bytes_fields.proofs.Ranges.{two_set}
 use Rattle.bytes_fields.proofs.put_word.Statement.{statement}
 use Rattle.bytes_fields.proofs.put_word.Tie as tie
 
@@ -26,7 +26,7 @@ same_length : tie.Need-same-length
 same_length c = search rules
 
 returns : tie.Need-returns
-returns c = two-set c.args.block.now c.args.at (c.args.x % 256) (c.args.x / 256 % 256)
+returns c = two_set c.args.block.now c.args.at (c.args.x % 256) (c.args.x / 256 % 256)
 
 pub put-word-spec : {M : Type 1} → statement M
 put-word-spec =

@@ -1,7 +1,7 @@
 -- Two bytes, the second worth 256 of the first.
 use native.Mathlib.Omega.{arith}
 use borrow.Author.Rules.{rules}
-use Rattle.bytes_fields.proofs.Numbers.{number-two}
+use Rattle.bytes_fields.proofs.Numbers.{number_two}
 use Rattle.bytes_fields.proofs.word_at.Statement.{statement}
 use Rattle.bytes_fields.proofs.word_at.Tie as tie
 
@@ -29,7 +29,7 @@ add-result c = search rules
 returns : tie.Need-returns
 returns c =
     let args = c.before.before.before.before.before.args in
-    let a = args in omega (arith, number-two a.block.now a.at (omega arith), c.before.before.u16-of-u8.ensures.0, c.u16-of-u82.ensures.0)
+    let a = args in omega (arith, number_two a.block.now a.at (omega arith), c.before.before.u16-of-u8.ensures.0, c.u16-of-u82.ensures.0)
 
 pub word-at-spec : {M : Type 1} → statement M
 word-at-spec =

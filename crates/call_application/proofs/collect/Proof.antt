@@ -2,11 +2,11 @@
 use mathlib.Core.Path.{sym, ◌∙◌}
 use borrow.Author.Rules.{rules}
 use Rattle.state_block.specs.Layout.{decoded}
-use Rattle.state_parts.proofs.Parts.{parts-of}
-use Rattle.call_checks.proofs.ApplicationNumbers.{collect-known}
-use Rattle.call_checks.proofs.Settled.{block-known}
-use Rattle.call_checks.specs.Promises.{blockSound}
-use Rattle.call_application.proofs.Calls.{collect-refused, collect-taken}
+use Rattle.state_parts.proofs.Parts.{parts_of_lem}
+use Rattle.call_checks.proofs.ApplicationNumbers.{collect_known}
+use Rattle.call_checks.proofs.Settled.{block_known}
+use Rattle.call_checks.specs.Promises.{block_sound}
+use Rattle.call_application.proofs.Calls.{collect_refused, collect_taken}
 use Rattle.call_application.proofs.collect.Statement.{statement}
 use Rattle.call_application.proofs.collect.Tie as tie
 
@@ -23,7 +23,7 @@ returns : tie.Need-returns
 returns c =
     let asked = c.before in
     let args = asked.before.before.before.before.before.args in
-    collect-refused args.state.now args.out.now asked.collect-refusal.result asked.collect-refusal.ensures c.if1.true
+    collect_refused args.state.now args.out.now asked.collect-refusal.result asked.collect-refusal.ensures c.if1.true
 
 collect-requires : tie.Need-collect-requires
 collect-requires c κs =
@@ -31,9 +31,9 @@ collect-requires c κs =
     let asked = free.before in
     let args = asked.before.before.before.before.before.args in
     let block = args.state.now in
-    let known = collect-known (blockSound block) args.out.now (sym asked.collect-refusal.ensures ∙ free.if1.false) in
-    let within = block-known block known.0 in
-    (within.0, (parts-of (decoded block) within.1).application-part, known.1)
+    let known = collect_known (block_sound block) args.out.now (sym asked.collect-refusal.ensures ∙ free.if1.false) in
+    let within = block_known block known.0 in
+    (within.0, (parts_of_lem (decoded block) within.1).application_part, known.1)
 
 same-length-3 : tie.Need-same-length-3
 same-length-3 c = search rules
@@ -50,8 +50,8 @@ returns-2 c =
     let args = known-slice.before.args in
     let block = args.state.now in
     let fine = sym asked.collect-refusal.ensures ∙ free.if1.false in
-    let known = collect-known (blockSound block) args.out.now fine in
-    collect-taken block args.out.now (block-known block known.0).0 (λ i. (known-slice.slice-known.given i).fits) fine collected.collect.result _ _ collected.collect.ensures
+    let known = collect_known (block_sound block) args.out.now fine in
+    collect_taken block args.out.now (block_known block known.0).0 (λ i. (known-slice.slice-known.given i).fits) fine collected.collect.result _ _ collected.collect.ensures
 
 pub collect-spec : {M : Type 1} → statement M
 collect-spec =

@@ -1,12 +1,12 @@
 -- Refused, nothing changes; else the result is stored.
 use mathlib.Core.Path.{sym, ◌∙◌}
 use borrow.Author.Rules.{rules}
-use Rattle.application_state.specs.State.{applicationOf}
-use Rattle.state_block.specs.Layout.{decodedApplication}
-use Rattle.call_checks.proofs.ApplicationNumbers.{report-known}
-use Rattle.call_checks.proofs.Settled.{block-known}
-use Rattle.call_checks.specs.Promises.{blockSound}
-use Rattle.call_application.proofs.Calls.{report-refused, report-taken}
+use Rattle.application_state.specs.State.{application_of}
+use Rattle.state_block.specs.Layout.{decoded_application}
+use Rattle.call_checks.proofs.ApplicationNumbers.{report_known}
+use Rattle.call_checks.proofs.Settled.{block_known}
+use Rattle.call_checks.specs.Promises.{block_sound}
+use Rattle.call_application.proofs.Calls.{report_refused, report_taken}
 use Rattle.call_application.proofs.report.Statement.{statement}
 use Rattle.call_application.proofs.report.Tie as tie
 
@@ -20,15 +20,15 @@ returns : tie.Need-returns
 returns c =
     let asked = c.before in
     let args = asked.before.before.before.args in
-    report-refused args.state.now args.result asked.report-refusal.result asked.report-refusal.ensures c.if1.true
+    report_refused args.state.now args.result asked.report-refusal.result asked.report-refusal.ensures c.if1.true
 
 report-requires : tie.Need-report-requires
 report-requires c κs =
     let asked = c.before.before in
     let args = asked.before.before.before.args in
     let block = args.state.now in
-    let known = report-known (blockSound block) (applicationOf (decodedApplication block)) args.result (sym asked.report-refusal.ensures ∙ c.before.if1.false) in
-    (block-known block known.0).0
+    let known = report_known (block_sound block) (application_of (decoded_application block)) args.result (sym asked.report-refusal.ensures ∙ c.before.if1.false) in
+    (block_known block known.0).0
 
 same-length-2 : tie.Need-same-length-2
 same-length-2 c = search rules
@@ -42,8 +42,8 @@ returns-2 c =
     let args = known-slice.before.args in
     let block = args.state.now in
     let fine = sym asked.report-refusal.ensures ∙ free.if1.false in
-    let known = report-known (blockSound block) (applicationOf (decodedApplication block)) args.result fine in
-    report-taken block args.result (block-known block known.0).0 (λ i. (known-slice.slice-known.given i).fits) fine _ reported.report.ensures
+    let known = report_known (block_sound block) (application_of (decoded_application block)) args.result fine in
+    report_taken block args.result (block_known block known.0).0 (λ i. (known-slice.slice-known.given i).fits) fine _ reported.report.ensures
 
 pub report-spec : {M : Type 1} → statement M
 report-spec =

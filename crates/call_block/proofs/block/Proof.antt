@@ -2,9 +2,9 @@
 use mathlib.Core.Path.{◌≡◌, sym, ◌∙◌}
 use borrow.Author.Rules.{rules}
 use Rattle.document.specs.Numbers.{taken}
-use Rattle.call_checks.specs.Promises.{byteNumber}
-use Rattle.call_checks.proofs.Lent.{lent-known}
-use Rattle.call_block.proofs.Promised.{block_refused, block-taken}
+use Rattle.call_checks.specs.Promises.{byte_number}
+use Rattle.call_checks.proofs.Lent.{lent_known}
+use Rattle.call_block.proofs.Promised.{block_refused, block_taken}
 use Rattle.call_block.proofs.block.Statement.{statement}
 use Rattle.call_block.proofs.block.Tie as tie
 
@@ -31,7 +31,7 @@ returns c =
     block_refused a.state.now a.bytes.now a.memory.now a.answers.now r.byte-refusal.result r.byte-refusal.ensures c.if1.true
 
 -- nothing refuses it
-fine : (e : tie.Else1) → byteNumber (begun e.before).args.state.now (begun e.before).args.memory.now (begun e.before).args.answers.now ≡ taken
+fine : (e : tie.Else1) → byte_number (begun e.before).args.state.now (begun e.before).args.memory.now (begun e.before).args.answers.now ≡ taken
 fine e = sym e.before.byte-refusal.ensures ∙ e.if1.false
 
 take-while-room-requires : tie.Need-take-while-room-requires
@@ -40,7 +40,7 @@ take-while-room-requires c κs =
     let r = e.before in
     let a = (begun r).args in
     let known =
-    lent-known a.state.now a.memory.now a.answers.now
+    lent_known a.state.now a.memory.now a.answers.now
     (λ i. (r.before.before.before.before.before.before.before.slice-known.given i).fits)
     (λ i. (r.before.before.before.before.before.slice-known2.given i).fits)
     (fine e) in
@@ -60,7 +60,7 @@ returns-2 c =
     let g = c.before.before.before.before.before.before in
     let e = g.before.before.before.before in
     let a = (begun e.before).args in
-    block-taken a.state.now a.bytes.now a.memory.now a.answers.now (fine e) g.take-while-room.result _ _ _ g.take-while-room.ensures
+    block_taken a.state.now a.bytes.now a.memory.now a.answers.now (fine e) g.take-while-room.result _ _ _ g.take-while-room.ensures
 
 pub block_spec : {M : Type 1} → statement M
 block_spec =

@@ -6,16 +6,16 @@ use native.Mathlib.Omega.{arith}
 use borrow.Author.Rules.{rules}
 use lib.ListN.{length, get_or, drop, length-drop}
 use Rattle.document.specs.Bytes.{AllBytes}
-use Rattle.document.proofs.Bytes.{all-of-bytes}
+use Rattle.document.proofs.Bytes.{all_of_bytes}
 use Rattle.state_parts.specs.Within.{Within}
 use Rattle.state_byte.specs.Turn.{Turn, turn}
-use Rattle.state_byte.proofs.Fits.{turn-fits}
-use Rattle.state_block.specs.Places.{stateLength}
+use Rattle.state_byte.proofs.Fits.{turn_fits}
+use Rattle.state_block.specs.Places.{state_length}
 use Rattle.state_block.specs.Layout.{decoded}
 use Rattle.call_byte.specs.Promises.{Turned}
-use Rattle.call_byte.proofs.Answered.{quiet-turned, answer-lent, message-turned}
+use Rattle.call_byte.proofs.Answered.{quiet_turned, answer_lent, message_turned}
 use Rattle.call_block.specs.Going.{TookNext}
-use Rattle.call_block.proofs.TookNext.{part-whole, nothing-behind, next-inside, between-within, all-passed, one_more, quiet-more}
+use Rattle.call_block.proofs.TookNext.{part_whole, nothing_behind, next_inside, between_within, all_passed, one_more, quiet_more}
 use Rattle.call_block.proofs.take_next.Statement.{statement}
 use Rattle.call_block.proofs.take_next.Tie as tie
 
@@ -52,20 +52,20 @@ module _ (p : tie.After-pass-over) where
   byte_small i = (p.before.before.before.before.shared-slice-known.given i).fits
 
   all : AllBytes bytes
-  all = all-of-bytes bytes byte_small
+  all = all_of_bytes bytes byte_small
 
   inside : next ≤ length bytes
   inside =
-      next-inside bytes lent.args.from lent.args.at block memory buffer lent.pre.0 small all lent.pre.1 lent.pre.2 lent.pre.3 next between p.pass-over.ensures
+      next_inside bytes lent.args.from lent.args.at block memory buffer lent.pre.0 small all lent.pre.1 lent.pre.2 lent.pre.3 next between p.pass-over.ensures
 
   within : Within (decoded between) memory
   within =
-      between-within bytes lent.args.from lent.args.at block memory buffer lent.pre.0 small all lent.pre.1 lent.pre.2 lent.pre.3 next between p.pass-over.ensures
+      between_within bytes lent.args.from lent.args.at block memory buffer lent.pre.0 small all lent.pre.1 lent.pre.2 lent.pre.3 next between p.pass-over.ensures
 
   buffer-fits : length buffer < 2 ^ 64
   buffer-fits = omega arith
 
-  long : stateLength ≤ length between
+  long : state_length ≤ length between
   long = omega (arith, lent.pre.0, p.pass-over.kept.0)
 
 same_length : tie.Need-same-length
@@ -75,7 +75,7 @@ returns : tie.Need-returns
 returns c =
     let p = c.before.before.before in
     let s = lent p in
-    all-passed (bytes p) s.args.from s.args.at (block p) (memory p) (buffer p) s.pre.0 (small p) (all p) s.pre.1 s.pre.2 s.pre.3 (next p) (between p) p.pass-over.ensures c.if1.true
+    all_passed (bytes p) s.args.from s.args.at (block p) (memory p) (buffer p) s.pre.0 (small p) (all p) s.pre.1 s.pre.2 s.pre.3 (next p) (between p) p.pass-over.ensures c.if1.true
 
 -- ---- a byte is left
 more : (e : tie.Else1) → next e.before.before.before < length (bytes e.before.before.before)
@@ -124,9 +124,9 @@ returns-2 c =
     let h = c.before.before.before.before in
     let p = over h in
     let s = lent p in
-    quiet-more (bytes p) s.args.from s.args.at (block p) (memory p) (buffer p) s.pre.0 (small p) (all p) s.pre.1 s.pre.2 s.pre.3 (next p) (between p) p.pass-over.ensures
+    quiet_more (bytes p) s.args.from s.args.at (block p) (memory p) (buffer p) s.pre.0 (small p) (all p) s.pre.1 s.pre.2 s.pre.3 (next p) (between p) p.pass-over.ensures
     (more (some h)) (byte_small p (next p)) h.hear.new.0
-    (quiet-turned (between p) (byte h) (memory p) (long p) (known_small h) (byte_small p (next p)) (within p) h.hear.result h.hear.new.0 h.hear.auto.0 h.hear.ensures c.enum_told.given.1 (drop s.args.at (buffer p)))
+    (quiet_turned (between p) (byte h) (memory p) (long p) (known_small h) (byte_small p (next p)) (within p) h.hear.result h.hear.new.0 h.hear.auto.0 h.hear.ensures c.enum_told.given.1 (drop s.args.at (buffer p)))
 
 -- ---- it ends a message
 sub-respond : tie.Need-overflow-sub-respond
@@ -143,8 +143,8 @@ respond-requires c κs =
     let m = c.before.before.before.before in
     let h = m.before.before.before.before in
     let p = over h in
-    answer-lent (between p) (byte h) (memory p) (long p) (known_small h) (byte_small p (next p)) (within p) h.hear.result h.hear.new.0 h.hear.auto.0 h.hear.ensures m.heard.given.0.0 m.heard.given.1 _
-    (rw (part-whole (buffer p) (at h)) (omega (arith, length-drop (at h) (buffer p), (lent p).pre.3)))
+    answer_lent (between p) (byte h) (memory p) (long p) (known_small h) (byte_small p (next p)) (within p) h.hear.result h.hear.new.0 h.hear.auto.0 h.hear.ensures m.heard.given.0.0 m.heard.given.1 _
+    (rw (part_whole (buffer p) (at h)) (omega (arith, length-drop (at h) (buffer p), (lent p).pre.3)))
 
 module _ (r : tie.After-respond) where
   abbrev message : tie.After-heard
@@ -160,13 +160,13 @@ module _ (r : tie.After-respond) where
   done =
       let h = heard in
       let p = over heard in
-      subst (λ (l : List ℕ). Turned (u l) (between p) r.respond.result r.respond.last.1.0 r.respond.last.1.1.0 r.respond.last.1.1.1.0) (part-whole (buffer p) (at h))
-      (message-turned (between p) (byte h) (memory p) (long p) (known_small h) (byte_small p (next p)) (within p) h.hear.result h.hear.last.0 h.hear.kept.0 h.hear.ensures message.heard.given.0.0 message.heard.given.1
+      subst (λ (l : List ℕ). Turned (u l) (between p) r.respond.result r.respond.last.1.0 r.respond.last.1.1.0 r.respond.last.1.1.1.0) (part_whole (buffer p) (at h))
+      (message_turned (between p) (byte h) (memory p) (long p) (known_small h) (byte_small p (next p)) (within p) h.hear.result h.hear.last.0 h.hear.kept.0 h.hear.ensures message.heard.given.0.0 message.heard.given.1
       _ _ _ _ _ (λ i. (message.before.before.slice-known5.given i).fits) r.respond.ensures)
 
   fits : at heard + r.respond.result ≤ length (buffer (over heard))
   fits =
-      omega (arith, (lent (over heard)).pre.3, done.length, turn-fits (decoded (between (over heard))) (byte heard) (memory (over heard)) (drop (at heard) (buffer (over heard))))
+      omega (arith, (lent (over heard)).pre.3, done.length, turn_fits (decoded (between (over heard))) (byte heard) (memory (over heard)) (drop (at heard) (buffer (over heard))))
 
 add-t26 : tie.Need-overflow-add-t26
 add-t26 c = record { fits = omega (arith, more (some (heard c.before.before.before.before.before.before))) }
@@ -192,7 +192,7 @@ returns-3 c =
     let p = over h in
     let s = lent p in
     subst (λ (l : List ℕ). TookNext (bytes p) s.args.from s.args.at (record { taken = next p + 1; written = s.args.at + r.respond.result }) (block p) (memory p) (buffer p) r.respond.new.1.0 r.respond.new.1.1.0 l)
-    (sym (nothing-behind (buffer p) r.respond.new.1.1.1.0 s.args.at))
+    (sym (nothing_behind (buffer p) r.respond.new.1.1.1.0 s.args.at))
     (one_more (bytes p) s.args.from s.args.at (block p) (memory p) (buffer p) s.pre.0 (small p) (all p) s.pre.1 s.pre.2 s.pre.3 (next p) (between p) p.pass-over.ensures
     (more (some h)) (byte_small p (next p)) r.respond.result r.respond.new.1.0 r.respond.new.1.1.0 r.respond.new.1.1.1.0 (done r))
 

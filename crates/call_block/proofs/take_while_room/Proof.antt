@@ -6,13 +6,13 @@ use borrow.Author.Rules.{rules}
 use borrow.Author.Tests.{leb-true, leb-false}
 use lib.ListN.{length, get_or, drop}
 use lib.Seq.{sets}
-use Rattle.document.specs.Numbers.{answerRoom}
+use Rattle.document.specs.Numbers.{answer_room}
 use Rattle.state_parts.specs.Within.{Within}
 use Rattle.state_byte.specs.Walk.{walked}
 use Rattle.state_block.specs.Layout.{decoded, encoded}
-use Rattle.call_quiet.proofs.Over.{same-state}
-use Rattle.call_block.specs.Going.{walkAt, walk}
-use Rattle.call_block.proofs.Ends.{stored_on, gone-all, gone-short}
+use Rattle.call_quiet.proofs.Over.{same_state}
+use Rattle.call_block.specs.Going.{walk_at, walk}
+use Rattle.call_block.proofs.Ends.{stored_on, gone_all, gone_short}
 use Rattle.call_block.proofs.take_while_room.Statement.{statement}
 use Rattle.call_block.proofs.take_while_room.Tie as tie
 
@@ -24,7 +24,7 @@ invariant-loop state₀ bytes memory₀ answers₀ taken₀ written₀ state mem
     × (written ≤ length answers)
     × Within (decoded state) memory
     × (state ≡ sets state₀ 0 (encoded (decoded state)))
-    × (walk state₀ bytes memory₀ answers₀ ≡ walked (walkAt taken written state memory answers) (drop taken bytes))
+    × (walk state₀ bytes memory₀ answers₀ ≡ walked (walk_at taken written state memory answers) (drop taken bytes))
 
 abbrev decreases-loop : tie.decreases-loop
 decreases-loop state₀ bytes memory₀ answers₀ taken₀ written₀ state memory answers taken written = length bytes - taken
@@ -34,7 +34,7 @@ loop-holds c =
     let s = c.before.before.before.before in
     let block = s.args.state.now in
     let small : (i : ℕ) → get_or block i 0 < 256 = λ i. (c.before.before.before.slice-known.given i).fits in
-    (refl, refl, omega arith, omega arith, s.requires.1, same-state block s.requires.0 small (decoded block) refl, refl)
+    (refl, refl, omega arith, omega arith, s.requires.1, same_state block s.requires.0 small (decoded block) refl, refl)
 
 sub-if1 : tie.Need-overflow-sub-if1 invariant-loop decreases-loop
 sub-if1 c = search rules
@@ -45,8 +45,8 @@ take-next-requires c κs =
     let at = then.before.before in
     let l = at.loop in
     let s = at.before.before.before.before.before in
-    let room : answerRoom ≤ length l.answers - l.written = leb-true _ _ then.if1.true in
-    let enough : l.written + answerRoom ≤ length l.answers = omega (arith, room, l.invariant.3) in
+    let room : answer_room ≤ length l.answers - l.written = leb-true _ _ then.if1.true in
+    let enough : l.written + answer_room ≤ length l.answers = omega (arith, room, l.invariant.3) in
     (omega (arith, l.invariant.0, s.requires.0), l.invariant.4, then.before.loop-test.true, enough)
 
 loop-less : tie.Need-loop-smaller invariant-loop decreases-loop
@@ -78,7 +78,7 @@ same_length c = c.before.before.loop.invariant.0
 same-length-2 : tie.Need-same-length-2 invariant-loop decreases-loop
 same-length-2 c =
     let at = c.before.before in
-    at.loop.invariant.4.memory-part.size ∙ sym at.before.before.before.before.before.requires.1.memory-part.size
+    at.loop.invariant.4.memory_part.size ∙ sym at.before.before.before.before.before.requires.1.memory_part.size
 
 same-length-3 : tie.Need-same-length-3 invariant-loop decreases-loop
 same-length-3 c = c.before.before.loop.invariant.1
@@ -88,7 +88,7 @@ returns c =
     let at = c.before.before in
     let l = at.loop in
     let a = at.before.before.before.before.before.args in
-    gone-short a.bytes.now l.taken l.written a.state.now a.memory.now a.answers.now l.state l.memory l.answers l.invariant.6 l.invariant.5
+    gone_short a.bytes.now l.taken l.written a.state.now a.memory.now a.answers.now l.state l.memory l.answers l.invariant.6 l.invariant.5
     (leb-false _ _ c.if1.false)
 
 -- ---- no byte is left
@@ -99,7 +99,7 @@ same-length-4 c = c.before.loop.invariant.0
 same-length-5 : tie.Need-same-length-5 invariant-loop decreases-loop
 same-length-5 c =
     let at = c.before in
-    at.loop.invariant.4.memory-part.size ∙ sym at.before.before.before.before.before.requires.1.memory-part.size
+    at.loop.invariant.4.memory_part.size ∙ sym at.before.before.before.before.before.requires.1.memory_part.size
 
 same-length-6 : tie.Need-same-length-6 invariant-loop decreases-loop
 same-length-6 c = c.before.loop.invariant.1
@@ -109,7 +109,7 @@ returns-2 c =
     let at = c.before in
     let l = at.loop in
     let a = at.before.before.before.before.before.args in
-    gone-all a.bytes.now l.taken l.written a.state.now a.memory.now a.answers.now l.state l.memory l.answers l.invariant.6 l.invariant.5
+    gone_all a.bytes.now l.taken l.written a.state.now a.memory.now a.answers.now l.state l.memory l.answers l.invariant.6 l.invariant.5
     c.loop-test.false
 
 pub take-while-room-spec : {M : Type 1} → statement M

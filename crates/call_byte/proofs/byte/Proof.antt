@@ -5,14 +5,14 @@ use Prim.Native.Nat.{ℕ, ◌<◌, ◌≤◌}
 use native.Mathlib.Omega.{arith}
 use borrow.Author.Rules.{rules}
 use lib.ListN.{length, get_or}
-use Rattle.document.specs.Numbers.{answerRoom, taken}
+use Rattle.document.specs.Numbers.{answer_room, taken}
 use Rattle.state_parts.specs.Within.{Within}
-use Rattle.state_block.specs.Places.{stateLength}
+use Rattle.state_block.specs.Places.{state_length}
 use Rattle.state_block.specs.Layout.{decoded}
-use Rattle.call_checks.specs.Promises.{byteNumber}
-use Rattle.call_checks.proofs.Lent.{lent-known}
-use Rattle.call_byte.proofs.Answered.{quiet-turned, answer-lent, message-turned}
-use Rattle.call_byte.proofs.Turns.{byte-refused, byte-taken}
+use Rattle.call_checks.specs.Promises.{byte_number}
+use Rattle.call_checks.proofs.Lent.{lent_known}
+use Rattle.call_byte.proofs.Answered.{quiet_turned, answer_lent, message_turned}
+use Rattle.call_byte.proofs.Turns.{byte_refused, byte_taken}
 use Rattle.call_byte.proofs.byte.Statement.{statement}
 use Rattle.call_byte.proofs.byte.Tie as tie
 
@@ -36,7 +36,7 @@ returns : tie.Need-returns
 returns c =
     let r = c.before in
     let a = (begun r).args in
-    byte-refused a.state.now a.byte a.memory.now a.answer.now r.byte-refusal.result r.byte-refusal.ensures c.if1.true
+    byte_refused a.state.now a.byte a.memory.now a.answer.now r.byte-refusal.result r.byte-refusal.ensures c.if1.true
 
 byte_small : (s : tie.Start) → s.args.byte < 256
 byte_small s = omega arith
@@ -55,14 +55,14 @@ module _ (e : tie.Else1) where
   abbrev buffer : List ℕ
   buffer = lent.args.answer.now
 
-  fine : byteNumber block memory buffer ≡ taken
+  fine : byte_number block memory buffer ≡ taken
   fine = sym e.before.byte-refusal.ensures ∙ e.if1.left
 
   small : (i : ℕ) → get_or block i 0 < 256
   small i = (e.before.before.before.before.before.before.before.slice-known.given i).fits
 
-  known : (stateLength ≤ length block) × Within (decoded block) memory × (answerRoom ≤ length buffer)
-  known = lent-known block memory buffer small (λ i. (e.before.before.before.before.before.before.slice-known2.given i).fits) fine
+  known : (state_length ≤ length block) × Within (decoded block) memory × (answer_room ≤ length buffer)
+  known = lent_known block memory buffer small (λ i. (e.before.before.before.before.before.before.slice-known2.given i).fits) fine
 
 hear-requires : tie.Need-hear-requires
 hear-requires c κs = (known c.before).0
@@ -87,15 +87,15 @@ returns-2 c =
     let h = c.before.before.before.before in
     let e = h.before.before in
     let b = (lent e).args.byte in
-    byte-taken (block e) b (memory e) (buffer e) _ _ _ _ (fine e)
-    (quiet-turned (block e) b (memory e) (known e).0 (small e) (byte_small (lent e)) (known e).1 h.hear.result h.hear.new.0 h.hear.auto.0 h.hear.ensures c.enum_told.given.1 (buffer e))
+    byte_taken (block e) b (memory e) (buffer e) _ _ _ _ (fine e)
+    (quiet_turned (block e) b (memory e) (known e).0 (small e) (byte_small (lent e)) (known e).1 h.hear.result h.hear.new.0 h.hear.auto.0 h.hear.ensures c.enum_told.given.1 (buffer e))
 
 respond-requires : tie.Need-respond-requires
 respond-requires c κs =
     let m = c.before.before.before.before in
     let h = m.before.before.before.before in
     let e = h.before.before in
-    answer-lent (block e) (lent e).args.byte (memory e) (known e).0 (small e) (byte_small (lent e)) (known e).1 h.hear.result h.hear.new.0 h.hear.auto.0 h.hear.ensures m.heard.given.0.0 m.heard.given.1 (buffer e) (known e).2
+    answer_lent (block e) (lent e).args.byte (memory e) (known e).0 (small e) (byte_small (lent e)) (known e).1 h.hear.result h.hear.new.0 h.hear.auto.0 h.hear.ensures m.heard.given.0.0 m.heard.given.1 (buffer e) (known e).2
 
 same-length-7 : tie.Need-same-length-7
 same-length-7 c = search rules
@@ -114,8 +114,8 @@ returns-3 c =
     let h = known-state.before.before in
     let e = h.before.before in
     let b = (lent e).args.byte in
-    byte-taken (block e) b (memory e) (buffer e) _ _ _ _ (fine e)
-    (message-turned (block e) b (memory e) (known e).0 (small e) (byte_small (lent e)) (known e).1 h.hear.result h.hear.new.0 h.hear.auto.0 h.hear.ensures m.heard.given.0.0 m.heard.given.1
+    byte_taken (block e) b (memory e) (buffer e) _ _ _ _ (fine e)
+    (message_turned (block e) b (memory e) (known e).0 (small e) (byte_small (lent e)) (known e).1 h.hear.result h.hear.new.0 h.hear.auto.0 h.hear.ensures m.heard.given.0.0 m.heard.given.1
     (buffer e) _ _ _ _ (λ i. (known-state.slice-known4.given i).fits) r.respond.ensures)
 
 pub byte-spec : {M : Type 1} → statement M

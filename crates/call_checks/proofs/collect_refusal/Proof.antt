@@ -2,8 +2,8 @@
 use mathlib.Core.Path.{sym, ◌∙◌}
 use borrow.Author.Tests.{not-true, not-false}
 use borrow.Author.Rules.{rules}
-use Rattle.call_checks.proofs.ApplicationNumbers.{collect-outside, collect-short, collect-fine}
-use Rattle.call_checks.specs.Promises.{blockSound}
+use Rattle.call_checks.proofs.ApplicationNumbers.{collect_outside, collect_short, collect_fine}
+use Rattle.call_checks.specs.Promises.{block_sound}
 use Rattle.call_checks.proofs.collect_refusal.Statement.{statement}
 use Rattle.call_checks.proofs.collect_refusal.Tie as tie
 
@@ -13,17 +13,17 @@ is-sound-requires c κs = search rules
 returns : tie.Need-returns
 returns c =
     let args = c.before.before.before.before.args in
-    collect-outside (blockSound args.state.now) args.out.now (sym c.before.is-sound.ensures ∙ not-true _ c.if1.true)
+    collect_outside (block_sound args.state.now) args.out.now (sym c.before.is-sound.ensures ∙ not-true _ c.if1.true)
 
 returns-2 : tie.Need-returns-2
 returns-2 c =
     let args = c.before.before.before.before.before.args in
-    collect-short (blockSound args.state.now) args.out.now (sym c.before.before.is-sound.ensures ∙ not-false _ c.before.if1.false) c.if2.true
+    collect_short (block_sound args.state.now) args.out.now (sym c.before.before.is-sound.ensures ∙ not-false _ c.before.if1.false) c.if2.true
 
 returns-3 : tie.Need-returns-3
 returns-3 c =
     let args = c.before.before.before.before.before.args in
-    collect-fine (blockSound args.state.now) args.out.now (sym c.before.before.is-sound.ensures ∙ not-false _ c.before.if1.false) c.if2.false
+    collect_fine (block_sound args.state.now) args.out.now (sym c.before.before.is-sound.ensures ∙ not-false _ c.before.if1.false) c.if2.false
 
 pub collect-refusal-spec : {M : Type 1} → statement M
 collect-refusal-spec = tie.close (tie.spec is-sound-requires returns returns-2 returns-3)

@@ -4,8 +4,8 @@ use Prim.Native.Nat.{◌≤◌}
 use lib.ListN.{length}
 use borrow.Author.Rules.{rules}
 use borrow.Author.Tests.{not-true, not-false, leb-true, leb-false}
-use Rattle.state_block.specs.Places.{stateLength}
-use Rattle.call_checks.proofs.Settled.{too_short, long-decides}
+use Rattle.state_block.specs.Places.{state_length}
+use Rattle.call_checks.proofs.Settled.{too_short, long_decides}
 use Rattle.call_checks.proofs.is_sound.Statement.{statement}
 use Rattle.call_checks.proofs.is_sound.Tie as tie
 
@@ -16,11 +16,11 @@ returns : tie.Need-returns
 returns c =
     let asked = c.before in
     let block = asked.before.before.args.state.now in
-    too_short block (leb-false stateLength (length block) (sym asked.is-long-enough.ensures ∙ not-true _ c.if1.true))
+    too_short block (leb-false state_length (length block) (sym asked.is-long-enough.ensures ∙ not-true _ c.if1.true))
 
-long : (e : tie.Else1) → stateLength ≤ length e.before.before.before.args.state.now
+long : (e : tie.Else1) → state_length ≤ length e.before.before.before.args.state.now
 long e =
-    leb-true stateLength (length e.before.before.before.args.state.now)
+    leb-true state_length (length e.before.before.before.args.state.now)
     (sym e.before.is-long-enough.ensures ∙ not-false _ e.if1.false)
 
 is-sound-requires : tie.Need-is-sound-requires
@@ -29,7 +29,7 @@ is-sound-requires c κs = long c
 returns-2 : tie.Need-returns-2
 returns-2 c =
     let block = c.before.before.before.before.args.state.now in
-    long-decides block (long c.before) c.is-sound.result c.is-sound.ensures
+    long_decides block (long c.before) c.is-sound.result c.is-sound.ensures
 
 pub is-sound-spec : {M : Type 1} → statement M
 is-sound-spec =

@@ -5,8 +5,8 @@ use Prim.Native.Nat.{ℕ, ◌≤◌}
 use lib.ListN.{length}
 use borrow.Author.Rules.{rules}
 use borrow.Author.Tests.{not-true, not-false, leb-true, leb-false}
-use Rattle.state_block.specs.Places.{stateLength}
-use Rattle.call_checks.proofs.Settled.{reset-refused, reset-done}
+use Rattle.state_block.specs.Places.{state_length}
+use Rattle.call_checks.proofs.Settled.{reset_refused, reset_done}
 use Rattle.call_checks.proofs.reset.Statement.{statement}
 use Rattle.call_checks.proofs.reset.Tie as tie
 
@@ -25,11 +25,11 @@ returns : tie.Need-returns
 returns c =
     let asked = c.before in
     let l = block asked in
-    reset-refused l (leb-false stateLength (length l) (sym asked.is-long-enough.ensures ∙ not-true _ c.if1.true))
+    reset_refused l (leb-false state_length (length l) (sym asked.is-long-enough.ensures ∙ not-true _ c.if1.true))
 
-long : (e : tie.Else1) → stateLength ≤ length (block e.before)
+long : (e : tie.Else1) → state_length ≤ length (block e.before)
 long e =
-    leb-true stateLength (length (block e.before)) (sym e.before.is-long-enough.ensures ∙ not-false _ e.if1.false)
+    leb-true state_length (length (block e.before)) (sym e.before.is-long-enough.ensures ∙ not-false _ e.if1.false)
 
 reset-requires : tie.Need-reset-requires
 reset-requires c κs = long c.before
@@ -41,7 +41,7 @@ returns-2 : tie.Need-returns-2
 returns-2 c =
     let done = c.before.before in
     let e = done.before.before in
-    reset-done (block e.before) (long e) done.reset.new.0 done.reset.ensures
+    reset_done (block e.before) (long e) done.reset.new.0 done.reset.ensures
 
 pub reset-spec : {M : Type 1} → statement M
 reset-spec = tie.close (tie.spec is-long-enough-requires same_length returns reset-requires same-length-2 returns-2)

@@ -5,9 +5,9 @@ use mathlib.Core.Path.{◌≡◌, sym, ◌∙◌}
 use Prim.Native.Nat.{ℕ}
 use native.Mathlib.Omega.{arith}
 use borrow.Author.Rules.{rules}
-use Rattle.document.specs.Frames.{isSilenced}
+use Rattle.document.specs.Frames.{is_silenced}
 use Rattle.call_modbus.proofs.Answers.{Right, lent-right, refused, silent, answered}
-use Rattle.call_modbus.proofs.Responses.{room-left}
+use Rattle.call_modbus.proofs.Responses.{room_left}
 use Rattle.modbus_frames.proofs.Silenced.{heard}
 use Rattle.call_modbus.proofs.answer.Statement.{statement}
 use Rattle.call_modbus.proofs.answer.Tie as tie
@@ -74,7 +74,7 @@ module _ (e : tie.Else2) where
   abbrev kept : tie.Else1
   kept = e.before.before
 
-  loud : isSilenced (station kept) (frame kept) ≡ false
+  loud : is_silenced (station kept) (frame kept) ≡ false
   loud = sym e.before.is-silenced.ensures ∙ e.if2.left
 
 respond-requires : tie.Need-respond-requires
@@ -88,7 +88,7 @@ seal-requires : tie.Need-seal-requires
 seal-requires c κs =
     let r = c.before.before.before.before.before in
     let k = kept r.before.before.before in
-    room-left (frame k) (memory k) (out k) _ _ _ (right k).room r.respond.ensures
+    room_left (frame k) (memory k) (out k) _ _ _ (right k).room r.respond.ensures
 
 same-length-5 : tie.Need-same-length-5
 same-length-5 c = search rules

@@ -2,7 +2,7 @@
 use mathlib.Core.Path.{◌≡◌, sym, ◌∙◌}
 use borrow.Author.Rules.{rules}
 use Rattle.document.specs.Numbers.{done}
-use Rattle.document.specs.Modbus.{exceptionTo}
+use Rattle.document.specs.Modbus.{exception_to}
 use Rattle.call_modbus.proofs.Responses.{excepted, served}
 use Rattle.call_modbus.proofs.respond.Statement.{statement}
 use Rattle.call_modbus.proofs.respond.Tie as tie
@@ -35,19 +35,19 @@ returns c =
 
 -- ---- there is none
 
-no-exception : (e : tie.Else1) → exceptionTo e.before.before.Function-of.result (begun e.before).args.frame.now (begun e.before).args.memory.now ≡ done
-no-exception e = sym (e.before.exception-to.ensures (begun e.before).args.memory.now) ∙ e.if1.false
+no_exception : (e : tie.Else1) → exception_to e.before.before.Function-of.result (begun e.before).args.frame.now (begun e.before).args.memory.now ≡ done
+no_exception e = sym (e.before.exception-to.ensures (begun e.before).args.memory.now) ∙ e.if1.false
 
 tell-requires : tie.Need-tell-requires
 tell-requires c κs =
     let e = c.before.before in
     let s = begun e.before in
-    (no-exception e, s.pre.2, s.pre.3)
+    (no_exception e, s.pre.2, s.pre.3)
 
 carry-out-requires : tie.Need-carry-out-requires
 carry-out-requires c κs =
     let e = c.before.before.before.before.before.before in
-    (no-exception e, (begun e.before).requires.2)
+    (no_exception e, (begun e.before).requires.2)
 
 same-length-2 : tie.Need-same-length-2
 same-length-2 c = search rules

@@ -6,13 +6,13 @@ use Prim.Native.Nat.{ℕ}
 use borrow.Author.Tests.{eq-eqb, ne_eqb}
 use borrow.Author.Rules.{rules}
 use Rattle.document.specs.Numbers.{done}
-use Rattle.document.specs.Recorder.{isRunning}
-use Rattle.recorder_state.specs.State.{recorderOf}
+use Rattle.document.specs.Recorder.{is_running}
+use Rattle.recorder_state.specs.State.{recorder_of}
 use Rattle.recorder_state.proofs.Answers.{taken-body}
-use Rattle.state_block.specs.Layout.{decodedRecorder}
-use Rattle.state_block.proofs.Stored.{same-instruments}
-use Rattle.call_panel.specs.Promises.{givenStatus}
-use Rattle.call_panel.proofs.Told.{given-taken}
+use Rattle.state_block.specs.Layout.{decoded_recorder}
+use Rattle.state_block.proofs.Stored.{same_instruments}
+use Rattle.call_panel.specs.Promises.{given_status}
+use Rattle.call_panel.proofs.Told.{given_taken}
 use Rattle.call_panel.proofs.prepare_within.Statement.{statement}
 use Rattle.call_panel.proofs.prepare_within.Tie as tie
 
@@ -40,18 +40,18 @@ returns : tie.Need-returns
 returns c =
     let asked = c.before in
     let l = block asked in
-    let refused = ne_eqb (givenStatus (recorderOf (decodedRecorder l)) (setup asked)) done (λ e. c.if1.true (asked.given-status.ensures ∙ e)) in
+    let refused = ne_eqb (given_status (recorder_of (decoded_recorder l)) (setup asked)) done (λ e. c.if1.true (asked.given-status.ensures ∙ e)) in
     record {
       said = asked.given-status.ensures;
-      state = rw refused (sym (same-instruments l (begun asked).requires (λ i. ((known asked).slice-known.given i).fits)));
+      state = rw refused (sym (same_instruments l (begun asked).requires (λ i. ((known asked).slice-known.given i).fits)));
     }
 
 store-given-requires : tie.Need-store-given-requires
 store-given-requires c κs =
     let right = c.before in
     let asked = right.before in
-    let r = decodedRecorder (block asked) in
-    ((begun asked).requires, taken-body (isRunning (recorderOf r)) false (setup asked) (given-taken r (setup asked) (sym asked.given-status.ensures ∙ right.if1.false)))
+    let r = decoded_recorder (block asked) in
+    ((begun asked).requires, taken-body (is_running (recorder_of r)) false (setup asked) (given_taken r (setup asked) (sym asked.given-status.ensures ∙ right.if1.false)))
 
 same-length-2 : tie.Need-same-length-2
 same-length-2 c = search rules
@@ -65,7 +65,7 @@ returns-2 c =
     let fine = sym right.if1.false ∙ asked.given-status.ensures in
     record {
       said = fine;
-      state = rw (eq-eqb (givenStatus (recorderOf (decodedRecorder l)) (setup asked)) done (sym fine)) stored.store_given.ensures;
+      state = rw (eq-eqb (given_status (recorder_of (decoded_recorder l)) (setup asked)) done (sym fine)) stored.store_given.ensures;
     }
 
 pub prepare-within-spec : {M : Type 1} → statement M

@@ -1,8 +1,8 @@
 -- Refused, nothing changes; else the recorder starts.
 use mathlib.Core.Path.{sym, ◌∙◌}
 use borrow.Author.Rules.{rules}
-use Rattle.call_checks.proofs.Settled.{panel-known}
-use Rattle.call_panel.proofs.Calls.{start-refused, start-taken}
+use Rattle.call_checks.proofs.Settled.{panel_known}
+use Rattle.call_panel.proofs.Calls.{start_refused, start_taken}
 use Rattle.call_panel.proofs.start.Statement.{statement}
 use Rattle.call_panel.proofs.start.Tie as tie
 
@@ -15,13 +15,13 @@ same_length c = search rules
 returns : tie.Need-returns
 returns c =
     let looked = c.before in
-    start-refused looked.before.before.before.args.state.now looked.check.result looked.check.ensures.result c.if1.true
+    start_refused looked.before.before.before.args.state.now looked.check.result looked.check.ensures.result c.if1.true
 
 start-requires : tie.Need-start-requires
 start-requires c κs =
     let free = c.before in
     let looked = free.before in
-    (panel-known looked.before.before.before.args.state.now (sym looked.check.ensures.result ∙ free.if1.false)).0
+    (panel_known looked.before.before.before.args.state.now (sym looked.check.ensures.result ∙ free.if1.false)).0
 
 same-length-2 : tie.Need-same-length-2
 same-length-2 c = search rules
@@ -34,7 +34,7 @@ returns-2 c =
     let known = looked.before.before in
     let block = known.before.args.state.now in
     let fine = sym looked.check.ensures.result ∙ free.if1.false in
-    start-taken block fine (panel-known block fine).0 (λ i. (known.slice-known.given i).fits) did.start.result _ did.start.ensures
+    start_taken block fine (panel_known block fine).0 (λ i. (known.slice-known.given i).fits) did.start.result _ did.start.ensures
 
 pub start_spec : {M : Type 1} → statement M
 start_spec =

@@ -5,10 +5,10 @@ use native.Mathlib.Omega.{arith}
 use borrow.Author.Rules.{rules}
 use lib.ListN.{length}
 use lib.Seq.{sets}
-use Rattle.state_byte.specs.Quiet.{passedReceiver}
-use Rattle.state_block.specs.Places.{bodyPlace}
-use Rattle.state_block.specs.Layout.{encodedReceiver}
-use Rattle.state_block.proofs.Stored.{data-stored}
+use Rattle.state_byte.specs.Quiet.{passed_receiver}
+use Rattle.state_block.specs.Places.{body_place}
+use Rattle.state_block.specs.Layout.{encoded_receiver}
+use Rattle.state_block.proofs.Stored.{data_stored}
 use Rattle.call_quiet.proofs.keep_run.Statement.{statement}
 use Rattle.call_quiet.proofs.keep_run.Tie as tie
 
@@ -44,12 +44,12 @@ returns c =
     let sum = put.before.before in
     let s = sum.before.before.before.before in
     let a = s.args in
-    let next = passedReceiver a.head a.run.now in
-    let stored : put.put-receiver.new.0 ≡ sets a.state.now 0 (encodedReceiver next) =
-    put.put-receiver.ensures ∙ (λ i. sets a.state.now 0 (encodedReceiver (record { waiting = 0; phase = 2; command = a.head.command; length = a.head.length; have = a.head.have + length a.run.now; sum = sum.summed.ensures i }))) in
+    let next = passed_receiver a.head a.run.now in
+    let stored : put.put-receiver.new.0 ≡ sets a.state.now 0 (encoded_receiver next) =
+    put.put-receiver.ensures ∙ (λ i. sets a.state.now 0 (encoded_receiver (record { waiting = 0; phase = 2; command = a.head.command; length = a.head.length; have = a.head.have + length a.run.now; sum = sum.summed.ensures i }))) in
     copied.copy-in.ensures
-    ∙ (λ i. sets (stored i) (bodyPlace + wide.usize-of-u8.ensures.0 i) a.run.now)
-    ∙ data-stored a.state.now s.requires.0 (λ i. (sum.before.before.before.slice-known.given i).fits) next a.head.have a.run.now (omega (arith, s.requires.1))
+    ∙ (λ i. sets (stored i) (body_place + wide.usize-of-u8.ensures.0 i) a.run.now)
+    ∙ data_stored a.state.now s.requires.0 (λ i. (sum.before.before.before.slice-known.given i).fits) next a.head.have a.run.now (omega (arith, s.requires.1))
 
 pub keep-run-spec : {M : Type 1} → statement M
 keep-run-spec =

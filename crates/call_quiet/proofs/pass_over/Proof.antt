@@ -7,13 +7,13 @@ use borrow.Author.Rules.{rules}
 use lib.ListN.{length, get_or, take, drop, length-drop}
 use lib.Seq.{sets}
 use Rattle.line_receiver.specs.declared.Receiver.{Receiver}
-use Rattle.line_receiver.specs.Bounds.{dataNext}
+use Rattle.line_receiver.specs.Bounds.{data_next}
 use Rattle.state_parts.specs.State.{Target}
 use Rattle.state_parts.proofs.ByteLaws.{take_short}
-use Rattle.state_byte.specs.Quiet.{plainAhead, lastKept, dataAhead, passedOver, passed_by}
-use Rattle.state_block.specs.Layout.{decodedReceiver, decoded, encoded}
-use Rattle.call_quiet.specs.Passed.{keptRun, Passed}
-use Rattle.call_quiet.proofs.Over.{ahead-cut, over-waiting, over-idle, over-other, over-data, by-none, by-idle, by-data, same-state, kept-most, run_fits}
+use Rattle.state_byte.specs.Quiet.{plain_ahead, last_kept, data_ahead, passed_over, passed_by}
+use Rattle.state_block.specs.Layout.{decoded_receiver, decoded, encoded}
+use Rattle.call_quiet.specs.Passed.{kept_run, Passed}
+use Rattle.call_quiet.proofs.Over.{ahead_cut, over_waiting, over_idle, over_other, over_data, by_none, by_idle, by_data, same_state, kept_most, run_fits}
 use Rattle.call_quiet.proofs.pass_over.Statement.{statement}
 use Rattle.call_quiet.proofs.pass_over.Tie as tie
 
@@ -31,17 +31,17 @@ module _ (r : tie.After-receiver-in) where
   abbrev rest : List ℕ
   rest = drop begun.args.from begun.args.bytes.now
 
-  is : r.receiver-in.result ≡ decodedReceiver block
+  is : r.receiver-in.result ≡ decoded_receiver block
   is = r.receiver-in.ensures
 
   small : (i : ℕ) → get_or block i 0 < 256
   small i = (r.before.before.before.slice-known.given i).fits
 
   kept : passed_by (decoded block) rest ≡ decoded block → block ≡ sets block 0 (encoded (passed_by (decoded block) rest))
-  kept e = same-state block begun.pre.0 small (passed_by (decoded block) rest) e
+  kept e = same_state block begun.pre.0 small (passed_by (decoded block) rest) e
 
-  nothing : passedOver (decoded block) rest ≡ 0 → Passed block begun.args.bytes.now begun.args.from begun.args.from block
-  nothing e = record { place = omega (arith, e); state = kept (by-none (decoded block) rest e) }
+  nothing : passed_over (decoded block) rest ≡ 0 → Passed block begun.args.bytes.now begun.args.from begun.args.from block
+  nothing e = record { place = omega (arith, e); state = kept (by_none (decoded block) rest e) }
 
 same_length : tie.Need-same-length
 same_length c = search rules
@@ -49,7 +49,7 @@ same_length c = search rules
 returns : tie.Need-returns
 returns c =
     let r = c.before.before in
-    nothing r (over-waiting (decoded (block r)) (rest r) (λ e. c.if1.true (ap (λ (h : Receiver). h.waiting) (is r) ∙ e)))
+    nothing r (over_waiting (decoded (block r)) (rest r) (λ e. c.if1.true (ap (λ (h : Receiver). h.waiting) (is r) ∙ e)))
 
 plain-end-requires : tie.Need-plain-end-requires
 plain-end-requires c κs = search rules
@@ -59,10 +59,10 @@ module _ (e : tie.Else1) where
   abbrev looked : tie.After-receiver-in
   looked = e.before.before
 
-  calm : (decodedReceiver (block looked)).waiting ≡ 0
+  calm : (decoded_receiver (block looked)).waiting ≡ 0
   calm = sym (ap (λ (h : Receiver). h.waiting) (is looked)) ∙ e.if1.left
 
-  phase : looked.receiver-in.result.phase ≡ (decodedReceiver (block looked)).phase
+  phase : looked.receiver-in.result.phase ≡ (decoded_receiver (block looked)).phase
   phase = ap (λ (h : Receiver). h.phase) (is looked)
 
 same-length-2 : tie.Need-same-length-2
@@ -78,8 +78,8 @@ returns-2 c =
     record {
       place =
           c.plain-end.ensures.0
-          ∙ ap (λ (n : ℕ). (begun r).args.from + n) (ap (λ (n : ℕ). plainAhead n (rest r)) all ∙ sym (over-idle (decoded (block r)) (rest r) (calm e) outside));
-      state = kept r (by-idle (decoded (block r)) (rest r) outside);
+          ∙ ap (λ (n : ℕ). (begun r).args.from + n) (ap (λ (n : ℕ). plain_ahead n (rest r)) all ∙ sym (over_idle (decoded (block r)) (rest r) (calm e) outside));
+      state = kept r (by_idle (decoded (block r)) (rest r) outside);
     }
 
 -- ---- inside a message
@@ -87,7 +87,7 @@ module _ (f : tie.Else2) where
   abbrev quiet : tie.Else1
   quiet = f.before.before
 
-  inside : (decodedReceiver (block (looked quiet))).phase ≡ 0 → ⊥
+  inside : (decoded_receiver (block (looked quiet))).phase ≡ 0 → ⊥
   inside o = f.if2.left (phase quiet ∙ o)
 
 same-length-3 : tie.Need-same-length-3
@@ -97,7 +97,7 @@ returns-3 : tie.Need-returns-3
 returns-3 c =
     let f = c.before.before in
     let r = looked (quiet f) in
-    nothing r (over-other (decoded (block r)) (rest r) (calm (quiet f)) (inside f) (λ d. c.if3.true (phase (quiet f) ∙ d)))
+    nothing r (over_other (decoded (block r)) (rest r) (calm (quiet f)) (inside f) (λ d. c.if3.true (phase (quiet f) ∙ d)))
 
 sub-data-ahead : tie.Need-overflow-sub-data-ahead
 sub-data-ahead c = search rules
@@ -122,22 +122,22 @@ module _ (p : tie.After-plain-end2) where
   abbrev asked : tie.After-receiver-in
   asked = looked (quiet within)
 
-  in-data : (decodedReceiver (block asked)).phase ≡ dataNext
+  in-data : (decoded_receiver (block asked)).phase ≡ data_next
   in-data = sym (phase (quiet within)) ∙ ahead.before.if3.left
 
-  passed : passedOver (decoded (block asked)) (rest asked) ≡ p.plain-end2.result - (begun asked).args.from
+  passed : passed_over (decoded (block asked)) (rest asked) ≡ p.plain-end2.result - (begun asked).args.from
   passed =
       let a = (begun asked).args in
       let head = asked.receiver-in.result in
       let n = ahead.data-ahead.result in
-      let most : n ≤ dataAhead head = ahead.data-ahead.ensures.1 in
-      let cut : n < dataAhead head → n ≡ length (rest asked) = λ less. ahead.data-ahead.ensures.2 less ∙ sym (length-drop a.from a.bytes.now) in
+      let most : n ≤ data_ahead head = ahead.data-ahead.ensures.1 in
+      let cut : n < data_ahead head → n ≡ length (rest asked) = λ less. ahead.data-ahead.ensures.2 less ∙ sym (length-drop a.from a.bytes.now) in
       let m : a.from + n - a.from ≡ n = omega arith in
-      let plain : plainAhead (a.from + n - a.from) (rest asked) ≡ plainAhead n (rest asked) = ap (λ (k : ℕ). plainAhead k (rest asked)) m in
-      let ended : plainAhead n (rest asked) ≡ p.plain-end2.result - a.from = omega (arith, plain, p.plain-end2.ensures.0) in
-      over-data (decoded (block asked)) (rest asked) (calm (quiet within)) (inside within) in-data
-      ∙ ap (λ (h : Receiver). plainAhead (dataAhead h) (rest asked)) (sym (is asked))
-      ∙ sym (ahead-cut (rest asked) n (dataAhead head) most cut)
+      let plain : plain_ahead (a.from + n - a.from) (rest asked) ≡ plain_ahead n (rest asked) = ap (λ (k : ℕ). plain_ahead k (rest asked)) m in
+      let ended : plain_ahead n (rest asked) ≡ p.plain-end2.result - a.from = omega (arith, plain, p.plain-end2.ensures.0) in
+      over_data (decoded (block asked)) (rest asked) (calm (quiet within)) (inside within) in-data
+      ∙ ap (λ (h : Receiver). plain_ahead (data_ahead h) (rest asked)) (sym (is asked))
+      ∙ sym (ahead_cut (rest asked) n (data_ahead head) most cut)
       ∙ ended
 
 from-below : (p : tie.After-plain-end2) → (begun (asked p)).args.from ≤ p.plain-end2.result
@@ -171,7 +171,7 @@ keep-run-requires c κs =
     let from = (begun (asked p)).args.from in
     let end = p.plain-end2.result in
     let short : length (take (end - from) (rest (asked p))) ≤ end - from = take_short (end - from) (rest (asked p)) in
-    let room = run_fits head.have (lastKept head.length) (ahead p).data-ahead.result from end (ahead p).data-ahead.ensures.1 (kept-most head.length) (from-below p) p.plain-end2.ensures.1 e.if4.false in
+    let room = run_fits head.have (last_kept head.length) (ahead p).data-ahead.result from end (ahead p).data-ahead.ensures.1 (kept_most head.length) (from-below p) p.plain-end2.ensures.1 e.if4.false in
     ((begun (asked p)).pre.0, within-run head.have (length (take (end - from) (rest (asked p)))) (end - from) short room)
 
 same-length-5 : tie.Need-same-length-5
@@ -184,13 +184,13 @@ returns-5 c =
     let p = e.before in
     let r = asked p in
     let t = decoded (block r) in
-    let some : passedOver t (rest r) ≡ 0 → ⊥ = λ z. e.if4.false (omega (arith, z, passed p, p.plain-end2.ensures.0)) in
+    let some : passed_over t (rest r) ≡ 0 → ⊥ = λ z. e.if4.false (omega (arith, z, passed p, p.plain-end2.ensures.0)) in
     record {
       place = omega (arith, passed p, p.plain-end2.ensures.0);
       state =
           k.keep_run.ensures
-          ∙ (λ i. sets (block r) 0 (encoded (keptRun t (is r i) (take (sym (passed p) i) (rest r)))))
-          ∙ ap (λ (s : Target). sets (block r) 0 (encoded s)) (sym (by-data t (rest r) (in-data p) some));
+          ∙ (λ i. sets (block r) 0 (encoded (kept_run t (is r i) (take (sym (passed p) i) (rest r)))))
+          ∙ ap (λ (s : Target). sets (block r) 0 (encoded s)) (sym (by_data t (rest r) (in-data p) some));
     }
 
 pub pass-over-spec : {M : Type 1} → statement M

@@ -4,14 +4,14 @@ use Prim.Native.Nat.{◌+◌, ◌-◌, ◌≤◌}
 use native.Mathlib.Omega.{arith}
 use borrow.Author.Rules.{rules}
 use lib.ListN.{drop}
-use Rattle.state_byte.specs.Quiet.{plainAhead}
-use Rattle.call_quiet.proofs.Ahead.{ahead-plus, ahead-other, ahead-end}
+use Rattle.state_byte.specs.Quiet.{plain_ahead}
+use Rattle.call_quiet.proofs.Ahead.{ahead_plus, ahead_other, ahead_end}
 use Rattle.call_quiet.proofs.plain_end.Statement.{statement}
 use Rattle.call_quiet.proofs.plain_end.Tie as tie
 
 abbrev invariant-loop : tie.invariant-loop
 invariant-loop bytes from end i₀ i =
-    (from ≤ i) × (i ≤ end) × (i + plainAhead (end - i) (drop i bytes) ≡ from + plainAhead (end - from) (drop from bytes))
+    (from ≤ i) × (i ≤ end) × (i + plain_ahead (end - i) (drop i bytes) ≡ from + plain_ahead (end - from) (drop from bytes))
 
 abbrev decreases-loop : tie.decreases-loop
 decreases-loop bytes from end i₀ i = end - i
@@ -26,7 +26,7 @@ returns : tie.Need-returns invariant-loop decreases-loop
 returns c =
     let l = c.before.before.before.loop in
     let a = c.before.before.before.before.args in
-    (omega (arith, l.invariant.2, ahead-plus a.bytes.now l.i a.end (omega arith) (omega arith) c.if1.true), omega arith)
+    (omega (arith, l.invariant.2, ahead_plus a.bytes.now l.i a.end (omega arith) (omega arith) c.if1.true), omega arith)
 
 add-i : tie.Need-overflow-add-i invariant-loop decreases-loop
 add-i c = search rules
@@ -38,13 +38,13 @@ loop-again : tie.Need-loop-preserved invariant-loop decreases-loop
 loop-again c =
     let l = c.before.before.before.loop in
     let a = c.before.before.before.before.args in
-    (omega arith, omega arith, omega (arith, l.invariant.2, ahead-other a.bytes.now l.i a.end (omega arith) (omega arith) c.if1.false))
+    (omega arith, omega arith, omega (arith, l.invariant.2, ahead_other a.bytes.now l.i a.end (omega arith) (omega arith) c.if1.false))
 
 returns-2 : tie.Need-returns-2 invariant-loop decreases-loop
 returns-2 c =
     let l = c.before.loop in
     let a = c.before.before.args in
-    (omega (arith, l.invariant.2, ahead-end a.bytes.now l.i a.end (omega arith)), omega arith)
+    (omega (arith, l.invariant.2, ahead_end a.bytes.now l.i a.end (omega arith)), omega arith)
 
 pub plain-end-spec : {M : Type 1} → statement M
 plain-end-spec =

@@ -5,7 +5,7 @@ use native.Mathlib.Omega.{arith}
 use borrow.Author.Rules.{rules}
 use lib.ListN.{length, drop, drop_of_length-le}
 use Rattle.document.specs.Sum.{total}
-use Rattle.line_wire.proofs.Stuffed.{total-drop}
+use Rattle.line_wire.proofs.Stuffed.{total_drop}
 use Rattle.call_quiet.proofs.summed.Statement.{statement}
 use Rattle.call_quiet.proofs.summed.Tie as tie
 
@@ -35,7 +35,7 @@ loop-again : tie.Need-loop-preserved invariant-loop decreases-loop
 loop-again c =
     let l = c.before.before.before.loop in
     let bytes = c.before.before.before.before.before.args.bytes.now in
-    (omega arith, omega arith, omega (arith, l.invariant.2, c.added.ensures, total-drop bytes l.i (omega arith)))
+    (omega arith, omega arith, omega (arith, l.invariant.2, c.added.ensures, total_drop bytes l.i (omega arith)))
 
 returns : tie.Need-returns invariant-loop decreases-loop
 returns c =

@@ -1,6 +1,6 @@
 -- Refused, the block stays; else it is reset with the list.
 use mathlib.Core.Path.{sym, ◌∙◌}
-use Rattle.call_register.proofs.Registered.{taken-good, good-few, register-refused, register-taken}
+use Rattle.call_register.proofs.Registered.{taken_good, good_few, register_refused, register_taken}
 use borrow.Author.Rules.{rules}
 use Rattle.call_register.proofs.register.Statement.{statement}
 use Rattle.call_register.proofs.register.Tie as tie
@@ -15,15 +15,15 @@ returns : tie.Need-returns
 returns c =
     let asked = c.before in
     let s = asked.before.before.before.before.before in
-    register-refused s.args.state.now s.args.memory.now s.args.list.now asked.register-refusal.result asked.register-refusal.ensures c.if1.true
+    register_refused s.args.state.now s.args.memory.now s.args.list.now asked.register-refusal.result asked.register-refusal.ensures c.if1.true
 
 reset-with-requires : tie.Need-reset-with-requires
 reset-with-requires c κs =
     let e = c.before in
     let asked = e.before in
     let s = asked.before.before.before.before.before in
-    let known = taken-good s.args.state.now s.args.memory.now s.args.list.now (sym asked.register-refusal.ensures ∙ e.if1.false) in
-    (known.long, good-few s.args.memory.now s.args.list.now known.good)
+    let known = taken_good s.args.state.now s.args.memory.now s.args.list.now (sym asked.register-refusal.ensures ∙ e.if1.false) in
+    (known.long, good_few s.args.memory.now s.args.list.now known.good)
 
 same-length-2 : tie.Need-same-length-2
 same-length-2 c = search rules
@@ -34,7 +34,7 @@ returns-2 c =
     let e = put.before.before in
     let asked = e.before in
     let s = asked.before.before.before.before.before in
-    register-taken s.args.state.now s.args.memory.now s.args.list.now (sym asked.register-refusal.ensures ∙ e.if1.false) _ put.reset-with.ensures
+    register_taken s.args.state.now s.args.memory.now s.args.list.now (sym asked.register-refusal.ensures ∙ e.if1.false) _ put.reset-with.ensures
 
 pub register-spec : {M : Type 1} → statement M
 register-spec =

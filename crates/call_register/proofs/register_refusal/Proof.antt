@@ -4,8 +4,8 @@ use mathlib.Core.List.{List}
 use Prim.Native.Nat.{ℕ, ◌≤◌}
 use lib.ListN.{length}
 use borrow.Author.Tests.{not-true, not-false, leb-true, leb-false}
-use Rattle.state_block.specs.Places.{stateLength}
-use Rattle.call_register.proofs.Registered.{too_short, other-memory, good-list, bad-list}
+use Rattle.state_block.specs.Places.{state_length}
+use Rattle.call_register.proofs.Registered.{too_short, other_memory, good_list, bad_list}
 use borrow.Author.Rules.{rules}
 use Rattle.call_register.proofs.register_refusal.Statement.{statement}
 use Rattle.call_register.proofs.register_refusal.Tie as tie
@@ -31,17 +31,17 @@ returns : tie.Need-returns
 returns c =
     let a = c.before in
     too_short (block a) (memory a) (list a)
-    (leb-false stateLength (length (block a)) (sym a.is-long-enough.ensures ∙ not-true _ c.if1.true))
+    (leb-false state_length (length (block a)) (sym a.is-long-enough.ensures ∙ not-true _ c.if1.true))
 
-long : (e : tie.Else1) → stateLength ≤ length (block e.before)
+long : (e : tie.Else1) → state_length ≤ length (block e.before)
 long e =
-    leb-true stateLength (length (block e.before)) (sym e.before.is-long-enough.ensures ∙ not-false _ e.if1.false)
+    leb-true state_length (length (block e.before)) (sym e.before.is-long-enough.ensures ∙ not-false _ e.if1.false)
 
 returns-2 : tie.Need-returns-2
 returns-2 c =
     let e = c.before in
     let a = e.before in
-    other-memory (block a) (memory a) (list a) (long e) c.if2.true
+    other_memory (block a) (memory a) (list a) (long e) c.if2.true
 
 is-list-good-requires : tie.Need-is-list-good-requires
 is-list-good-requires c κs = search rules
@@ -52,7 +52,7 @@ returns-3 c =
     let right = looked.before in
     let e = right.before in
     let a = e.before in
-    good-list (block a) (memory a) (list a) (long e) right.if2.false (sym looked.is-list-good.ensures ∙ c.if3.true)
+    good_list (block a) (memory a) (list a) (long e) right.if2.false (sym looked.is-list-good.ensures ∙ c.if3.true)
 
 returns-4 : tie.Need-returns-4
 returns-4 c =
@@ -60,7 +60,7 @@ returns-4 c =
     let right = looked.before in
     let e = right.before in
     let a = e.before in
-    bad-list (block a) (memory a) (list a) (long e) right.if2.false (sym looked.is-list-good.ensures ∙ c.if3.false)
+    bad_list (block a) (memory a) (list a) (long e) right.if2.false (sym looked.is-list-good.ensures ∙ c.if3.false)
 
 pub register-refusal-spec : {M : Type 1} → statement M
 register-refusal-spec =

@@ -4,8 +4,8 @@ use mathlib.Core.List.{List}
 use Prim.Native.Nat.{ℕ, ◌+◌, ◌-◌, ◌/◌}
 use lib.ListN.{length, set, replicate}
 use lib.Seq.{sets}
-use Rattle.state_block.specs.Places.{tablesPlace, listPlace, stateLength}
-use Rattle.call_register.proofs.Registered.{reset-stored}
+use Rattle.state_block.specs.Places.{tables_place, list_place, state_length}
+use Rattle.call_register.proofs.Registered.{reset_stored}
 use native.Mathlib.Omega.{arith}
 use borrow.Author.Rules.{rules}
 use Rattle.call_register.proofs.reset_with.Statement.{statement}
@@ -44,12 +44,12 @@ returns c =
     let s = cleared.before.before.before.before in
     let block = s.args.state.now in
     let list = s.args.list.now in
-    let end : ℕ = listPlace + length list in
+    let end : ℕ = list_place + length list in
     last.clear2.ensures
-    ∙ ap (λ (l : List ℕ). sets l end (replicate {A = ℕ} (stateLength - end) 0))
+    ∙ ap (λ (l : List ℕ). sets l end (replicate {A = ℕ} (state_length - end) 0))
     (copied.copy-in.ensures
-    ∙ ap (λ (l : List ℕ). sets l listPlace list) (counted.put_byte.ensures ∙ ap (λ (l : List ℕ). set l tablesPlace (length list / 4)) cleared.clear.ensures))
-    ∙ reset-stored block list s.requires.1 (length list / 4) end (stateLength - end) refl refl refl
+    ∙ ap (λ (l : List ℕ). sets l list_place list) (counted.put_byte.ensures ∙ ap (λ (l : List ℕ). set l tables_place (length list / 4)) cleared.clear.ensures))
+    ∙ reset_stored block list s.requires.1 (length list / 4) end (state_length - end) refl refl refl
 
 pub reset-with-spec : {M : Type 1} → statement M
 reset-with-spec =

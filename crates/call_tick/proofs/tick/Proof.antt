@@ -1,10 +1,10 @@
 -- Refused, nothing changes; else the recorder ticks.
 use mathlib.Core.Path.{sym, ◌∙◌}
 use borrow.Author.Rules.{rules}
-use Rattle.call_checks.proofs.Numbers.{tick-known}
-use Rattle.call_checks.proofs.Settled.{block-known}
-use Rattle.call_tick.proofs.Ticks.{tick-refused, tick-taken}
-use Rattle.call_checks.specs.Promises.{blockSound}
+use Rattle.call_checks.proofs.Numbers.{tick_known}
+use Rattle.call_checks.proofs.Settled.{block_known}
+use Rattle.call_tick.proofs.Ticks.{tick_refused, tick_taken}
+use Rattle.call_checks.specs.Promises.{block_sound}
 use Rattle.call_tick.proofs.tick.Statement.{statement}
 use Rattle.call_tick.proofs.tick.Tie as tie
 
@@ -20,13 +20,13 @@ same-length-2 c = search rules
 returns : tie.Need-returns
 returns c =
     let args = c.before.before.before.before.before.before.args in
-    tick-refused args.state.now args.memory.now c.before.tick-refusal.result c.before.tick-refusal.ensures c.if1.true
+    tick_refused args.state.now args.memory.now c.before.tick-refusal.result c.before.tick-refusal.ensures c.if1.true
 
 tick-within-requires : tie.Need-tick-within-requires
 tick-within-requires c κs =
     let args = c.before.before.before.before.before.before.before.before.args in
     let tick-refusal = c.before.before.before.tick-refusal in
-    let known = tick-known (blockSound args.state.now) args.memory.now (sym tick-refusal.ensures ∙ c.before.before.if1.false) in ((block-known args.state.now known.0).0, (block-known args.state.now known.0).1, known.1)
+    let known = tick_known (block_sound args.state.now) args.memory.now (sym tick-refusal.ensures ∙ c.before.before.if1.false) in ((block_known args.state.now known.0).0, (block_known args.state.now known.0).1, known.1)
 
 same-length-3 : tie.Need-same-length-3
 same-length-3 c = search rules
@@ -40,7 +40,7 @@ returns-2 c =
     let tick-refusal = c.before.before.before.before.before.before.before.before.tick-refusal in
     let if1 = c.before.before.before.before.before.before.before.if1 in
     let tick-within = c.before.before.before.before.tick-within in
-    tick-taken args.state.now args.memory.now _ _ (sym tick-refusal.ensures ∙ if1.false) tick-within.ensures.state tick-within.ensures.memory-left
+    tick_taken args.state.now args.memory.now _ _ (sym tick-refusal.ensures ∙ if1.false) tick-within.ensures.state tick-within.ensures.memory_left
 
 pub tick-spec : {M : Type 1} → statement M
 tick-spec =

@@ -5,8 +5,8 @@ use Prim.Native.Nat.{ℕ, ◌<◌}
 use lib.ListN.{get_or}
 use borrow.Author.Rules.{rules}
 use Rattle.recorder_runs.specs.declared.run.Run.{Run}
-use Rattle.state_block.specs.Places.{recorderPlace}
-use Rattle.call_tick.proofs.Within.{absent-ticked, stopped-ticked, waiting-ticked, due-lent, due-ticked}
+use Rattle.state_block.specs.Places.{recorder_place}
+use Rattle.call_tick.proofs.Within.{absent_ticked, stopped_ticked, waiting_ticked, due_lent, due_ticked}
 use Rattle.call_tick.proofs.tick_within.Statement.{statement}
 use Rattle.call_tick.proofs.tick_within.Tie as tie
 
@@ -31,14 +31,14 @@ module _ (r : tie.After-run-in) where
   abbrev run : Run
   run = r.run_in.result
 
-  planned : get_or (block known) recorderPlace 0 ≡ 0 → ⊥
+  planned : get_or (block known) recorder_place 0 ≡ 0 → ⊥
   planned = r.before.before.if1.left
 
 slice-read-if1 : tie.Need-slice-read-if1
 slice-read-if1 c = search rules
 
 returns : tie.Need-returns
-returns c = absent-ticked (block c.before) (memory c.before) (begun c.before).pre.0 (small c.before) c.if1.true
+returns c = absent_ticked (block c.before) (memory c.before) (begun c.before).pre.0 (small c.before) c.if1.true
 
 run-in-requires : tie.Need-run-in-requires
 run-in-requires c κs = search rules
@@ -50,7 +50,7 @@ returns-2 : tie.Need-returns-2
 returns-2 c =
     let r = c.before.before in
     let k = known r in
-    stopped-ticked (block k) (memory k) (begun k).pre.0 (small k) (begun k).pre.1 (planned r) (run r) r.run_in.ensures c.if2.true
+    stopped_ticked (block k) (memory k) (begun k).pre.0 (small k) (begun k).pre.1 (planned r) (run r) r.run_in.ensures c.if2.true
 
 sub-put-word : tie.Need-overflow-sub-put-word
 sub-put-word c = search rules
@@ -68,7 +68,7 @@ returns-3 c =
     let goes = waits.before.before in
     let r = goes.before.before in
     let k = known r in
-    waiting-ticked (block k) (memory k) (begun k).pre.0 (small k) (begun k).pre.1 (planned r) (run r) r.run_in.ensures goes.if2.false waits.if3.true put.new.0 put.ensures
+    waiting_ticked (block k) (memory k) (begun k).pre.0 (small k) (begun k).pre.1 (planned r) (run r) r.run_in.ensures goes.if2.false waits.if3.true put.new.0 put.ensures
 
 take-requires : tie.Need-take-requires
 take-requires c κs =
@@ -76,7 +76,7 @@ take-requires c κs =
     let goes = due.before.before in
     let r = goes.before.before in
     let k = known r in
-    due-lent (block k) (memory k) (begun k).pre.0 (small k) (begun k).pre.1 (planned r) (run r) r.run_in.ensures goes.if2.false (begun k).pre.2
+    due_lent (block k) (memory k) (begun k).pre.0 (small k) (begun k).pre.1 (planned r) (run r) r.run_in.ensures goes.if2.false (begun k).pre.2
 
 put-run-requires : tie.Need-put-run-requires
 put-run-requires c κs = search rules
@@ -95,7 +95,7 @@ returns-4 c =
     let goes = due.before.before in
     let r = goes.before.before in
     let k = known r in
-    due-ticked (block k) (memory k) (begun k).pre.0 (small k) (begun k).pre.1 (planned r) (run r) r.run_in.ensures goes.if2.false due.if3.false t.take.result put.new.0 t.take.new.1.0 t.take.ensures put.ensures
+    due_ticked (block k) (memory k) (begun k).pre.0 (small k) (begun k).pre.1 (planned r) (run r) r.run_in.ensures goes.if2.false due.if3.false t.take.result put.new.0 t.take.new.1.0 t.take.ensures put.ensures
 
 pub tick-within-spec : {M : Type 1} → statement M
 tick-within-spec =

@@ -6,8 +6,8 @@ use borrow.Author.Rules.{rules}
 use borrow.Author.Tests.{le-ltb}
 use lib.Dec.{ltb}
 use lib.ListN.{length}
-use Rattle.document.specs.CommandWriter.{commandOnWire}
-use Rattle.line_measure.proofs.Parts.{command-most}
+use Rattle.document.specs.CommandWriter.{command_on_wire}
+use Rattle.line_measure.proofs.Parts.{command_most}
 use Rattle.line_measure.proofs.is_short.Statement.{statement}
 use Rattle.line_measure.proofs.is_short.Tie as tie
 
@@ -20,7 +20,7 @@ add-if1 c = search rules
 returns : tie.Need-returns
 returns c =
     let a = c.before.before.args in
-    sym (le-ltb a.room (length (commandOnWire a.command a.body.now)) (omega (arith, c.if1.true, command-most a.command a.body.now)))
+    sym (le-ltb a.room (length (command_on_wire a.command a.body.now)) (omega (arith, c.if1.true, command_most a.command a.body.now)))
 
 wire-length-requires : tie.Need-wire-length-requires
 wire-length-requires c κs = search rules

@@ -9,8 +9,8 @@ use Rattle.document.specs.Doubling.{stuffed}
 use Rattle.document.specs.Sum.{total}
 use Rattle.line_wire.specs.declared.doubling.Progress.{Progress}
 use Rattle.line_wire.specs.Put.{progressed}
-use Rattle.line_wire.proofs.Stuffed.{stuffed-one}
-use Rattle.line_wire.proofs.Writing.{progressed-none, progressed-drop}
+use Rattle.line_wire.proofs.Stuffed.{stuffed_one}
+use Rattle.line_wire.proofs.Writing.{progressed_none, progressed_drop}
 use Rattle.line_measure.proofs.measured_all.Statement.{statement}
 use Rattle.line_measure.proofs.measured_all.Tie as tie
 
@@ -48,10 +48,10 @@ loop-again c =
     let at : c.measured.result.at ≡ l.progress.at + length (stuffed (b ∷ [])) = ap (λ (q : Progress). q.at) c.measured.ensures in
     let sum : c.measured.result.sum ≡ (l.progress.sum + total (b ∷ [])) % 256 = ap (λ (q : Progress). q.sum) c.measured.ensures in (
       search rules,
-      omega (arith, stuffed-one b),
+      omega (arith, stuffed_one b),
       omega arith,
       ap (λ (q : Progress). progressed q (drop (l.i + 1) s)) c.measured.ensures
-          ∙ progressed-drop l.progress s l.i h
+          ∙ progressed_drop l.progress s l.i h
           ∙ l.invariant.3,
     )
 
@@ -59,7 +59,7 @@ returns : tie.Need-returns invariant-loop decreases-loop
 returns c =
     let l = c.before.loop in
     let none : drop l.i c.before.before.before.args.bytes.now ≡ [] = drop_of_length-le _ c.loop-test.false in
-    sym (progressed-none l.progress l.invariant.2) ∙ rw none at l.invariant.3
+    sym (progressed_none l.progress l.invariant.2) ∙ rw none at l.invariant.3
 
 pub measured-all-spec : {M : Type 1} → statement M
 measured-all-spec =

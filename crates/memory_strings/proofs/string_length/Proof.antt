@@ -5,7 +5,7 @@ use native.Mathlib.Omega.{arith}
 use lib.ListN.{length, get_or-eq_default}
 use borrow.Author.Rules.{rules}
 use borrow.Author.Tests.{eqb-true, eqb-false}
-use Rattle.memory_strings.proofs.Search.{NoneUpTo, none-up-to-next, found}
+use Rattle.memory_strings.proofs.Search.{NoneUpTo, none_up_to_next, found}
 use Rattle.memory_strings.proofs.string_length.Statement.{statement}
 use Rattle.memory_strings.proofs.string_length.Tie as tie
 
@@ -42,7 +42,7 @@ loop-less c = search rules
 loop-again : tie.Need-loop-preserved invariant-loop decreases-loop
 loop-again c =
     let l = c.before.before.before in
-    (search rules, search rules, none-up-to-next l.before.args.memory.now _ _ l.loop.invariant.2 (eqb-false _ 0 c.if2.false))
+    (search rules, search rules, none_up_to_next l.before.args.memory.now _ _ l.loop.invariant.2 (eqb-false _ 0 c.if2.false))
 
 pub string-length-spec : {M : Type 1} → statement M
 string-length-spec =

@@ -7,7 +7,7 @@ use lib.ListN.{length, drop, length-set}
 use borrow.Author.Rules.{rules}
 use Rattle.document.specs.Stores.{stored}
 use Rattle.document.specs.Registers.{turned}
-use Rattle.modbus_registers.proofs.Turns.{stored-turn, turned-ended}
+use Rattle.modbus_registers.proofs.Turns.{stored_turn, turned_ended}
 use Rattle.modbus_registers.proofs.copy_swapped.Statement.{statement}
 use Rattle.modbus_registers.proofs.copy_swapped.Tie as tie
 
@@ -55,13 +55,13 @@ loop-again : tie.Need-loop-preserved invariant-loop decreases-loop
 loop-again c =
     let l = c.before.before.before.loop in
     let a = c.before.before.before.before.args in
-    (omega arith, simp length-set l.invariant.1, stored-turn l.to a.from.now a.at l.i (omega arith) ∙ l.invariant.2)
+    (omega arith, simp length-set l.invariant.1, stored_turn l.to a.from.now a.at l.i (omega arith) ∙ l.invariant.2)
 
 same_length : tie.Need-same-length invariant-loop decreases-loop
 same_length c = search rules
 
 returns : tie.Need-returns invariant-loop decreases-loop
-returns c = rw (turned-ended _ _ c.loop-test.false) at c.before.loop.invariant.2
+returns c = rw (turned_ended _ _ c.loop-test.false) at c.before.loop.invariant.2
 
 pub copy-swapped-spec : {M : Type 1} → statement M
 copy-swapped-spec =

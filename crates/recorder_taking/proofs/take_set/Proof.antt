@@ -7,8 +7,8 @@ use native.Mathlib.Omega.{arith}
 use lib.ListN.{drop}
 use borrow.Author.Rules.{rules}
 use Rattle.document.specs.declared.Variable.{Variable}
-use Rattle.document.specs.Areas.{bufferBegin, memoryEnd}
-use Rattle.document.specs.Variables.{definitionsIn, setSize}
+use Rattle.document.specs.Areas.{buffer_begin, memory_end}
+use Rattle.document.specs.Variables.{definitions_in, set_size}
 use Rattle.recorder_taking.proofs.take_set.Statement.{statement}
 use Rattle.recorder_taking.proofs.take_set.Tie as tie
 
@@ -18,12 +18,12 @@ module _ (u : tie.After-usize-of-u16) where
   begun = u.before.before.before.before
 
   abbrev variables : List Variable
-  variables = definitionsIn true begun.args.count (drop begun.args.from begun.args.block.now)
+  variables = definitions_in true begun.args.count (drop begun.args.from begun.args.block.now)
 
-  begins : u.usize-of-u16.result * u.before.set-size.result ≡ begun.args.place * setSize variables
+  begins : u.usize-of-u16.result * u.before.set-size.result ≡ begun.args.place * set_size variables
   begins = λ i. u.usize-of-u16.ensures.0 i * u.before.set-size.ensures.0 i
 
-  ends : bufferBegin + u.usize-of-u16.result * u.before.set-size.result + u.before.set-size.result ≤ memoryEnd
+  ends : buffer_begin + u.usize-of-u16.result * u.before.set-size.result + u.before.set-size.result ≤ memory_end
   ends = omega (arith, begins, u.before.set-size.ensures.0, begun.pre.1.0)
 
 set-size-requires : tie.Need-set-size-requires

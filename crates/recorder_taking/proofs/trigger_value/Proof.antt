@@ -2,9 +2,9 @@
 use mathlib.Core.Path.{ap, ◌∙◌}
 use Prim.Native.Nat.{ℕ, ◌+◌}
 use borrow.Author.Tests.{leb-true}
-use Rattle.document.specs.Areas.{recordedEnd, bytes_at}
+use Rattle.document.specs.Areas.{recorded_end, bytes_at}
 use Rattle.document.specs.Values.{number}
-use Rattle.recorder_plans.proofs.Granted.{plan-bounds}
+use Rattle.recorder_plans.proofs.Granted.{plan_bounds}
 use native.Mathlib.Omega.{arith}
 use borrow.Author.Rules.{rules}
 use Rattle.recorder_taking.proofs.trigger_value.Statement.{statement}
@@ -19,11 +19,11 @@ usize-of-u8-requires c κs = search rules
 number-at-requires : tie.Need-number-at-requires
 number-at-requires c κs =
     let s = c.before.before.before in
-    let t = (plan-bounds s.args.plan s.requires.0).trigger in (
+    let t = (plan_bounds s.args.plan s.requires.0).trigger in (
       omega (arith, t.small, c.usize-of-u8.ensures.0),
       omega (
         arith,
-        leb-true (s.args.plan.address + s.args.plan.size) recordedEnd t.below,
+        leb-true (s.args.plan.address + s.args.plan.size) recorded_end t.below,
         c.usize-of-u8.ensures.0,
         c.before.usize-of-u32.ensures.0,
         s.requires.1,

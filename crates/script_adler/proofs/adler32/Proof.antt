@@ -4,14 +4,14 @@ use mathlib.Core.List.{[]}
 use Prim.Native.Nat.{◌-◌, ◌<◌, ◌≤◌}
 use borrow.Author.Rules.{rules}
 use lib.ListN.{length, drop, drop_of_length-le}
-use Rattle.script_adler.specs.Adler.{adlerFrom, adler32}
-use Rattle.script_adler.proofs.Sums.{adler-next}
+use Rattle.script_adler.specs.Adler.{adler_from, adler32}
+use Rattle.script_adler.proofs.Sums.{adler_next}
 use Rattle.script_adler.proofs.adler32.Statement.{statement}
 use Rattle.script_adler.proofs.adler32.Tie as tie
 
 abbrev invariant-loop : tie.invariant-loop
 invariant-loop bytes low₀ high₀ i₀ low high i =
-    (i ≤ length bytes) × (low < 65521) × (high < 65521) × (adlerFrom low high (drop i bytes) ≡ adler32 bytes)
+    (i ≤ length bytes) × (low < 65521) × (high < 65521) × (adler_from low high (drop i bytes) ≡ adler32 bytes)
 
 abbrev decreases-loop : tie.decreases-loop
 decreases-loop bytes low₀ high₀ i₀ low high i = length bytes - i
@@ -41,7 +41,7 @@ loop-again : tie.Need-loop-preserved invariant-loop decreases-loop
 loop-again c =
     let l = c.before.before.before.loop in
     let bs = c.before.before.before.before.before.args.bytes.now in
-    let step : adlerFrom l.low l.high (drop l.i bs) ≡ _ = adler-next l.low l.high bs l.i (search rules) in
+    let step : adler_from l.low l.high (drop l.i bs) ≡ _ = adler_next l.low l.high bs l.i (search rules) in
     (search rules, search rules, search rules, rw (c.wide.ensures.0, ← step) l.invariant.3)
 
 mul-result : tie.Need-overflow-mul-result invariant-loop decreases-loop

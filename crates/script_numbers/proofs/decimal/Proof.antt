@@ -6,13 +6,13 @@ use native.Mathlib.Omega.{arith}
 use borrow.Author.Rules.{rules}
 use borrow.Author.Tests.{eq-eqb, ne_eqb}
 use lib.ListN.{length, get_or, drop, drop_of_length-le}
-use Rattle.script_numbers.specs.Numbers.{digitOf, decimalFrom, decimalOf}
-use Rattle.script_numbers.proofs.Digits.{decimal-goes, decimal-no-digit, decimal-too-large}
+use Rattle.script_numbers.specs.Numbers.{digit_of, decimal_from, decimal_of}
+use Rattle.script_numbers.proofs.Digits.{decimal_goes, decimal_no_digit, decimal_too_large}
 use Rattle.script_numbers.proofs.decimal.Statement.{statement}
 use Rattle.script_numbers.proofs.decimal.Tie as tie
 
 abbrev invariant-loop : tie.invariant-loop
-invariant-loop text value₀ i₀ value i = (i ≤ length text) × (decimalFrom value (drop i text) ≡ decimalOf text)
+invariant-loop text value₀ i₀ value i = (i ≤ length text) × (decimal_from value (drop i text) ≡ decimal_of text)
 
 abbrev decreases-loop : tie.decreases-loop
 decreases-loop text value₀ i₀ value i = length text - i
@@ -36,8 +36,8 @@ returns-2 : tie.Need-returns-2 invariant-loop decreases-loop
 returns-2 c =
     let l = c.before.before.before.before.before.loop in
     let t = c.before.before.before.before.before.before.before.before.args.text.now in
-    let d : c.before.wide.result ≡ digitOf (get_or t l.i 0) = c.before.wide.ensures ∙ c.before.before.digit.ensures.0 in
-    sym (decimal-no-digit l.value t l.i (search rules) (omega (arith, d))) ∙ l.invariant.1
+    let d : c.before.wide.result ≡ digit_of (get_or t l.i 0) = c.before.wide.ensures ∙ c.before.before.digit.ensures.0 in
+    sym (decimal_no_digit l.value t l.i (search rules) (omega (arith, d))) ∙ l.invariant.1
 
 sub-if3 : tie.Need-overflow-sub-if3 invariant-loop decreases-loop
 sub-if3 c = search rules
@@ -46,8 +46,8 @@ returns-3 : tie.Need-returns-3 invariant-loop decreases-loop
 returns-3 c =
     let l = c.before.before.before.before.before.before.loop in
     let t = c.before.before.before.before.before.before.before.before.before.args.text.now in
-    let d : c.before.before.wide.result ≡ digitOf (get_or t l.i 0) = c.before.before.wide.ensures ∙ c.before.before.before.digit.ensures.0 in
-    sym (decimal-too-large l.value t l.i (search rules) (omega (arith, d)) (omega (arith, d))) ∙ l.invariant.1
+    let d : c.before.before.wide.result ≡ digit_of (get_or t l.i 0) = c.before.before.wide.ensures ∙ c.before.before.before.digit.ensures.0 in
+    sym (decimal_too_large l.value t l.i (search rules) (omega (arith, d)) (omega (arith, d))) ∙ l.invariant.1
 
 mul-value : tie.Need-overflow-mul-value invariant-loop decreases-loop
 mul-value c = search rules
@@ -65,13 +65,13 @@ loop-again : tie.Need-loop-preserved invariant-loop decreases-loop
 loop-again c =
     let l = c.before.before.before.before.before.before.loop in
     let t = c.before.before.before.before.before.before.before.before.before.args.text.now in
-    let d : c.before.before.wide.result ≡ digitOf (get_or t l.i 0) = c.before.before.wide.ensures ∙ c.before.before.before.digit.ensures.0 in
-    let step : decimalFrom l.value (drop l.i t) ≡ decimalFrom (l.value * 10 + c.before.before.wide.result) (drop (l.i + 1) t) =
-    rw d (decimal-goes l.value t l.i (search rules) (omega (arith, d)) (omega (arith, d))) in
+    let d : c.before.before.wide.result ≡ digit_of (get_or t l.i 0) = c.before.before.wide.ensures ∙ c.before.before.before.digit.ensures.0 in
+    let step : decimal_from l.value (drop l.i t) ≡ decimal_from (l.value * 10 + c.before.before.wide.result) (drop (l.i + 1) t) =
+    rw d (decimal_goes l.value t l.i (search rules) (omega (arith, d)) (omega (arith, d))) in
     (search rules, sym step ∙ l.invariant.1)
 
 returns-4 : tie.Need-returns-4 invariant-loop decreases-loop
-unfolding decimalFrom
+unfolding decimal_from
 returns-4 c =
     let l = c.before.loop in
     let none : drop l.i c.before.before.before.before.args.text.now ≡ [] = drop_of_length-le _ c.loop-test.false in

@@ -4,10 +4,10 @@ use mathlib.Core.List.{[], ◌∷◌}
 use Prim.Native.Nat.{ℕ}
 use borrow.Author.Rules.{rules}
 use Rattle.document.specs.Numbers.{done}
-use Rattle.line_wire.proofs.Writing.{told-as}
-use Rattle.state_parts.specs.State.{gateOf}
-use Rattle.state_block.specs.Layout.{decodedInstruments}
-use Rattle.serve_application.proofs.Sending.{result-told}
+use Rattle.line_wire.proofs.Writing.{told_as}
+use Rattle.state_parts.specs.State.{gate_of}
+use Rattle.state_block.specs.Layout.{decoded_instruments}
+use Rattle.serve_application.proofs.Sending.{result_told}
 use Rattle.serve_application.proofs.command_result.Statement.{statement}
 use Rattle.serve_application.proofs.command_result.Tie as tie
 
@@ -29,9 +29,9 @@ returns c =
     let byte = put.before.before.before in
     let block = byte.before.before.before.args.state.now in
     λ memory s body.
-    told-as _ _
+    told_as _ _
     (ap (λ (b : ℕ). record { status = done; body = b ∷ [] }) byte.result-byte.ensures
-    ∙ result-told (gateOf (decodedInstruments block) memory) s body)
+    ∙ result_told (gate_of (decoded_instruments block) memory) s body)
     put.done-with.ensures
 
 pub command-result-spec : {M : Type 1} → statement M

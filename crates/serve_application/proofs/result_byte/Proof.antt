@@ -1,9 +1,9 @@
 -- By the phase.
 use mathlib.Core.Path.{sym, ◌∙◌}
 use borrow.Author.Rules.{rules}
-use Rattle.application_state.specs.State.{applicationOf}
-use Rattle.state_block.specs.Layout.{decodedApplication}
-use Rattle.serve_application.proofs.Sending.{no_result, no-command, result-in}
+use Rattle.application_state.specs.State.{application_of}
+use Rattle.state_block.specs.Layout.{decoded_application}
+use Rattle.serve_application.proofs.Sending.{no_result, no_command_lem, result_in}
 use Rattle.serve_application.proofs.result_byte.Statement.{statement}
 use Rattle.serve_application.proofs.result_byte.Tie as tie
 
@@ -12,26 +12,26 @@ is-pending-requires c κs = search rules
 
 returns : tie.Need-returns
 returns c =
-    no_result (applicationOf (decodedApplication c.before.before.before.args.state.now))
+    no_result (application_of (decoded_application c.before.before.before.args.state.now))
     (sym c.before.is-pending.ensures ∙ c.if1.true)
 
 shared-slice-read-if2 : tie.Need-shared-slice-read-if2
 shared-slice-read-if2 c = search rules
 
 returns-2 : tie.Need-returns-2
-unfolding decodedApplication
-returns-2 c = no-command (decodedApplication c.before.before.before.before.before.args.state.now) c.if2.true
+unfolding decoded_application
+returns-2 c = no_command_lem (decoded_application c.before.before.before.before.before.args.state.now) c.if2.true
 
 shared-slice-read-result : tie.Need-shared-slice-read-result
 shared-slice-read-result c = search rules
 
 returns-3 : tie.Need-returns-3
-unfolding decodedApplication
+unfolding decoded_application
 returns-3 c =
     let looked = c.before in
     let passed = looked.before.before in
     let asked = passed.before in
-    result-in (decodedApplication asked.before.before.args.state.now)
+    result_in (decoded_application asked.before.before.args.state.now)
     (sym asked.is-pending.ensures ∙ passed.if1.false) looked.if2.false
 
 pub result-byte-spec : {M : Type 1} → statement M

@@ -6,12 +6,12 @@ use borrow.Author.Rules.{rules}
 use lib.ListN.{length, take, drop}
 use Rattle.document.specs.Values.{number}
 use Rattle.document.specs.Numbers.{done}
-use Rattle.document.specs.Variables.{addressWidth}
-use Rattle.document.specs.Fields.{sizeField, dataPlace}
+use Rattle.document.specs.Variables.{address_width}
+use Rattle.document.specs.Fields.{size_field, data_place}
 use Rattle.document.specs.Refusals.{first_of}
 use Rattle.serve_fields.specs.declared.Fields.{Fields}
-use Rattle.serve_fields.specs.Found.{ownLines, ownStatus, AreFields}
-use Rattle.serve_fields.proofs.Fits.{parts-few, fields_fit}
+use Rattle.serve_fields.specs.Found.{own_lines, own_status, AreFields}
+use Rattle.serve_fields.proofs.Fits.{parts_few, fields_fit}
 use Rattle.serve_fields.proofs.block_in.Statement.{statement}
 use Rattle.serve_fields.proofs.block_in.Tie as tie
 
@@ -30,7 +30,7 @@ add-place c = search rules
 few : (w : tie.After-address-width) → w.before.before.before.before.args.parts * w.before.before.size_in.result ≤ 510
 few w =
     let s = w.before.before.before.before in
-    parts-few s.args.parts w.before.before.size_in.result s.requires.0 w.before.before.size_in.ensures.1
+    parts_few s.args.parts w.before.before.size_in.result s.requires.0 w.before.before.size_in.ensures.1
 
 mul-own-status : tie.Need-overflow-mul-own-status
 mul-own-status c = record { fits = omega (arith, few c) }
@@ -50,23 +50,23 @@ module _ (o : tie.After-own-status) where
   start = width.before.before.before.before
 
   abbrev n : ℕ
-  n = start.args.parts * sizeField start.args.service start.args.body.now
+  n = start.args.parts * size_field start.args.service start.args.body.now
 
-  size : width.before.before.size_in.result ≡ sizeField start.args.service start.args.body.now
+  size : width.before.before.size_in.result ≡ size_field start.args.service start.args.body.now
   size = width.before.before.size_in.ensures.0
 
-  place : width.before.address-place.result + width.address-width.result ≡ dataPlace start.args.service
+  place : width.before.address-place.result + width.address-width.result ≡ data_place start.args.service
   place = λ i. width.before.address-place.ensures.0 i + width.address-width.ensures.0 i
 
   near : width.before.address-place.result + width.address-width.result ≤ 5
   near = omega (arith, width.before.address-place.ensures.1, width.address-width.ensures.1)
 
-  status : o.own-status.result ≡ first_of (ownLines start.args.service start.args.body.now n)
+  status : o.own-status.result ≡ first_of (own_lines start.args.service start.args.body.now n)
   status =
       o.own-status.ensures
-      ∙ (λ i. ownStatus start.args.service (size i) (length start.args.body.now) (place i + start.args.parts * size i))
+      ∙ (λ i. own_status start.args.service (size i) (length start.args.body.now) (place i + start.args.parts * size i))
 
-  fits : o.own-status.result ≡ done → dataPlace start.args.service + n ≤ length start.args.body.now
+  fits : o.own-status.result ≡ done → data_place start.args.service + n ≤ length start.args.body.now
   fits right = fields_fit start.args.service start.args.body.now start.args.parts start.pre.1 (sym status ∙ right)
 
   -- so many bytes, however they are counted
@@ -98,7 +98,7 @@ returns-2 c =
     let o = c.before.before in
     let s = (start o).args in
     let from = (width o).before.address-place in
-    let wide : from.result + (width o).address-width.result - from.result ≡ addressWidth s.service.ex = omega (arith, (width o).address-width.ensures.0) in
+    let wide : from.result + (width o).address-width.result - from.result ≡ address_width s.service.ex = omega (arith, (width o).address-width.ensures.0) in
     behind o
     (record {
       status = status o;

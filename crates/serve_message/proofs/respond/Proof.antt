@@ -7,19 +7,19 @@ use native.Mathlib.Omega.{arith}
 use borrow.Author.Rules.{rules}
 use lib.ListN.{length, take, drop, length-take, length-drop}
 use lib.Seq.{sets, take-take}
-use Rattle.document.specs.Numbers.{mostData}
+use Rattle.document.specs.Numbers.{most_data}
 use Rattle.document.specs.Areas.{bytes_at}
-use Rattle.document.specs.Message.{lengthFits}
+use Rattle.document.specs.Message.{length_fits}
 use Rattle.document.specs.declared.Service.{Service}
 use Rattle.line_receiver.specs.Report.{HeldMessage}
 use Rattle.serve_fields.specs.Framed.{Framed}
 use Rattle.serve_fields.proofs.Framing.{framed}
-use Rattle.state_parts.specs.State.{gateOf}
-use Rattle.state_block.specs.Places.{bodyPlace, scopePlace}
-use Rattle.state_block.specs.Layout.{decodedBody, dataTo, decodedInstruments, encodedInstruments}
-use Rattle.state_block.proofs.Stored.{same-instruments}
+use Rattle.state_parts.specs.State.{gate_of}
+use Rattle.state_block.specs.Places.{body_place, scope_place}
+use Rattle.state_block.specs.Layout.{decoded_body, data_to, decoded_instruments, encoded_instruments}
+use Rattle.state_block.proofs.Stored.{same_instruments}
 use Rattle.serve_message.specs.Held.{held_of}
-use Rattle.serve_message.proofs.Refusing.{wrong-sum, too_long, carried}
+use Rattle.serve_message.proofs.Refusing.{wrong_sum, too_long, carried}
 use Rattle.serve_message.proofs.respond.Statement.{statement}
 use Rattle.serve_message.proofs.respond.Tie as tie
 
@@ -32,10 +32,10 @@ module _ (k : tie.After-struct-known) where
   block = begun.args.state.now
 
   abbrev held : HeldMessage
-  held = held_of begun.args.whole (decodedBody block)
+  held = held_of begun.args.whole (decoded_body block)
 
-  same_block : block ≡ sets block scopePlace (encodedInstruments (decodedInstruments block))
-  same_block = sym (same-instruments block begun.pre.long (λ i. (k.before.before.before.slice-known.given i).fits))
+  same_block : block ≡ sets block scope_place (encoded_instruments (decoded_instruments block))
+  same_block = sym (same_instruments block begun.pre.long (λ i. (k.before.before.before.slice-known.given i).fits))
 
 status-alone-requires : tie.Need-status-alone-requires
 status-alone-requires c κs = search rules
@@ -48,8 +48,8 @@ returns c =
     let said = c.before.before in
     let t = said.before.before in
     let k = t.before in
-    let i = decodedInstruments (block k) in
-    wrong-sum (gateOf i (begun k).args.memory.now) i (held k) t.if1.true
+    let i = decoded_instruments (block k) in
+    wrong_sum (gate_of i (begun k).args.memory.now) i (held k) t.if1.true
     (record { told = said.status-alone.ensures; memory = refl; kept = same_block k })
 
 usize-of-u8-requires : tie.Need-usize-of-u8-requires
@@ -67,8 +67,8 @@ returns-2 c =
     let t = said.before.before in
     let u = t.before in
     let k = u.before.before in
-    let i = decodedInstruments (block k) in
-    too_long (gateOf i (begun k).args.memory.now) i (held k) u.before.if1.false (omega (arith, u.usize-of-u8.ensures.0, t.if2.true))
+    let i = decoded_instruments (block k) in
+    too_long (gate_of i (begun k).args.memory.now) i (held k) u.before.if1.false (omega (arith, u.usize-of-u8.ensures.0, t.if2.true))
     (record { told = said.status-alone2.ensures; memory = refl; kept = same_block k })
 
 service-of-requires : tie.Need-service-of-requires
@@ -85,19 +85,19 @@ module _ (looked : tie.After-service-of) where
   abbrev told : ℕ
   told = counted.usize-of-u8.result
 
-  few : told ≤ mostData
+  few : told ≤ most_data
   few = omega (arith, looked.before.if2.left)
 
   -- what stands in the block up to the last of them
   abbrev part : List ℕ
-  part = dataTo (block asked) (bodyPlace + told)
+  part = data_to (block asked) (body_place + told)
 
   part_held : part ≡ (held asked).kept
   part_held =
-      let whole : bodyPlace + told - bodyPlace ≡ told = omega arith in
-      ap (λ (n : ℕ). bytes_at (block asked) bodyPlace n) whole
-      ∙ sym (take-take told mostData (drop bodyPlace (block asked)) few)
-      ∙ ap (λ (n : ℕ). take n (decodedBody (block asked))) counted.usize-of-u8.ensures.0
+      let whole : body_place + told - body_place ≡ told = omega arith in
+      ap (λ (n : ℕ). bytes_at (block asked) body_place n) whole
+      ∙ sym (take-take told most_data (drop body_place (block asked)) few)
+      ∙ ap (λ (n : ℕ). take n (decoded_body (block asked))) counted.usize-of-u8.ensures.0
 
   part_length : length part ≡ (begun asked).args.whole.length
   part_length = ap length part_held ∙ simp (length-take, length-drop) (omega (arith, few, counted.usize-of-u8.ensures.0, (begun asked).pre.long))
@@ -106,7 +106,7 @@ module _ (looked : tie.After-service-of) where
   framing : Framed looked.service-of.result part
   framing =
       let whole = (begun asked).args.whole in
-      let formed : lengthFits whole.command (length part) ≡ true = ap (lengthFits whole.command) part_length ∙ (begun asked).pre.fits in
+      let formed : length_fits whole.command (length part) ≡ true = ap (length_fits whole.command) part_length ∙ (begun asked).pre.fits in
       subst (λ (s : Service). Framed s part) (sym looked.service-of.ensures) (framed whole.command part (omega (arith, part_length, few, counted.usize-of-u8.ensures.0)) formed)
 
 add-serve : tie.Need-overflow-add-serve
@@ -121,8 +121,8 @@ serve-requires c κs =
       least = omega arith;
       most = omega (arith, few looked);
       long = s.pre.long;
-      scope-sound = s.pre.scope-sound;
-      memory-whole = s.pre.memory-whole;
+      scope_sound = s.pre.scope_sound;
+      memory_whole = s.pre.memory_whole;
       room = s.pre.room;
     }
 
@@ -140,8 +140,8 @@ returns-3 c =
     let served = c.before.before.before.before.before.before in
     let looked = served.before.before.before.before in
     let k = asked looked in
-    let i = decodedInstruments (block k) in
-    carried (gateOf i (begun k).args.memory.now) i (held k) (counted looked).before.if1.false (omega (arith, few looked, (counted looked).usize-of-u8.ensures.0))
+    let i = decoded_instruments (block k) in
+    carried (gate_of i (begun k).args.memory.now) i (held k) (counted looked).before.if1.false (omega (arith, few looked, (counted looked).usize-of-u8.ensures.0))
     looked.service-of.result (part looked) looked.service-of.ensures (part_held looked)
     served.serve.ensures
 

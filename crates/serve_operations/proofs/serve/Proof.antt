@@ -6,19 +6,19 @@ use Prim.Native.Nat.{ℕ}
 use borrow.Author.Rules.{rules}
 use lib.ListN.{length}
 use lib.Seq.{length-sets}
-use Rattle.document.specs.Numbers.{notServed}
+use Rattle.document.specs.Numbers.{not_served}
 use Rattle.document.specs.declared.Operation.{Operation}
 use Rattle.document.specs.declared.Operation.TheVariants.{Unserved, Describe, DescribeBriefly, Read, Write, WriteMasked, SetUpScope, ReadScope, PrepareAndStart, Start, Stop, Status, QueryBuffer, SendCommand, CommandResult, TellTable, MeasureString}
 use Rattle.document.specs.Commands.{served}
-use Rattle.document_outcomes.specs.Changes.{changeOf}
+use Rattle.document_outcomes.specs.Changes.{change_of}
 use Rattle.serve_fields.specs.Found.{OwnFits}
 use Rattle.serve_fields.specs.Framed.{parts_of}
-use Rattle.state_parts.specs.State.{gateOf}
-use Rattle.state_byte.specs.After.{instrumentsAfter}
-use Rattle.state_block.specs.Places.{scopePlace}
-use Rattle.state_block.specs.Layout.{dataTo, decodedInstruments, encodedInstruments}
+use Rattle.state_parts.specs.State.{gate_of}
+use Rattle.state_byte.specs.After.{instruments_after}
+use Rattle.state_block.specs.Places.{scope_place}
+use Rattle.state_block.specs.Layout.{data_to, decoded_instruments, encoded_instruments}
 use Rattle.serve_recorder.specs.Operates.{Settles}
-use Rattle.serve_operations.proofs.Arms.{Asked, tells, settles, says, wrote, met, settled-told, unserved-says}
+use Rattle.serve_operations.proofs.Arms.{Asked, tells, settles, says, wrote, met, settled_told, unserved_says}
 use Rattle.serve_operations.proofs.serve.Statement.{statement}
 use Rattle.serve_operations.proofs.serve.Tie as tie
 
@@ -28,13 +28,13 @@ begun m = m.before.before.before
 
 -- the data of the message
 abbrev told : tie.After-slice-known3 → List ℕ
-told m = dataTo (begun m).args.state.now (begun m).args.to
+told m = data_to (begun m).args.state.now (begun m).args.to
 
 -- the framing of a service whose operation is known
 framed : (m : tie.After-slice-known3) (o : Operation) → (begun m).args.service.operation ≡ o
-    → OwnFits (begun m).args.service (parts_of (changeOf o)) (told m)
+    → OwnFits (begun m).args.service (parts_of (change_of o)) (told m)
 framed m o is =
-    subst (λ (p : Operation). OwnFits (begun m).args.service (parts_of (changeOf p)) (told m)) is (begun m).requires.framed
+    subst (λ (p : Operation). OwnFits (begun m).args.service (parts_of (change_of p)) (told m)) is (begun m).requires.framed
 
 abbrev asked : tie.After-slice-known3 → Asked
 asked m =
@@ -98,7 +98,7 @@ read-requires : tie.Need-read-requires
 read-requires c κs =
     let t = c.before.before.before.before in
     let s = begun t.before.before in
-    (framed t.before.before Read t.enum-told4.given.1, s.pre.memory-whole, s.pre.room)
+    (framed t.before.before Read t.enum-told4.given.1, s.pre.memory_whole, s.pre.room)
 
 same-length-3 : tie.Need-same-length-3
 same-length-3 c = search rules
@@ -132,7 +132,7 @@ write-requires : tie.Need-write-requires
 write-requires c κs =
     let t = c.before.before.before in
     let s = begun t.before.before in
-    (framed t.before.before Write t.enum-told5.given.1, s.pre.memory-whole)
+    (framed t.before.before Write t.enum-told5.given.1, s.pre.memory_whole)
 
 enum-told-6 : tie.Need-enum-told-6
 enum-told-6 c = search rules
@@ -150,7 +150,7 @@ write-masked-requires : tie.Need-write-masked-requires
 write-masked-requires c κs =
     let t = c.before.before.before in
     let s = begun t.before.before in
-    (framed t.before.before WriteMasked t.enum-told6.given.1, s.pre.memory-whole)
+    (framed t.before.before WriteMasked t.enum-told6.given.1, s.pre.memory_whole)
 
 enum-told-7 : tie.Need-enum-told-7
 enum-told-7 c = search rules
@@ -303,9 +303,9 @@ module _ (m : tie.At-match-branch) where
   abbrev q : Asked
   q = asked m.before
 
-  settled : Settles (served (gateOf (decodedInstruments q.block) q.memory) q.service q.body) (instrumentsAfter q.service.operation (decodedInstruments q.block) q.service q.body) q.block m.match.status m.match.state m.match.memory
+  settled : Settles (served (gate_of (decoded_instruments q.block) q.memory) q.service q.body) (instruments_after q.service.operation (decoded_instruments q.block) q.service q.body) q.block m.match.status m.match.state m.match.memory
   settled =
-      ⊎_elim (λ w. met q w.4 w.2 w.3 (says q Unserved w.1.given.1 refl notServed (unserved-says _ q.service q.body)))
+      ⊎_elim (λ w. met q w.4 w.2 w.3 (says q Unserved w.1.given.1 refl not_served (unserved_says _ q.service q.body)))
       (⊎_elim (λ w. met q w.10 w.8 w.9 (wrote q Write w.1.given.1 refl w.5.result _ (w.5.ensures _ refl)))
       (⊎_elim (λ w. met q w.10 w.8 w.9 (wrote q WriteMasked w.1.given.1 refl w.5.result _ (w.5.ensures _ refl)))
       (⊎_elim (λ w. met q w.8 w.6 w.7 (settles q SetUpScope w.1.given.1 w.3.result _ _ (w.3.ensures _)))
@@ -318,7 +318,7 @@ module _ (m : tie.At-match-branch) where
   state-long : length m.match.state ≡ length q.block
   state-long =
       ap length settled.kept
-      ∙ length-sets q.block scopePlace (encodedInstruments (instrumentsAfter q.service.operation (decodedInstruments q.block) q.service q.body))
+      ∙ length-sets q.block scope_place (encoded_instruments (instruments_after q.service.operation (decoded_instruments q.block) q.service q.body))
 
   -- only a write changes the memory, and no length
   memory-long : length m.match.memory ≡ length q.memory
@@ -349,7 +349,7 @@ returns-9 : tie.Need-returns-9
 returns-9 c =
     let told = c.before.before in
     let m = told.before.before in
-    settled-told (q m) m.match.status (settled m) told.status-alone.ensures
+    settled_told (q m) m.match.status (settled m) told.status-alone.ensures
 
 pub serve-spec : {M : Type 1} → statement M
 serve-spec =

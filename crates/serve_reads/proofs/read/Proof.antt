@@ -6,9 +6,9 @@ use native.Mathlib.Omega.{arith}
 use borrow.Author.Rules.{rules}
 use lib.ListN.{length, take, drop, length-take}
 use Rattle.document.specs.Areas.{bytes_at}
-use Rattle.line_wire.proofs.Writing.{told-as}
+use Rattle.line_wire.proofs.Writing.{told_as}
 use Rattle.serve_fields.specs.Found.{AreFields}
-use Rattle.serve_reads.proofs.ReadLaws.{read-refused, read-few, read-inside, read_done}
+use Rattle.serve_reads.proofs.ReadLaws.{read_refused, read_few, read_inside, read_done}
 use Rattle.serve_reads.proofs.read.Statement.{statement}
 use Rattle.serve_reads.proofs.read.Tie as tie
 
@@ -39,8 +39,8 @@ returns c =
     let b = r.before in
     let a = (begun b).args in
     λ g same.
-    told-as _ _
-    (read-refused a.service a.body.now b.block_in.result (found b) r.read-status.result r.read-status.ensures g said.before.before.if1.true)
+    told_as _ _
+    (read_refused a.service a.body.now b.block_in.result (found b) r.read-status.result r.read-status.ensures g said.before.before.if1.true)
     said.status-alone.ensures
 
 -- ---- nothing refuses it
@@ -53,12 +53,12 @@ module _ (e : tie.Else1) where
 
   few : looked.block_in.result.size ≤ 64
   few =
-      read-few start.args.service start.args.body.now looked.block_in.result (found looked) e.before.read-status.result e.before.read-status.ensures
+      read_few start.args.service start.args.body.now looked.block_in.result (found looked) e.before.read-status.result e.before.read-status.ensures
       e.if1.left
 
   inside : looked.block_in.result.address + looked.block_in.result.size ≤ length start.args.memory.now
   inside =
-      omega (arith, start.pre.1, read-inside start.args.service start.args.body.now looked.block_in.result (found looked) e.before.read-status.result e.before.read-status.ensures e.if1.left)
+      omega (arith, start.pre.1, read_inside start.args.service start.args.body.now looked.block_in.result (found looked) e.before.read-status.result e.before.read-status.ensures e.if1.left)
 
 usize-of-u32-requires : tie.Need-usize-of-u32-requires
 usize-of-u32-requires c κs = search rules
@@ -99,7 +99,7 @@ returns-2 c =
     λ g same.
     let bytes : take (from.result + b.size - from.result) (drop from.result a.memory.now) ≡ bytes_at g.memory b.address b.size =
     (λ i. take (size_of from.result b.size i) (drop (from.ensures.0 i) (sym same i))) in
-    told-as _ _
+    told_as _ _
     ((λ i. record { status = sym e.if1.false i; body = bytes i })
     ∙ read_done a.service a.body.now b (found (looked e)) e.before.read-status.result e.before.read-status.ensures e.if1.false g)
     replied.ensures

@@ -8,18 +8,18 @@ use Rattle.document.specs.Numbers.{done}
 use Rattle.document.specs.Commands.{served}
 use Rattle.document.specs.declared.Service.{Service}
 use Rattle.document.specs.declared.Operation.TheVariants.{SetUpScope}
-use Rattle.document.specs.Variables.{variablesIn}
+use Rattle.document.specs.Variables.{variables_in}
 use Rattle.variables_list.specs.State.{kept as kept_of}
-use Rattle.scope_state.specs.Setup.{setUpStatus}
-use Rattle.scope_state.proofs.Accepted.{next-taken, next-refused}
-use Rattle.document_outcomes.specs.Known.{knownAs}
-use Rattle.state_parts.specs.State.{gateOf, withScope}
-use Rattle.state_byte.specs.After.{instrumentsAfter}
-use Rattle.state_block.specs.Places.{scopePlace}
-use Rattle.state_block.specs.Layout.{dataTo, decodedScope, decodedInstruments, encodedInstruments}
-use Rattle.serve_recorder.specs.Operates.{statusAlone}
+use Rattle.scope_state.specs.Setup.{set_up_status}
+use Rattle.scope_state.proofs.Accepted.{next_taken, next_refused}
+use Rattle.document_outcomes.specs.Known.{known_as}
+use Rattle.state_parts.specs.State.{gate_of, with_scope}
+use Rattle.state_byte.specs.After.{instruments_after}
+use Rattle.state_block.specs.Places.{scope_place}
+use Rattle.state_block.specs.Layout.{data_to, decoded_scope, decoded_instruments, encoded_instruments}
+use Rattle.serve_recorder.specs.Operates.{status_alone}
 use Rattle.serve_recorder.proofs.Changing.{settles, same_block}
-use Rattle.serve_scope_setup.proofs.Statuses.{scope-set-up}
+use Rattle.serve_scope_setup.proofs.Statuses.{scope_set_up_lem}
 use Rattle.serve_scope_setup.proofs.set_up_scope.Statement.{statement}
 use Rattle.serve_scope_setup.proofs.set_up_scope.Tie as tie
 
@@ -48,24 +48,24 @@ module _ (d : tie.After-set-up-status) where
 
   -- the data of the message
   abbrev told : List ℕ
-  told = dataTo block begun.args.to
+  told = data_to block begun.args.to
 
-  status : d.set-up-status.result ≡ setUpStatus service.ex told
+  status : d.set-up-status.result ≡ set_up_status service.ex told
   status = d.set-up-status.ensures
 
-  answer : (memory : List ℕ) → statusAlone d.set-up-status.result ≡ (served (gateOf (decodedInstruments block) memory) (knownAs SetUpScope service) told).answer
-  answer memory = ap statusAlone status ∙ scope-set-up (gateOf (decodedInstruments block) memory) service told
+  answer : (memory : List ℕ) → status_alone d.set-up-status.result ≡ (served (gate_of (decoded_instruments block) memory) (known_as SetUpScope service) told).answer
+  answer memory = ap status_alone status ∙ scope_set_up_lem (gate_of (decoded_instruments block) memory) service told
 
-  kept : (d.set-up-status.result ≡ done → ⊥) → block ≡ sets block scopePlace (encodedInstruments (instrumentsAfter SetUpScope (decodedInstruments block) service told))
+  kept : (d.set-up-status.result ≡ done → ⊥) → block ≡ sets block scope_place (encoded_instruments (instruments_after SetUpScope (decoded_instruments block) service told))
   kept wrong =
-      let same = sym (next-refused service.ex told (decodedScope block) (λ e. wrong (status ∙ e))) in
-      same_block block begun.pre.0 (λ i. (d.before.before.before.slice-known.given i).fits) _ (λ i. withScope (decodedInstruments block) (same i))
+      let same = sym (next_refused service.ex told (decoded_scope block) (λ e. wrong (status ∙ e))) in
+      same_block block begun.pre.0 (λ i. (d.before.before.before.slice-known.given i).fits) _ (λ i. with_scope (decoded_instruments block) (same i))
 
-  stored : d.set-up-status.result ≡ done → (after : List ℕ) → after ≡ sets block scopePlace (encodedInstruments (withScope (decodedInstruments block) (record { variables = kept_of (variablesIn service.ex told) })))
-      → after ≡ sets block scopePlace (encodedInstruments (instrumentsAfter SetUpScope (decodedInstruments block) service told))
+  stored : d.set-up-status.result ≡ done → (after : List ℕ) → after ≡ sets block scope_place (encoded_instruments (with_scope (decoded_instruments block) (record { variables = kept_of (variables_in service.ex told) })))
+      → after ≡ sets block scope_place (encoded_instruments (instruments_after SetUpScope (decoded_instruments block) service told))
   stored right after e =
-      let next = sym (next-taken service.ex told (decodedScope block) (sym status ∙ right)) in
-      e ∙ (λ i. sets block scopePlace (encodedInstruments (withScope (decodedInstruments block) (next i))))
+      let next = sym (next_taken service.ex told (decoded_scope block) (sym status ∙ right)) in
+      e ∙ (λ i. sets block scope_place (encoded_instruments (with_scope (decoded_instruments block) (next i))))
 
 same_length : tie.Need-same-length
 same_length c = search rules
@@ -92,7 +92,7 @@ returns-2 c =
     let right = put.before.before in
     let d = right.before in
     λ memory.
-    settles SetUpScope refl (block d) memory (service d) (told d) done _ (ap statusAlone (sym right.if1.false) ∙ answer d memory) (stored d right.if1.false _ put.store-scope.ensures)
+    settles SetUpScope refl (block d) memory (service d) (told d) done _ (ap status_alone (sym right.if1.false) ∙ answer d memory) (stored d right.if1.false _ put.store-scope.ensures)
 
 pub set-up-scope-spec : {M : Type 1} → statement M
 set-up-scope-spec =

@@ -6,11 +6,11 @@ use native.Mathlib.Omega.{arith}
 use borrow.Author.Rules.{rules}
 use borrow.Author.Tests.{not-true, not-false}
 use Rattle.document.specs.Numbers.{done}
-use Rattle.document.specs.Tables.{mostTables}
+use Rattle.document.specs.Tables.{most_tables}
 use Rattle.document.specs.Answer.{Answer}
-use Rattle.line_wire.proofs.Writing.{told-as}
-use Rattle.state_block.specs.Layout.{decodedTables}
-use Rattle.serve_tables.proofs.Listed.{listed_below, not_listed, at-index}
+use Rattle.line_wire.proofs.Writing.{told_as}
+use Rattle.state_block.specs.Layout.{decoded_tables}
+use Rattle.serve_tables.proofs.Listed.{listed_below, not_listed, at_index}
 use Rattle.serve_tables.proofs.tell_listed.Statement.{statement}
 use Rattle.serve_tables.proofs.tell_listed.Tie as tie
 
@@ -35,7 +35,7 @@ returns c =
     let put = c.before.before in
     let t = put.before.before in
     let s = begun t.before in
-    told-as _ _
+    told_as _ _
     (ap said (not_listed s.args.state.now s.args.index s.pre.0 (sym t.before.is-listed.ensures ∙ not-true _ t.if1.true)))
     put.done-three-words.ensures
 
@@ -44,7 +44,7 @@ module _ (e : tie.Else1) where
   abbrev start : tie.Start
   start = begun e.before
 
-  below : (start.args.index < (decodedTables start.args.state.now).count) × (start.args.index < mostTables)
+  below : (start.args.index < (decoded_tables start.args.state.now).count) × (start.args.index < most_tables)
   below = listed_below start.args.state.now start.args.index (sym e.before.is-listed.ensures ∙ not-false _ e.if1.left)
 
 mul_at : tie.Need-overflow-mul-at
@@ -75,9 +75,9 @@ returns-2 c =
     let size = address.before in
     let e = size.before in
     let s = start e in
-    told-as _ _
+    told_as _ _
     (ap said
-    (at-index s.args.state.now s.args.index s.pre.0 (λ i. (e.before.before.before.shared-slice-known.given i).fits) (below e).1 (below e).0 _ _ _ refl
+    (at_index s.args.state.now s.args.index s.pre.0 (λ i. (e.before.before.before.shared-slice-known.given i).fits) (below e).1 (below e).0 _ _ _ refl
     size.word_at.ensures address.word-at2.ensures))
     put.done-three-words2.ensures
 

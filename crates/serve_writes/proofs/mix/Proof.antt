@@ -6,9 +6,9 @@ use native.Mathlib.Omega.{arith}
 use lib.ListN.{length, get_or}
 use lib.Seq.{take_all}
 use Rattle.document.specs.Areas.{bytes_at}
-use Rattle.document.specs.Values.{number, littleEndian}
-use Rattle.document.specs.Stores.{maskStored}
-use Rattle.bytes_fields.proofs.Numbers.{number-kept}
+use Rattle.document.specs.Values.{number, little_endian}
+use Rattle.document.specs.Stores.{mask_stored}
+use Rattle.bytes_fields.proofs.Numbers.{number_kept}
 use borrow.Author.Rules.{rules}
 use Rattle.serve_writes.proofs.mix.Statement.{statement}
 use Rattle.serve_writes.proofs.mix.Tie as tie
@@ -29,8 +29,8 @@ same_length : tie.Need-same-length
 same_length c = search rules
 
 -- a word that is all of a part is kept in its bytes
-whole : (part : List ℕ) (word : ℕ) → ((i : ℕ) → get_or part i 0 < 256) → length part ≡ 2 → word ≡ number (bytes_at part 0 2) → littleEndian 2 word ≡ part
-whole part word small two e = ap (littleEndian 2) e ∙ number-kept part small 0 2 (omega arith) ∙ take_all 2 part (omega arith)
+whole : (part : List ℕ) (word : ℕ) → ((i : ℕ) → get_or part i 0 < 256) → length part ≡ 2 → word ≡ number (bytes_at part 0 2) → little_endian 2 word ≡ part
+whole part word small two e = ap (little_endian 2) e ∙ number_kept part small 0 2 (omega arith) ∙ take_all 2 part (omega arith)
 
 returns : tie.Need-returns
 returns c =
@@ -43,7 +43,7 @@ returns c =
     let a = s.args in
     mixed.store-masked-word.ensures
     ∙ (λ i.
-    maskStored a.memory.now a.at
+    mask_stored a.memory.now a.at
     (whole a.values.now value.word_at.result (λ k. (masks-known.before.shared-slice-known.given k).fits) two.if1.true value.word_at.ensures i)
     (whole a.masks.now mask.word-at2.result (λ k. (masks-known.shared-slice-known2.given k).fits) (s.requires.1 ∙ two.if1.true) mask.word-at2.ensures i))
 

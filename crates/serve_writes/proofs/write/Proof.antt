@@ -5,12 +5,12 @@ use native.Mathlib.Nat.{one-mul}
 use native.Mathlib.Omega.{arith}
 use borrow.Author.Rules.{rules}
 use lib.ListN.{length-take}
-use Rattle.document.specs.Areas.{variablesEnd}
+use Rattle.document.specs.Areas.{variables_end}
 use Rattle.document.specs.Stores.{stored}
-use Rattle.document.specs.Fields.{sizeField}
+use Rattle.document.specs.Fields.{size_field}
 use Rattle.document.specs.Commands.{written, served}
 use Rattle.serve_fields.specs.Found.{AreFields}
-use Rattle.serve_writes.proofs.WriteLaws.{values-are, wrote-refused, wrote-done, written-inside, parts-inside, address_is}
+use Rattle.serve_writes.proofs.WriteLaws.{values_are, wrote_refused, wrote_done, written_inside, parts_inside, address_is}
 use Rattle.serve_writes.proofs.write.Statement.{statement}
 use Rattle.serve_writes.proofs.write.Tie as tie
 
@@ -25,7 +25,7 @@ start w = w.before.before.before.before
 
 -- the data alone stand behind the address
 abbrev behind : tie.After-write-status → ℕ
-behind w = sizeField (start w).args.service (start w).args.body.now
+behind w = size_field (start w).args.service (start w).args.body.now
 
 found : (w : tie.After-write-status) → AreFields (start w).args.service (start w).args.body.now (behind w) w.before.block_in.result
 found w = w.before.block_in.ensures (behind w) (sym (one-mul (behind w)))
@@ -36,7 +36,7 @@ returns c =
     let w = c.before in
     let a = (start w).args in
     λ g same.
-    wrote-refused a.service a.body.now (behind w) w.before.block_in.result (found w) w.write-status.result w.write-status.ensures
+    wrote_refused a.service a.body.now (behind w) w.before.block_in.result (found w) w.write-status.result w.write-status.ensures
     g (written g a.service a.body.now) a.memory.now same c.if1.true
 
 -- ---- nothing refuses it
@@ -44,9 +44,9 @@ module _ (e : tie.Else1) where
   abbrev w : tie.After-write-status
   w = e.before
 
-  inside : w.before.block_in.result.address + w.before.block_in.result.size ≤ variablesEnd
+  inside : w.before.block_in.result.address + w.before.block_in.result.size ≤ variables_end
   inside =
-      written-inside (start w).args.service (start w).args.body.now (behind w) w.before.block_in.result (found w) w.write-status.result w.write-status.ensures
+      written_inside (start w).args.service (start w).args.body.now (behind w) w.before.block_in.result (found w) w.write-status.result w.write-status.ensures
       e.if1.left
 
 usize-of-u32-requires : tie.Need-usize-of-u32-requires
@@ -65,7 +65,7 @@ part-copy-in-end : tie.Need-slice-bounds-copy-in-end
 part-copy-in-end c =
     let e = c.before.before.before in
     let a = (start (w e)).args in
-    omega (arith, (found (w e)).size, parts-inside a.service a.body.now (behind (w e)) (w e).before.block_in.result (found (w e)) (w e).write-status.result (w e).write-status.ensures e.if1.false)
+    omega (arith, (found (w e)).size, parts_inside a.service a.body.now (behind (w e)) (w e).before.block_in.result (found (w e)) (w e).write-status.result (w e).write-status.ensures e.if1.false)
 
 copy-in-requires : tie.Need-copy-in-requires
 copy-in-requires c κs =
@@ -85,9 +85,9 @@ returns-2 c =
     let b = (w e).before.block_in.result in
     let at = u.usize-of-u32.ensures.0 ∙ address_is a.service a.body.now (behind (w e)) b (found (w e)) (w e).write-status.result (w e).write-status.ensures e.if1.false in
     λ g same.
-    wrote-done a.service a.body.now (behind (w e)) b (found (w e)) (w e).write-status.result (w e).write-status.ensures e.if1.false
+    wrote_done a.service a.body.now (behind (w e)) b (found (w e)) (w e).write-status.result (w e).write-status.ensures e.if1.false
     g (written g a.service a.body.now) _ refl
-    (copied.ensures ∙ (λ i. stored (sym same i) (at i) (values-are a.service a.body.now (behind (w e)) b (found (w e)) i)))
+    (copied.ensures ∙ (λ i. stored (sym same i) (at i) (values_are a.service a.body.now (behind (w e)) b (found (w e)) i)))
 
 pub write_spec : {M : Type 1} → statement M
 write_spec =

@@ -4,12 +4,12 @@ use Prim.Native.Nat.{ℕ, ◌+◌, ◌*◌, ◌≤◌}
 use native.Mathlib.Omega.{arith}
 use borrow.Author.Rules.{rules}
 use lib.ListN.{length, length-take, length-drop}
-use Rattle.document.specs.Areas.{variablesEnd}
-use Rattle.document.specs.Stores.{maskStored}
-use Rattle.document.specs.Fields.{sizeField}
-use Rattle.document.specs.Commands.{writtenMasked, served}
+use Rattle.document.specs.Areas.{variables_end}
+use Rattle.document.specs.Stores.{mask_stored}
+use Rattle.document.specs.Fields.{size_field}
+use Rattle.document.specs.Commands.{written_masked, served}
 use Rattle.serve_fields.specs.Found.{AreFields}
-use Rattle.serve_writes.proofs.WriteLaws.{values-are, masks-are, wrote-refused, wrote-done, written-inside, parts-inside, address_is}
+use Rattle.serve_writes.proofs.WriteLaws.{values_are, masks_are, wrote_refused, wrote_done, written_inside, parts_inside, address_is}
 use Rattle.serve_writes.proofs.write_masked.Statement.{statement}
 use Rattle.serve_writes.proofs.write_masked.Tie as tie
 
@@ -24,7 +24,7 @@ start w = w.before.before.before.before
 
 -- data and mask stand behind the address
 abbrev behind : tie.After-write-status → ℕ
-behind w = 2 * sizeField (start w).args.service (start w).args.body.now
+behind w = 2 * size_field (start w).args.service (start w).args.body.now
 
 found : (w : tie.After-write-status) → AreFields (start w).args.service (start w).args.body.now (behind w) w.before.block_in.result
 found w = w.before.block_in.ensures (behind w) refl
@@ -35,22 +35,22 @@ returns c =
     let w = c.before in
     let a = (start w).args in
     λ g same.
-    wrote-refused a.service a.body.now (behind w) w.before.block_in.result (found w) w.write-status.result w.write-status.ensures
-    g (writtenMasked g a.service a.body.now) a.memory.now same c.if1.true
+    wrote_refused a.service a.body.now (behind w) w.before.block_in.result (found w) w.write-status.result w.write-status.ensures
+    g (written_masked g a.service a.body.now) a.memory.now same c.if1.true
 
 -- ---- nothing refuses it
 module _ (e : tie.Else1) where
   abbrev w : tie.After-write-status
   w = e.before
 
-  inside : w.before.block_in.result.address + w.before.block_in.result.size ≤ variablesEnd
+  inside : w.before.block_in.result.address + w.before.block_in.result.size ≤ variables_end
   inside =
-      written-inside (start w).args.service (start w).args.body.now (behind w) w.before.block_in.result (found w) w.write-status.result w.write-status.ensures
+      written_inside (start w).args.service (start w).args.body.now (behind w) w.before.block_in.result (found w) w.write-status.result w.write-status.ensures
       e.if1.left
 
   fits : w.before.block_in.result.place + behind w ≤ length (start w).args.body.now
   fits =
-      parts-inside (start w).args.service (start w).args.body.now (behind w) w.before.block_in.result (found w) w.write-status.result w.write-status.ensures
+      parts_inside (start w).args.service (start w).args.body.now (behind w) w.before.block_in.result (found w) w.write-status.result w.write-status.ensures
       e.if1.left
 
 usize-of-u32-requires : tie.Need-usize-of-u32-requires
@@ -109,12 +109,12 @@ returns-2 c =
     let b = (w e).before.block_in.result in
     let at = u.usize-of-u32.ensures.0 ∙ address_is a.service a.body.now (behind (w e)) b (found (w e)) (w e).write-status.result (w e).write-status.ensures e.if1.false in
     λ g same.
-    wrote-done a.service a.body.now (behind (w e)) b (found (w e)) (w e).write-status.result (w e).write-status.ensures e.if1.false
-    g (writtenMasked g a.service a.body.now) _ refl
+    wrote_done a.service a.body.now (behind (w e)) b (found (w e)) (w e).write-status.result (w e).write-status.ensures e.if1.false
+    g (written_masked g a.service a.body.now) _ refl
     (mixed.mix.ensures
-    ∙ (λ i. maskStored (sym same i) (at i)
-    (values-are a.service a.body.now (behind (w e)) b (found (w e)) i)
-    (masks-are a.service a.body.now (behind (w e)) b (found (w e)) i)))
+    ∙ (λ i. mask_stored (sym same i) (at i)
+    (values_are a.service a.body.now (behind (w e)) b (found (w e)) i)
+    (masks_are a.service a.body.now (behind (w e)) b (found (w e)) i)))
 
 pub write-masked-spec : {M : Type 1} → statement M
 write-masked-spec =

@@ -6,7 +6,7 @@ use native.Mathlib.Omega.{arith}
 use lib.Dec.{leb}
 use borrow.Author.Tests.{not-true, not-false}
 use borrow.Author.Rules.{rules}
-use Rattle.state_bounds.proofs.Within.{none-counted, many-counted, outside-recorded, size-decides}
+use Rattle.state_bounds.proofs.Within.{none_counted, many_counted, outside_recorded, size_decides}
 use Rattle.state_bounds.specs.declared.Measured.{Measured}
 use Rattle.state_bounds.proofs.are_recorded_sound.Statement.{statement}
 use Rattle.state_bounds.proofs.are_recorded_sound.Tie as tie
@@ -20,13 +20,13 @@ usize-of-u8-requires c κs = search rules
 returns : tie.Need-returns
 returns c =
     let args = c.before.before.before.before.args in
-    none-counted args.block.now _ c.before.usize-of-u8.result c.before.usize-of-u8.ensures.0 c.if1.true
+    none_counted args.block.now _ c.before.usize-of-u8.result c.before.usize-of-u8.ensures.0 c.if1.true
 
 returns-2 : tie.Need-returns-2
 returns-2 c =
     let args = c.before.before.before.before.before.args in
     let wide = c.before.before.usize-of-u8 in
-    many-counted args.block.now _ wide.result wide.ensures.0 c.before.if1.false c.if2.true
+    many_counted args.block.now _ wide.result wide.ensures.0 c.before.if1.false c.if2.true
 
 measure-requires : tie.Need-measure-requires
 measure-requires c κs = search rules
@@ -37,7 +37,7 @@ returns-3 c =
     let wide = c.before.before.before.before.before.usize-of-u8 in
     let if1 = c.before.before.before.before.if1 in
     let if2 = c.before.before.before.if2 in
-    outside-recorded args.block.now _ wide.result wide.ensures.0 if1.false if2.false (ap (λ (m : Measured). m.within) (sym c.before.before.measure.ensures.0) ∙ not-true _ c.if3.true)
+    outside_recorded args.block.now _ wide.result wide.ensures.0 if1.false if2.false (ap (λ (m : Measured). m.within) (sym c.before.before.measure.ensures.0) ∙ not-true _ c.if3.true)
 
 word-at-requires : tie.Need-word-at-requires
 word-at-requires c κs = search rules
@@ -58,7 +58,7 @@ returns-4 c =
     let if2 = c.before.before.before.before.before.before.if2 in
     let measure = c.before.before.before.before.before.measure in
     let if3 = c.before.before.before.if3 in
-    let w = ap (λ (m : Measured). m.within) (sym measure.ensures.0) ∙ not-false _ if3.false in (λ i. leb ((c.before.usize-of-u16.ensures.0 ∙ c.before.before.word_at.ensures) i * measure.result.size) 4096) ∙ size-decides args.block.now _ wide.result wide.ensures.0 if1.false if2.false measure.result.size w (ap (λ (m : Measured). m.size) measure.ensures.0 ∙ rw w refl)
+    let w = ap (λ (m : Measured). m.within) (sym measure.ensures.0) ∙ not-false _ if3.false in (λ i. leb ((c.before.usize-of-u16.ensures.0 ∙ c.before.before.word_at.ensures) i * measure.result.size) 4096) ∙ size_decides args.block.now _ wide.result wide.ensures.0 if1.false if2.false measure.result.size w (ap (λ (m : Measured). m.size) measure.ensures.0 ∙ rw w refl)
 
 pub are-recorded-sound-spec : {M : Type 1} → statement M
 are-recorded-sound-spec =

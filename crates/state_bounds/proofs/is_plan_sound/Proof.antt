@@ -3,10 +3,10 @@ use mathlib.Core.Path.{sym, ◌∙◌}
 use lib.ListN.{get_or}
 use borrow.Author.Tests.{not-true, not-false}
 use borrow.Author.Rules.{rules}
-use Rattle.recorder_plans.specs.Bounds.{triggerSound}
-use Rattle.state_bounds.proofs.Within.{no-samples, trigger-outside, variables-decide}
-use Rattle.state_block.specs.Layout.{decodedPlan}
-use Rattle.state_block.specs.Places.{planPlace, triggerSizePlace, signPlace}
+use Rattle.recorder_plans.specs.Bounds.{trigger_sound}
+use Rattle.state_bounds.proofs.Within.{no_samples_lem, trigger_outside, variables_decide}
+use Rattle.state_block.specs.Layout.{decoded_plan}
+use Rattle.state_block.specs.Places.{plan_place, trigger_size_place, sign_place}
 use Rattle.state_bounds.proofs.is_plan_sound.Statement.{statement}
 use Rattle.state_bounds.proofs.is_plan_sound.Tie as tie
 
@@ -16,7 +16,7 @@ word-at-requires c κs = search rules
 returns : tie.Need-returns
 returns c =
     let args = c.before.before.before.args in
-    no-samples (decodedPlan args.block.now) (sym c.before.word_at.ensures ∙ c.if1.true)
+    no_samples_lem (decoded_plan args.block.now) (sym c.before.word_at.ensures ∙ c.if1.true)
 
 shared-slice-read-is-trigger-sound : tie.Need-shared-slice-read-is-trigger-sound
 shared-slice-read-is-trigger-sound c = search rules
@@ -42,7 +42,7 @@ returns-2 c =
     let word_at = c.before.before.before.before.before.before.before.before.word_at in
     let if1 = c.before.before.before.before.before.before.before.if1 in
     let long-at = c.before.before.before.long-at in
-    let l = args.block.now in trigger-outside (decodedPlan l) (λ z. if1.false (word_at.ensures ∙ z)) (sym (c.before.is-trigger-sound.ensures ∙ (λ i. triggerSound (get_or l planPlace 0) (get_or l triggerSizePlace 0) (get_or l signPlace 0) (long-at.ensures i) (c.before.before.long-at2.ensures i))) ∙ not-true _ c.if2.true)
+    let l = args.block.now in trigger_outside (decoded_plan l) (λ z. if1.false (word_at.ensures ∙ z)) (sym (c.before.is-trigger-sound.ensures ∙ (λ i. trigger_sound (get_or l plan_place 0) (get_or l trigger_size_place 0) (get_or l sign_place 0) (long-at.ensures i) (c.before.before.long-at2.ensures i))) ∙ not-true _ c.if2.true)
 
 are-recorded-sound-requires : tie.Need-are-recorded-sound-requires
 are-recorded-sound-requires c κs = search rules
@@ -54,7 +54,7 @@ returns-3 c =
     let if1 = c.before.before.before.before.before.before.before.before.if1 in
     let long-at = c.before.before.before.before.long-at in
     let long-at2 = c.before.before.before.long-at2 in
-    let l = args.block.now in variables-decide (decodedPlan l) (λ z. if1.false (word_at.ensures ∙ z)) (sym (c.before.before.is-trigger-sound.ensures ∙ (λ i. triggerSound (get_or l planPlace 0) (get_or l triggerSizePlace 0) (get_or l signPlace 0) (long-at.ensures i) (long-at2.ensures i))) ∙ not-false _ c.before.if2.false) _ c.are-recorded-sound.ensures
+    let l = args.block.now in variables_decide (decoded_plan l) (λ z. if1.false (word_at.ensures ∙ z)) (sym (c.before.before.is-trigger-sound.ensures ∙ (λ i. trigger_sound (get_or l plan_place 0) (get_or l trigger_size_place 0) (get_or l sign_place 0) (long-at.ensures i) (long-at2.ensures i))) ∙ not-false _ c.before.if2.false) _ c.are-recorded-sound.ensures
 
 pub is-plan-sound-spec : {M : Type 1} → statement M
 is-plan-sound-spec =

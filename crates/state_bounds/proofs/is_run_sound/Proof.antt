@@ -2,8 +2,8 @@
 use mathlib.Core.Path.{◌∙◌}
 use lib.ListN.{get_or}
 use borrow.Author.Rules.{rules}
-use Rattle.recorder_runs.specs.Bounds.{soundBeside, runSound}
-use Rattle.state_block.specs.Places.{triggerSizePlace}
+use Rattle.recorder_runs.specs.Bounds.{sound_beside, run_sound}
+use Rattle.state_block.specs.Places.{trigger_size_place}
 use Rattle.state_bounds.proofs.is_run_sound.Statement.{statement}
 use Rattle.state_bounds.proofs.is_run_sound.Tie as tie
 
@@ -26,7 +26,7 @@ is-sound-requires : tie.Need-is-sound-requires
 is-sound-requires c κs = search rules
 
 returns : tie.Need-returns
-unfolding runSound
+unfolding run_sound
 returns c =
     let post = c.before in
     let divider = post.before.before in
@@ -34,7 +34,7 @@ returns c =
     let run = samples.before in
     let block = run.before.before.args.block.now in
     c.is-sound.ensures
-    ∙ (λ i. soundBeside (samples.word_at.ensures i) (divider.word-at2.ensures i) (get_or block triggerSizePlace 0) (post.word-at3.ensures i) (run.run_in.ensures i))
+    ∙ (λ i. sound_beside (samples.word_at.ensures i) (divider.word-at2.ensures i) (get_or block trigger_size_place 0) (post.word-at3.ensures i) (run.run_in.ensures i))
 
 pub is-run-sound-spec : {M : Type 1} → statement M
 is-run-sound-spec =

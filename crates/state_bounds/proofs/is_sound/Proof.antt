@@ -4,12 +4,12 @@ use mathlib.Core.Bool.{true}
 use borrow.Author.Tests.{not-true, not-false}
 use borrow.Author.Rules.{rules}
 use Rattle.state_parts.specs.State.{Target}
-use Rattle.state_parts.proofs.Parts.{receiver-outside, scope-outside, recorder-outside, application-outside, tables-decide}
+use Rattle.state_parts.proofs.Parts.{receiver_outside, scope_outside, recorder_outside, application_outside, tables_decide}
 use Rattle.line_receiver.specs.Bounds as link
 use Rattle.scope_state.specs.State as scope
 use Rattle.recorder_state.specs.Bounds as recorder
 use Rattle.tables_state.specs.State as tables
-use Rattle.state_block.specs.Layout.{decodedTables, decoded}
+use Rattle.state_block.specs.Layout.{decoded_tables, decoded}
 use Rattle.state_bounds.proofs.is_sound.Statement.{statement}
 use Rattle.state_bounds.proofs.is_sound.Tie as tie
 
@@ -26,7 +26,7 @@ state r = decoded r.before.before.before.args.block.now
 returns : tie.Need-returns
 returns c =
     let r = c.before in
-    receiver-outside (state r) (sym (ap link.sound r.before.receiver-in.ensures) ∙ sym r.is-sound.ensures ∙ not-true _ c.if1.true)
+    receiver_outside (state r) (sym (ap link.sound r.before.receiver-in.ensures) ∙ sym r.is-sound.ensures ∙ not-true _ c.if1.true)
 
 -- the receiver is within its bounds
 receiver-inside : (e : tie.Else1) → link.sound (state e.before).receiver ≡ true
@@ -40,7 +40,7 @@ is-scope-sound-requires c κs = search rules
 returns-2 : tie.Need-returns-2
 returns-2 c =
     let e = c.before.before in
-    scope-outside (state e.before) (receiver-inside e) (sym c.before.is-scope-sound.ensures ∙ not-true _ c.if2.true)
+    scope_outside (state e.before) (receiver-inside e) (sym c.before.is-scope-sound.ensures ∙ not-true _ c.if2.true)
 
 -- and so is the scope
 scope-inside : (f : tie.Else2) → scope.sound (state f.before.before.before).instruments.scope ≡ true
@@ -53,7 +53,7 @@ returns-3 : tie.Need-returns-3
 returns-3 c =
     let f = c.before.before in
     let e = f.before.before in
-    recorder-outside (state e.before) (receiver-inside e) (scope-inside f) (sym c.before.is-recorder-sound.ensures ∙ not-true _ c.if3.true)
+    recorder_outside (state e.before) (receiver-inside e) (scope-inside f) (sym c.before.is-recorder-sound.ensures ∙ not-true _ c.if3.true)
 
 is-application-sound-requires : tie.Need-is-application-sound-requires
 is-application-sound-requires c κs = search rules
@@ -67,20 +67,20 @@ returns-4 c =
     let k = c.before.before in
     let f = k.before.before in
     let e = f.before.before in
-    application-outside (state e.before) (receiver-inside e) (scope-inside f) (recorder-inside k)
+    application_outside (state e.before) (receiver-inside e) (scope-inside f) (recorder-inside k)
     (sym c.before.is-application-sound.ensures ∙ not-true _ c.if4.true)
 
 shared-slice-read-result : tie.Need-shared-slice-read-result
 shared-slice-read-result c = search rules
 
 returns-5 : tie.Need-returns-5
-unfolding tables.sound decodedTables
+unfolding tables.sound decoded_tables
 returns-5 c =
     let d = c.before in
     let k = d.before.before in
     let f = k.before.before in
     let e = f.before.before in
-    tables-decide (state e.before) (receiver-inside e) (scope-inside f) (recorder-inside k)
+    tables_decide (state e.before) (receiver-inside e) (scope-inside f) (recorder-inside k)
     (sym d.before.is-application-sound.ensures ∙ not-false _ d.if4.false)
 
 pub is-sound-spec : {M : Type 1} → statement M

@@ -8,15 +8,15 @@ use borrow.Author.Tests.{not-true, not-false}
 use borrow.Author.Rules.{rules}
 use Rattle.document.specs.Areas.{bytes_at}
 use Rattle.document.specs.Values.{number}
-use Rattle.document.specs.Variables.{definitionsIn, setSize}
+use Rattle.document.specs.Variables.{definitions_in, set_size}
 use Rattle.state_bounds.specs.declared.Measured.{Measured}
-use Rattle.state_bounds.proofs.Looked.{turn-zero, turn-outside, turn-within, turn-size, measured-outside, measured-within, none_within}
-use Rattle.state_bounds.specs.Measured.{areWithin}
+use Rattle.state_bounds.proofs.Looked.{turn_zero, turn_outside, turn_within, turn_size, measured_outside, measured_within, none_within}
+use Rattle.state_bounds.specs.Measured.{are_within}
 use Rattle.state_bounds.proofs.measure.Statement.{statement}
 use Rattle.state_bounds.proofs.measure.Tie as tie
 
 abbrev invariant-loop : tie.invariant-loop
-invariant-loop block from count limit at₀ left₀ size₀ at left size = (left ≤ count) × (at + 5 * left ≡ from + 5 * count) × (size ≤ 255 * (count - left)) × (areWithin limit (definitionsIn true left (drop at block)) ≡ areWithin limit (definitionsIn true count (drop from block))) × (size + setSize (definitionsIn true left (drop at block)) ≡ setSize (definitionsIn true count (drop from block)))
+invariant-loop block from count limit at₀ left₀ size₀ at left size = (left ≤ count) × (at + 5 * left ≡ from + 5 * count) × (size ≤ 255 * (count - left)) × (are_within limit (definitions_in true left (drop at block)) ≡ are_within limit (definitions_in true count (drop from block))) × (size + set_size (definitions_in true left (drop at block)) ≡ set_size (definitions_in true count (drop from block)))
 
 abbrev decreases-loop : tie.decreases-loop
 decreases-loop block from count limit at₀ left₀ size₀ at left size = left
@@ -38,7 +38,7 @@ returns c =
     let args = c.before.before.before.before.before.before.before.args in
     let loop = c.before.before.before.before.before.loop in
     let wide = c.before.before.usize-of-u8 in
-    let a = args in let l = loop in let f = sym l.invariant.3 ∙ turn-zero a.block.now a.limit l.at l.left (omega arith) wide.result (number (bytes_at a.block.now (l.at + 1) 4)) wide.ensures.0 refl c.before.if1.true in let z : c.outside.result.size ≡ 0 = ap (λ (m : Measured). m.size) c.outside.ensures in (c.outside.ensures ∙ measured-outside a.limit (definitionsIn true a.count (drop a.from a.block.now)) f, omega arith)
+    let a = args in let l = loop in let f = sym l.invariant.3 ∙ turn_zero a.block.now a.limit l.at l.left (omega arith) wide.result (number (bytes_at a.block.now (l.at + 1) 4)) wide.ensures.0 refl c.before.if1.true in let z : c.outside.result.size ≡ 0 = ap (λ (m : Measured). m.size) c.outside.ensures in (c.outside.ensures ∙ measured_outside a.limit (definitions_in true a.count (drop a.from a.block.now)) f, omega arith)
 
 add-long-at : tie.Need-overflow-add-long-at invariant-loop decreases-loop
 add-long-at c = search rules
@@ -58,7 +58,7 @@ returns-2 c =
     let loop = c.before.before.before.before.before.before.before.before.loop in
     let wide = c.before.before.before.before.before.usize-of-u8 in
     let long-at = c.before.before.before.long-at in
-    let a = args in let l = loop in let w = wide in let f = sym l.invariant.3 ∙ turn-outside a.block.now a.limit l.at l.left (omega arith) w.result long-at.result w.ensures.0 long-at.ensures (sym c.before.before.within.ensures ∙ not-true _ c.before.if2.true) in let z : c.outside2.result.size ≡ 0 = ap (λ (m : Measured). m.size) c.outside2.ensures in (c.outside2.ensures ∙ measured-outside a.limit (definitionsIn true a.count (drop a.from a.block.now)) f, omega arith)
+    let a = args in let l = loop in let w = wide in let f = sym l.invariant.3 ∙ turn_outside a.block.now a.limit l.at l.left (omega arith) w.result long-at.result w.ensures.0 long-at.ensures (sym c.before.before.within.ensures ∙ not-true _ c.before.if2.true) in let z : c.outside2.result.size ≡ 0 = ap (λ (m : Measured). m.size) c.outside2.ensures in (c.outside2.ensures ∙ measured_outside a.limit (definitions_in true a.count (drop a.from a.block.now)) f, omega arith)
 
 add-size : tie.Need-overflow-add-size invariant-loop decreases-loop
 add-size c = search rules
@@ -78,12 +78,12 @@ loop-again c =
     let loop = c.before.before.before.before.before.before.before.loop in
     let wide = c.before.before.before.before.usize-of-u8 in
     let if1 = c.before.before.before.if1 in
-    let a = args in let l = loop in let w = wide in let n = c.before.before.long-at in (omega arith, omega arith, omega arith, turn-within a.block.now a.limit l.at l.left (omega arith) w.result n.result w.ensures.0 n.ensures if1.false (sym c.before.within.ensures ∙ not-false _ c.if2.false) ∙ l.invariant.3, omega (arith, turn-size a.block.now a.limit l.at l.left (omega arith) w.result n.result w.ensures.0 n.ensures, l.invariant.4))
+    let a = args in let l = loop in let w = wide in let n = c.before.before.long-at in (omega arith, omega arith, omega arith, turn_within a.block.now a.limit l.at l.left (omega arith) w.result n.result w.ensures.0 n.ensures if1.false (sym c.before.within.ensures ∙ not-false _ c.if2.false) ∙ l.invariant.3, omega (arith, turn_size a.block.now a.limit l.at l.left (omega arith) w.result n.result w.ensures.0 n.ensures, l.invariant.4))
 
 returns-3 : tie.Need-returns-3 invariant-loop decreases-loop
 returns-3 c =
     let args = c.before.before.before.args in
-    let a = args in let l = c.before.loop in let z : l.left ≡ 0 = omega arith in let w = sym (rw z at l.invariant.3) ∙ none_within a.limit in (measured-within a.limit (definitionsIn true a.count (drop a.from a.block.now)) l.size w (omega (arith, rw z at l.invariant.4)), omega arith)
+    let a = args in let l = c.before.loop in let z : l.left ≡ 0 = omega arith in let w = sym (rw z at l.invariant.3) ∙ none_within a.limit in (measured_within a.limit (definitions_in true a.count (drop a.from a.block.now)) l.size w (omega (arith, rw z at l.invariant.4)), omega arith)
 
 pub measure-spec : {M : Type 1} → statement M
 measure-spec =

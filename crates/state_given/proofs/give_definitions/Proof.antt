@@ -8,14 +8,14 @@ use native.Mathlib.Omega.{arith}
 use lib.ListN.{length, drop}
 use lib.Seq.{sets}
 use borrow.Author.Rules.{rules}
-use Rattle.document.specs.Variables.{definitionWidth, definitionsIn}
-use Rattle.state_block.specs.Layout.{encodedDefinitions}
-use Rattle.state_setups.proofs.Turns.{left_one, definition-stored}
+use Rattle.document.specs.Variables.{definition_width, definitions_in}
+use Rattle.state_block.specs.Layout.{encoded_definitions}
+use Rattle.state_setups.proofs.Turns.{left_one, definition_stored}
 use Rattle.state_given.proofs.give_definitions.Statement.{statement}
 use Rattle.state_given.proofs.give_definitions.Tie as tie
 
 abbrev invariant-loop : tie.invariant-loop
-invariant-loop block₀ at part n width read₀ write₀ k₀ block read write k = (k ≤ n) × (length block ≡ length block₀) × (read + (n - k) * definitionWidth false ≤ length part) × (write + (n - k) * 5 ≤ length block₀) × (sets block write (encodedDefinitions (definitionsIn false (n - k) (drop read part))) ≡ sets block₀ at (encodedDefinitions (definitionsIn false n (drop 1 part))))
+invariant-loop block₀ at part n width read₀ write₀ k₀ block read write k = (k ≤ n) × (length block ≡ length block₀) × (read + (n - k) * definition_width false ≤ length part) × (write + (n - k) * 5 ≤ length block₀) × (sets block write (encoded_definitions (definitions_in false (n - k) (drop read part))) ≡ sets block₀ at (encoded_definitions (definitions_in false n (drop 1 part))))
 
 abbrev decreases-loop : tie.decreases-loop
 decreases-loop block₀ at part n width read₀ write₀ k₀ block read write k = n - k
@@ -68,8 +68,8 @@ loop-again c =
       put.put-definition.auto.0 ∙ l.invariant.1,
       omega (arith, left_one a.n l.k 3 left, wide, l.invariant.2),
       omega (arith, left_one a.n l.k 5 left, l.invariant.3),
-      ap (λ (b : List ℕ). sets b (l.write + 5) (encodedDefinitions (definitionsIn false (a.n - (l.k + 1)) (drop (l.read + (1 + width.result)) part)))) put.put-definition.ensures
-          ∙ definition-stored false part l.block l.read l.write a.n l.k width.result _ _ left wide refl read.number_at.ensures.value
+      ap (λ (b : List ℕ). sets b (l.write + 5) (encoded_definitions (definitions_in false (a.n - (l.k + 1)) (drop (l.read + (1 + width.result)) part)))) put.put-definition.ensures
+          ∙ definition_stored false part l.block l.read l.write a.n l.k width.result _ _ left wide refl read.number_at.ensures.value
           ∙ l.invariant.4,
     )
 

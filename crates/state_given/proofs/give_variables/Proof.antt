@@ -5,9 +5,9 @@ use Prim.Native.Nat.{ℕ, ◌+◌, ◌-◌, ◌*◌}
 use lib.ListN.{get_or, set, drop, replicate}
 use lib.Seq.{sets}
 use borrow.Author.Rules.{rules}
-use Rattle.document.specs.Variables.{definitionsIn}
-use Rattle.state_block.specs.Layout.{encodedDefinitions}
-use Rattle.state_setups.proofs.Padded.{part-stored}
+use Rattle.document.specs.Variables.{definitions_in}
+use Rattle.state_block.specs.Layout.{encoded_definitions}
+use Rattle.state_setups.proofs.Padded.{part_stored}
 use Rattle.state_given.proofs.give_variables.Statement.{statement}
 use Rattle.state_given.proofs.give_variables.Tie as tie
 
@@ -40,8 +40,8 @@ returns c =
     let n : ℕ = get_or part 0 0 in
     enclosed.complete-definitions.ensures
     ∙ (λ i. sets (set (given.give-definitions.ensures i) a.at n) (a.at + 1 + n * 5) (replicate ((8 - n) * 5) 0))
-    ∙ (λ i. sets (set (sets a.block.now (a.at + 1) (encodedDefinitions (definitionsIn false (u.usize-of-u8.ensures.0 i) (drop 1 part)))) a.at n) (a.at + 1 + n * 5) (replicate ((8 - n) * 5) 0))
-    ∙ part-stored false a.block.now part a.at n refl s.requires.0
+    ∙ (λ i. sets (set (sets a.block.now (a.at + 1) (encoded_definitions (definitions_in false (u.usize-of-u8.ensures.0 i) (drop 1 part)))) a.at n) (a.at + 1 + n * 5) (replicate ((8 - n) * 5) 0))
+    ∙ part_stored false a.block.now part a.at n refl s.requires.0
 
 pub give-variables-spec : {M : Type 1} → statement M
 give-variables-spec =

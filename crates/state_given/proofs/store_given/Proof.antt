@@ -7,16 +7,16 @@ use native.Mathlib.Omega.{arith}
 use lib.ListN.{length, set, take, drop, length-drop}
 use lib.Seq.{sets}
 use borrow.Author.Rules.{rules}
-use Rattle.document.specs.Plan.{headWidth, variablesPart, recordedIn}
-use Rattle.document.specs.Variables.{countIn, variablesIn, lengthGiven}
+use Rattle.document.specs.Plan.{head_width, variables_part, recorded_in}
+use Rattle.document.specs.Variables.{count_in, variables_in, length_given}
 use Rattle.variables_list.specs.State.{kept}
-use Rattle.variables_list.proofs.Wrong.{count-right}
+use Rattle.variables_list.proofs.Wrong.{count_right}
 use Rattle.recorder_plans.specs.declared.plan.Plan.{Plan}
-use Rattle.recorder_setups.proofs.SetUps.{Accepted, accepted, tail-part}
-use Rattle.recorder_state.specs.Preparing.{preparedState}
-use Rattle.state_block.specs.Layout.{encodedNumbers, encodedVariables, encodedRun}
-use Rattle.state_block.specs.Places.{recorderPlace, planPlace, recordedPlace, runPlace}
-use Rattle.state_setups.proofs.Joined.{prepared-put}
+use Rattle.recorder_setups.proofs.SetUps.{Accepted, accepted, tail_part}
+use Rattle.recorder_state.specs.Preparing.{prepared_state}
+use Rattle.state_block.specs.Layout.{encoded_numbers, encoded_variables, encoded_run}
+use Rattle.state_block.specs.Places.{recorder_place, plan_place, recorded_place, run_place}
+use Rattle.state_setups.proofs.Joined.{prepared_put}
 use Rattle.state_given.proofs.store_given.Statement.{statement}
 use Rattle.state_given.proofs.store_given.Tie as tie
 
@@ -27,22 +27,22 @@ module _ (s : tie.Start) where
   facts : Accepted false told
   facts = accepted false told s.pre.1
 
-  few : countIn (variablesPart false told) ≤ 8
-  few = (count-right (countIn (variablesPart false told)) facts.count).1
+  few : count_in (variables_part false told) ≤ 8
+  few = (count_right (count_in (variables_part false told)) facts.count).1
 
-  whole : lengthGiven false (variablesPart false told) ≤ length (variablesPart false told)
+  whole : length_given false (variables_part false told) ≤ length (variables_part false told)
   whole = rw length-drop (omega (arith, facts.right))
 
   -- the variables stand behind the head, and are all of the rest
-  module _ (from : ℕ) (e : from ≡ headWidth false) where
+  module _ (from : ℕ) (e : from ≡ head_width false) where
     behind : from ≤ length told
     behind = omega (arith, facts.right, e)
 
-    rest : take (length told - from) (drop from told) ≡ variablesPart false told
-    rest = tail-part false told from e
+    rest : take (length told - from) (drop from told) ≡ variables_part false told
+    rest = tail_part false told from e
 
 read-plan-requires : tie.Need-read-plan-requires
-read-plan-requires c κs = behind c.before.before (headWidth false) refl
+read-plan-requires c κs = behind c.before.before (head_width false) refl
 
 abbrev head : tie.After-give-variables-arg → tie.After-head-width
 head c = c.before
@@ -90,13 +90,13 @@ returns c =
     let s = start h in
     let block = s.args.block.now in
     run.prepare-run.ensures
-    ∙ ap (λ (l : List ℕ). sets l runPlace (encodedRun (preparedState false (told s)).run))
+    ∙ ap (λ (l : List ℕ). sets l run_place (encoded_run (prepared_state false (told s)).run))
     (given.give-variables.ensures
-    ∙ ap (λ (q : List ℕ). sets (numbered h).store-numbers.last.0 recordedPlace (encodedVariables (kept (variablesIn false q)))) (rest s h.head-width.result h.head-width.ensures.0)
-    ∙ ap (λ (l : List ℕ). sets l recordedPlace (encodedVariables (kept (recordedIn false (told s)))))
+    ∙ ap (λ (q : List ℕ). sets (numbered h).store-numbers.last.0 recorded_place (encoded_variables (kept (variables_in false q)))) (rest s h.head-width.result h.head-width.ensures.0)
+    ∙ ap (λ (l : List ℕ). sets l recorded_place (encoded_variables (kept (recorded_in false (told s)))))
     ((numbered h).store-numbers.ensures
-    ∙ ap (λ (p : Plan). sets (set block recorderPlace 1) planPlace (encodedNumbers p)) read.read-plan.ensures.0))
-    ∙ prepared-put block s.pre.0 (λ i. (read.before.before.slice-known.given i).fits) false (told s)
+    ∙ ap (λ (p : Plan). sets (set block recorder_place 1) plan_place (encoded_numbers p)) read.read-plan.ensures.0))
+    ∙ prepared_put block s.pre.0 (λ i. (read.before.before.slice-known.given i).fits) false (told s)
 
 pub store-given-spec : {M : Type 1} → statement M
 store-given-spec =

@@ -3,19 +3,19 @@ use mathlib.Core.Path.{◌≡◌, sym, ◌∙◌}
 use Prim.Native.Nat.{◌-◌, ◌≤◌}
 use native.Mathlib.Omega.{arith}
 use borrow.Author.Rules.{rules}
-use Rattle.document.specs.BaseTypes.{sizeOfCode}
-use Rattle.tables_base_types.proofs.Search.{found, all-rows, no_row, hit, miss}
+use Rattle.document.specs.BaseTypes.{size_of_code}
+use Rattle.tables_base_types.proofs.Search.{found, all_rows, no_row, hit, miss}
 use Rattle.tables_base_types.proofs.size_of.Statement.{statement}
 use Rattle.tables_base_types.proofs.size_of.Tie as tie
 
 abbrev invariant-loop : tie.invariant-loop
-invariant-loop code i₀ i = (i ≤ 14) × (found code i ≡ sizeOfCode code)
+invariant-loop code i₀ i = (i ≤ 14) × (found code i ≡ size_of_code code)
 
 abbrev decreases-loop : tie.decreases-loop
 decreases-loop code i₀ i = 14 - i
 
 loop-holds : tie.Need-loop-init invariant-loop decreases-loop
-loop-holds c = (search rules, all-rows _)
+loop-holds c = (search rules, all_rows _)
 
 array-read-if1 : tie.Need-array-read-if1 invariant-loop decreases-loop
 array-read-if1 c = search rules

@@ -8,12 +8,12 @@ use native.Mathlib.Omega.{arith}
 use lib.ListN.{length, take, drop}
 use borrow.Author.Tests.{leb-true}
 use borrow.Author.Rules.{rules}
-use Rattle.document.specs.Areas.{recordedEnd, mayBeRecorded, bytes_at}
+use Rattle.document.specs.Areas.{recorded_end, may_be_recorded, bytes_at}
 use Rattle.document.specs.Values.{number}
 use Rattle.document.specs.Stores.{stored}
-use Rattle.document.specs.Variables.{definitionsIn, allMay, setSize, values_of}
-use Rattle.memory_ranges.proofs.Copies.{stored-length}
-use Rattle.variables_sets.proofs.Places.{stored-front, size-first, may-first, variable-kept}
+use Rattle.document.specs.Variables.{definitions_in, all_may, set_size, values_of}
+use Rattle.memory_ranges.proofs.Copies.{stored_length}
+use Rattle.variables_sets.proofs.Places.{stored_front, size_first, may_first, variable_kept}
 use Rattle.variables_sets.proofs.copy_set.Statement.{statement}
 use Rattle.variables_sets.proofs.copy_set.Tie as tie
 
@@ -23,11 +23,11 @@ invariant-loop memory₀ at size block from count end next₀ left₀ done₀ me
     × (next + 5 * left ≡ from + 5 * count)
     × (length memory ≡ length memory₀)
     × (take at memory ≡ take at memory₀)
-    × (allMay mayBeRecorded (definitionsIn true left (drop next block)) ≡ true)
-    × (done + setSize (definitionsIn true left (drop next block)) ≡ size)
+    × (all_may may_be_recorded (definitions_in true left (drop next block)) ≡ true)
+    × (done + set_size (definitions_in true left (drop next block)) ≡ size)
     × (end ≡ at + size)
-    × (stored memory (at + done) (values_of memory₀ (definitionsIn true left (drop next block)))
-    ≡ stored memory₀ at (values_of memory₀ (definitionsIn true count (drop from block))))
+    × (stored memory (at + done) (values_of memory₀ (definitions_in true left (drop next block)))
+    ≡ stored memory₀ at (values_of memory₀ (definitions_in true count (drop from block))))
 
 abbrev decreases-loop : tie.decreases-loop
 decreases-loop memory₀ at size block from count end next₀ left₀ done₀ memory next left done = left
@@ -56,17 +56,17 @@ module _ (w : tie.After-usize-of-u8 invariant-loop decreases-loop) where
   defined : address ≡ number (bytes_at block (turn.before.loop.next + 1) 4)
   defined = w.before.before.usize-of-u32.ensures.0 ∙ w.before.before.before.long-at.ensures
 
-  may : (mayBeRecorded address width ≡ true)
-      × (allMay mayBeRecorded (definitionsIn true (turn.before.loop.left - 1) (drop (turn.before.loop.next + 5) block)) ≡ true)
+  may : (may_be_recorded address width ≡ true)
+      × (all_may may_be_recorded (definitions_in true (turn.before.loop.left - 1) (drop (turn.before.loop.next + 5) block)) ≡ true)
   may =
-      may-first block turn.before.loop.next turn.before.loop.left width address some w.usize-of-u8.ensures.0 defined mayBeRecorded turn.before.loop.inv.4
+      may_first block turn.before.loop.next turn.before.loop.left width address some w.usize-of-u8.ensures.0 defined may_be_recorded turn.before.loop.inv.4
 
-  below : address + width ≤ recordedEnd
+  below : address + width ≤ recorded_end
   below = leb-true _ _ may.0
 
-  more : turn.before.loop.done + width + setSize (definitionsIn true (turn.before.loop.left - 1) (drop (turn.before.loop.next + 5) block)) ≡ begun.args.size
+  more : turn.before.loop.done + width + set_size (definitions_in true (turn.before.loop.left - 1) (drop (turn.before.loop.next + 5) block)) ≡ begun.args.size
   more =
-      omega (arith, size-first block turn.before.loop.next turn.before.loop.left width address some w.usize-of-u8.ensures.0 defined, turn.before.loop.inv.5)
+      omega (arith, size_first block turn.before.loop.next turn.before.loop.left width address some w.usize-of-u8.ensures.0 defined, turn.before.loop.inv.5)
 
 add-end : tie.Need-overflow-add-end invariant-loop decreases-loop
 add-end c = search rules
@@ -117,12 +117,12 @@ loop-again c =
     let bytes = bytes_at l.memory (address w) (width w) in (
       omega arith,
       omega arith,
-      stored-length l.memory v.new.0 bytes (s.args.at + l.done) v.ensures ∙ l.inv.2,
-      stored-front l.memory v.new.0 bytes s.args.at (s.args.at + l.done) (omega arith) v.ensures ∙ l.inv.3,
+      stored_length l.memory v.new.0 bytes (s.args.at + l.done) v.ensures ∙ l.inv.2,
+      stored_front l.memory v.new.0 bytes s.args.at (s.args.at + l.done) (omega arith) v.ensures ∙ l.inv.3,
       (may w).1,
       more w,
       refl,
-      variable-kept s.args.block.now l.next l.left (width w) (address w) (some w) w.usize-of-u8.ensures.0 (defined w) s.args.memory.now l.memory v.new.0 s.args.at l.done (omega (arith, below w)) (omega (arith, below w)) l.inv.3 v.ensures ∙ l.inv.7,
+      variable_kept s.args.block.now l.next l.left (width w) (address w) (some w) w.usize-of-u8.ensures.0 (defined w) s.args.memory.now l.memory v.new.0 s.args.at l.done (omega (arith, below w)) (omega (arith, below w)) l.inv.3 v.ensures ∙ l.inv.7,
     )
 
 same_length : tie.Need-same-length invariant-loop decreases-loop

@@ -8,7 +8,7 @@ use lib.ListN.{length, get_or, set, take, drop, length-take, drop_of_length-le}
 use borrow.Author.Rules.{rules}
 use Rattle.document.specs.Stores.{stored}
 use Rattle.document.specs.Areas.{bytes_at}
-use Rattle.variables_sets.proofs.Places.{part-set, byte-kept}
+use Rattle.variables_sets.proofs.Places.{part_set, byte_kept}
 use Rattle.variables_sets.proofs.copy_variable.Statement.{statement}
 use Rattle.variables_sets.proofs.copy_variable.Tie as tie
 
@@ -59,8 +59,8 @@ loop-again c =
     let l = c.before.before.before.before.before.before.loop in
     let k = c.before.before.keep in
     let e : take a.at l.memory ++ (k.new.0 ++ drop (a.end - a.at) (drop a.at l.memory)) ≡ set l.memory (a.at + (a.done + l.i)) (get_or l.memory (a.from + l.i) 0) =
-    rw k.ensures (part-set l.memory a.at (a.end - a.at) (a.done + l.i) _ (omega arith)) in
-    let g = byte-kept a.memory.now l.memory _ a.at a.done a.from a.size l.i _ (search rules) (omega arith) (omega arith) e refl l.invariant.2 in
+    rw k.ensures (part_set l.memory a.at (a.end - a.at) (a.done + l.i) _ (omega arith)) in
+    let g = byte_kept a.memory.now l.memory _ a.at a.done a.from a.size l.i _ (search rules) (omega arith) (omega arith) e refl l.invariant.2 in
     (search rules, g.0 ∙ l.invariant.1, g.1, g.2 ∙ l.invariant.3)
 
 same_length : tie.Need-same-length invariant-loop decreases-loop

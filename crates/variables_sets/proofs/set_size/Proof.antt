@@ -7,8 +7,8 @@ use lib.ListN.{drop}
 use borrow.Author.Rules.{rules}
 use Rattle.document.specs.Areas.{bytes_at}
 use Rattle.document.specs.Values.{number}
-use Rattle.document.specs.Variables.{definitionsIn, setSize}
-use Rattle.variables_sets.proofs.Places.{size-first}
+use Rattle.document.specs.Variables.{definitions_in, set_size}
+use Rattle.variables_sets.proofs.Places.{size_first}
 use Rattle.variables_sets.proofs.set_size.Statement.{statement}
 use Rattle.variables_sets.proofs.set_size.Tie as tie
 
@@ -17,7 +17,7 @@ invariant-loop block from count at₀ left₀ size₀ at left size =
     (left ≤ count)
     × (at + 5 * left ≡ from + 5 * count)
     × (size ≤ 255 * (count - left))
-    × (size + setSize (definitionsIn true left (drop at block)) ≡ setSize (definitionsIn true count (drop from block)))
+    × (size + set_size (definitions_in true left (drop at block)) ≡ set_size (definitions_in true count (drop from block)))
 
 abbrev decreases-loop : tie.decreases-loop
 decreases-loop block from count at₀ left₀ size₀ at left size = left
@@ -48,7 +48,7 @@ loop-again c =
     let l = c.before.before.before.loop in
     let block = c.before.before.before.before.before.args.block.now in
     let size = c.usize-of-u8 in
-    let more = size-first block l.at l.left size.result (number (bytes_at block (l.at + 1) 4)) (omega arith) size.ensures.0 refl in
+    let more = size_first block l.at l.left size.result (number (bytes_at block (l.at + 1) 4)) (omega arith) size.ensures.0 refl in
     (omega arith, omega arith, omega arith, omega (arith, more, l.invariant.3))
 
 returns : tie.Need-returns invariant-loop decreases-loop

@@ -6,7 +6,7 @@ use native.Mathlib.Omega.{arith}
 use lib.ListN.{length}
 use borrow.Author.Tests.{ne_eqb}
 use borrow.Author.Rules.{rules}
-use Rattle.document.specs.Variables.{lengthGiven}
+use Rattle.document.specs.Variables.{length_given}
 use Rattle.variables_surveys.proofs.is_whole.Statement.{statement}
 use Rattle.variables_surveys.proofs.is_whole.Tie as tie
 
@@ -16,7 +16,7 @@ few c = mul-le-mul {n₂ = 255} {m₂ = 5} (omega arith) (omega arith)
 returns : tie.Need-returns
 returns c =
     let s = c.before.before in
-    sym (ne_eqb (length s.args.part.now) (lengthGiven s.args.ex s.args.part.now) (λ e. omega arith))
+    sym (ne_eqb (length s.args.part.now) (length_given s.args.ex s.args.part.now) (λ e. omega arith))
 
 shared-slice-read-usize-of-u8 : tie.Need-shared-slice-read-usize-of-u8
 shared-slice-read-usize-of-u8 c = search rules

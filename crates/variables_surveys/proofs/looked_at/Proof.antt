@@ -8,7 +8,7 @@ use lib.Dec.{eqb}
 use borrow.Author.Rules.{rules}
 use Rattle.document.specs.declared.Variable.{Variable}
 use Rattle.variables_list.specs.State.{up_to}
-use Rattle.variables_definitions.specs.Parts.{variableOf}
+use Rattle.variables_definitions.specs.Parts.{variable_of}
 use Rattle.variables_surveys.proofs.looked_at.Statement.{statement}
 use Rattle.variables_surveys.proofs.looked_at.Tie as tie
 
@@ -28,7 +28,7 @@ returns : tie.Need-returns
 returns c =
     let u = c.before.before in
     let a = u.before.before.args in
-    let v = variableOf a.found in
+    let v = variable_of a.found in
     let found = u.before.variable-of.ensures in
     let size : u.usize-of-u8.result ≡ v.size = u.usize-of-u8.ensures.0 ∙ ap (λ (w : Variable). w.size) found in
     let zero : c.before.if1.t9 ≡ a.before.zero || eqb u.usize-of-u8.result 0 =

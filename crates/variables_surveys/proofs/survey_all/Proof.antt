@@ -59,14 +59,14 @@ use denote.Triple.Clauses.{ensured, lasts}
 use borrow.Author.Tests.{ltb-true, ltb-false}
 use borrow.Within.Token.{Rest, within_token, within_end}
 use Rattle.document.specs.declared.Variable.{Variable}
-use Rattle.document.specs.Variables.{definitionWidth, definitionsIn}
-use Rattle.variables_definitions.specs.Parts.{definitionAt, placeBehind, movedBehind, variableOf}
-use Rattle.variables_surveys.specs.Survey.{surveyed, lookedAt}
+use Rattle.document.specs.Variables.{definition_width, definitions_in}
+use Rattle.variables_definitions.specs.Parts.{definition_at, place_behind, moved_behind, variable_of}
+use Rattle.variables_surveys.specs.Survey.{surveyed, looked_at}
 use Rattle.variables_definitions.specs.declared.reader.Reader.{Reader}
 use Rattle.variables_definitions.specs.declared.reader.Definition.{Definition}
 use Rattle.variables_surveys.specs.declared.Surveyed.{Surveyed}
-use Rattle.variables_definitions.proofs.Read.{place-next, found-next}
-use Rattle.variables_surveys.proofs.Joined.{joined, joined-first, joined-next, joined-none}
+use Rattle.variables_definitions.proofs.Read.{place_next, found_next}
+use Rattle.variables_surveys.proofs.Joined.{joined, joined_first, joined_next, joined_none}
 use Rattle.variables_definitions.specs.contracts.reader.Reader as T
 use Rattle.variables_definitions.proofs.reader.Reader.TheLaws as T'
 use Rattle.variables_definitions.specs.contracts.reader.Definition as S
@@ -110,7 +110,7 @@ module _ {M : Type 1} {𝓤 : Ura M} (𝓛 : Logic 𝓤) (mem : Memory → SProp
   abbrev Looked : Contract 𝓤
   Looked = triple_of 𝓛 looked.signature (looked.spec 𝓛 mem run)
 
-module _ {M : Type 1} {𝓤 : Ura M} (𝓛 : Logic 𝓤) (at_mem : Memory → SProp 𝓤) (run : Routine → Fun 𝓤) (κ : Lft) (q : Share) (s : Bor (List ℕ)) (n : ℕ) (ok : n < 2 ^ 64) (x : Bool) (m : ℕ) (m-ok : m < 2 ^ 64) (few : n ≤ 8) (holds : 1 + n * definitionWidth x ≤ length s.now) where
+module _ {M : Type 1} {𝓤 : Ura M} (𝓛 : Logic 𝓤) (at_mem : Memory → SProp 𝓤) (run : Routine → Fun 𝓤) (κ : Lft) (q : Share) (s : Bor (List ℕ)) (n : ℕ) (ok : n < 2 ^ 64) (x : Bool) (m : ℕ) (m-ok : m < 2 ^ 64) (few : n ≤ 8) (holds : 1 + n * definition_width x ≤ length s.now) where
   -- the machine value that s has
   open 𝓛 use {H}
 
@@ -118,7 +118,7 @@ module _ {M : Type 1} {𝓤 : Ura M} (𝓛 : Logic 𝓤) (at_mem : Memory → SP
   v = slice_val s.ref_ptr (length s.now)
 
   abbrev whole : Surveyed
-  whole = surveyed m (definitionsIn x n (drop 1 s.now))
+  whole = surveyed m (definitions_in x n (drop 1 s.now))
 
   abbrev vals : Vals survey-all.signature (κ, tt)
   vals = (v ∷ [], (vint w64 n ∷ [], (vbool x ∷ [], (vint w64 m ∷ [], tt))))
@@ -182,7 +182,7 @@ module _ {M : Type 1} {𝓤 : Ura M} (𝓛 : Logic 𝓤) (at_mem : Memory → SP
 
   -- what `looked_at` says
   abbrev Seen : Surveyed → Definition → Surveyed → Type 0
-  Seen seen d y = (y ≡ lookedAt m seen (variableOf d)) × (y.size ≤ seen.size + 255)
+  Seen seen d y = (y ≡ looked_at m seen (variable_of d)) × (y.size ≤ seen.size + 255)
 
   looked-said : (seen : Surveyed) (d : Definition) (y : Surveyed) → ent 𝓤 (ensured 𝓛 looked.ended (looked.clauses 𝓛 at_mem run) tt (seen, (d, (m, tt))) tt y) (fact 𝓤 (Seen seen d y))
   looked-said seen d y = ex_e 𝓤 _ (λ ws. snd∗ 𝓤 (sem 𝓛 (lasts looked.ended tt (seen, (d, (m, tt))) ws)) (fact 𝓤 (Seen seen d y)))
@@ -212,7 +212,7 @@ module _ {M : Type 1} {𝓤 : Ura M} (𝓛 : Logic 𝓤) (at_mem : Memory → SP
 
   -- what `next` says of the definition and of the reader afterwards
   abbrev Moved : ℕ → Definition → Reader → Type 0
-  Moved p d r = (d ≡ definitionAt x s.now p) × (r ≡ movedBehind x (reader p))
+  Moved p d r = (d ≡ definition_at x s.now p) × (r ≡ moved_behind x (reader p))
 
   exits : (y : Surveyed) (w : Val) → (y ≡ whole) × (y.size ≤ 2040) → ent 𝓤 (⋆ 𝓛 (‵ ((Y.the_row).own_val y (w ∷ [])) ∷ ‵ (flft κ q) ∷ ‵ Own ∷ [])) (Post w)
   exits y w e =
@@ -228,9 +228,9 @@ module _ {M : Type 1} {𝓤 : Ura M} (𝓛 : Logic 𝓤) (at_mem : Memory → SP
     seen : Surveyed
     held : Val
     some_left : k ≤ n
-    place : at ≡ 1 + k * definitionWidth x
+    place : at ≡ 1 + k * definition_width x
     small : seen.size ≤ 255 * k
-    gives : joined m seen (definitionsIn x (n - k) (drop at s.now)) ≡ whole
+    gives : joined m seen (definitions_in x (n - k) (drop at s.now)) ≡ whole
 
   abbrev start : Turn
   start = record {
@@ -241,7 +241,7 @@ module _ {M : Type 1} {𝓤 : Ura M} (𝓛 : Logic 𝓤) (at_mem : Memory → SP
     some_left = omega arith;
     place = omega arith;
     small = omega arith;
-    gives = ap (λ (c : ℕ). joined m none (definitionsIn x c (drop 1 s.now))) (sub-zero n) ∙ joined-first m (definitionsIn x n (drop 1 s.now));
+    gives = ap (λ (c : ℕ). joined m none (definitions_in x c (drop 1 s.now))) (sub-zero n) ∙ joined_first m (definitions_in x n (drop 1 s.now));
   }
 
   abbrev ≺ : Turn → Turn → Type 0
@@ -250,25 +250,25 @@ module _ {M : Type 1} {𝓤 : Ura M} (𝓛 : Logic 𝓤) (at_mem : Memory → SP
   ends-≺ : WellFounded ≺
   ends-≺ = InvImage.wf (λ (t : Turn). n - t.k) lt-wf_rel.wf
 
-  module _ (t : Turn) (d : Definition) (y : Surveyed) (w : Val) (less : t.k < n) (found : d ≡ definitionAt x s.now t.at) (e : Seen t.seen d y) where
+  module _ (t : Turn) (d : Definition) (y : Surveyed) (w : Val) (less : t.k < n) (found : d ≡ definition_at x s.now t.at) (e : Seen t.seen d y) where
     -- those that are left behind the one that is looked at
     abbrev rest : List Variable
-    rest = definitionsIn x (n - (t.k + 1)) (drop (placeBehind x s.now t.at) s.now)
+    rest = definitions_in x (n - (t.k + 1)) (drop (place_behind x s.now t.at) s.now)
 
     abbrev turned : Turn
     turned = record {
       k = t.k + 1;
-      at = placeBehind x s.now t.at;
+      at = place_behind x s.now t.at;
       seen = y;
       held = w;
       some_left = omega arith;
-      place = place-next s.now x t.at t.k n less t.place holds;
+      place = place_next s.now x t.at t.k n less t.place holds;
       small = omega (arith, e.1, t.small);
       gives =
           ap (λ (z : Surveyed). joined m z rest) e.0
-          ∙ ap (λ (z : Definition). joined m (lookedAt m t.seen (variableOf z)) rest) found
-          ∙ joined-next m t.seen (variableOf (definitionAt x s.now t.at)) rest
-          ∙ sym (ap (joined m t.seen) (found-next s.now x t.at t.k n less t.place holds))
+          ∙ ap (λ (z : Definition). joined m (looked_at m t.seen (variable_of z)) rest) found
+          ∙ joined_next m t.seen (variable_of (definition_at x s.now t.at)) rest
+          ∙ sym (ap (joined m t.seen) (found_next s.now x t.at t.k n less t.place holds))
           ∙ t.gives;
     }
 
@@ -278,8 +278,8 @@ module _ {M : Type 1} {𝓤 : Ura M} (𝓛 : Logic 𝓤) (at_mem : Memory → SP
   all_seen : (t : Turn) → n ≤ t.k → (t.seen ≡ whole) × (t.seen.size ≤ 2040)
   all_seen t le =
       let z : n - t.k ≡ 0 = omega arith in (
-        sym (joined-none m t.seen)
-            ∙ sym (ap (λ (c : ℕ). joined m t.seen (definitionsIn x c (drop t.at s.now))) z)
+        sym (joined_none m t.seen)
+            ∙ sym (ap (λ (c : ℕ). joined m t.seen (definitions_in x c (drop t.at s.now))) z)
             ∙ t.gives,
         omega (arith, t.small, t.some_left),
       )
@@ -374,11 +374,11 @@ module _ {M : Type 1} {𝓤 : Ura M} (𝓛 : Logic 𝓤) (at_mem : Memory → SP
         move ! (1 ∷ 8 ∷ []) $ free1 ! $ move ! (1 ∷ 7 ∷ []) $ free1 ! $ move ! (1 ∷ 6 ∷ []) $ free1 ! $ move ! (1 ∷ 5 ∷ []) $ free1 ! $ move ! (1 ∷ 4 ∷ []) $ free1 ! $ free0 ! $ by ! (exits t.seen t.held (all_seen t (ltb-false t.k n test))))
 
     turns : (t : Turn) → Turns t
-    turns t = by-test (ltb t.k n) refl
+    turns t = by_test (ltb t.k n) refl
       where
-        by-test : (z : Bool) → ltb t.k n ≡ z → Turns t
-        by-test true = more t
-        by-test false = ends t
+        by_test : (z : Bool) → ltb t.k n ≡ z → Turns t
+        by_test true = more t
+        by_test false = ends t
 
     loops : ent 𝓤 (⋆ 𝓛 (I start)) (Wp 𝓤 H C Λ En (loop lines.turn-1) Left)
     loops = loop_rule 𝓤 H 𝓛.laws 𝓣 ≺ ends-≺ En lines.turn-1 Left (λ u. ⋆ 𝓛 (I u)) turns start
@@ -406,7 +406,7 @@ module _ {M : Type 1} {𝓤 : Ura M} (𝓛 : Logic 𝓤) (mem : Memory → SProp
   survey-all-walks : Triple 𝓤 (𝓣.C #definitions·reader·Reader·next) (Next 𝓛 mem run) → Triple 𝓤 (𝓣.C #variables_surveys·looked-at) (Looked 𝓛 mem run)
       → Walks 𝓛 survey-all.ended stayed (WpFn 𝓤 H 𝓣.C 𝓣.Λ code.function) (survey-all.clauses 𝓛 mem run)
   survey-all-walks known_next known-looked = walked 𝓛 survey-all.ended stayed (survey-all.clauses 𝓛 mem run) (WpFn 𝓤 H 𝓣.C 𝓣.Λ code.function) (λ κs. (shr_slice_vals, (uint_vals w64, (bool_vals, (uint_vals w64, tt))))) (λ κs. (shr_slice_Tells (named 0) κs.0 u8, (uint_Tells w64, (bool_Tells, (uint_Tells w64, tt)))))
-      (λ κs qs bounds a g are. needs 𝓤 ((a.1.0 ≤ 8) × (1 + a.1.0 * definitionWidth a.1.1.0 ≤ length a.0.now)) _ (λ asked.
+      (λ κs qs bounds a g are. needs 𝓤 ((a.1.0 ≤ 8) × (1 + a.1.0 * definition_width a.1.1.0 ≤ length a.0.now)) _ (λ asked.
       walk 𝓛 mem run κs.0 qs.0 a.0 a.1.0 are.1.0.1 a.1.1.0 a.1.1.1.0 are.1.1.1.0.1 asked.0 asked.1 𝓣 known_next known-looked are.0))
 
   survey-all-meets : Triple 𝓤 (𝓣.C #definitions·reader·Reader·next) (Next 𝓛 mem run) → Triple 𝓤 (𝓣.C #variables_surveys·looked-at) (Looked 𝓛 mem run)

@@ -8,10 +8,10 @@ use lib.ListN.{get_or, set}
 use Rattle.line_receiver.specs.declared.Receiver.{Receiver}
 use Rattle.line_receiver.specs.declared.Event.TheVariants.{Nothing, Keep, Whole}
 use Rattle.line_receiver.specs.Step.{stepped}
-use Rattle.state_block.specs.Places.{bodyPlace}
-use Rattle.state_block.specs.Layout.{decodedReceiver}
-use Rattle.call_byte.specs.Heard.{heardOf}
-use Rattle.call_byte.proofs.Turns.{event-of, nothing-heard, whole-heard, place-in-body, keep-heard}
+use Rattle.state_block.specs.Places.{body_place}
+use Rattle.state_block.specs.Layout.{decoded_receiver}
+use Rattle.call_byte.specs.Heard.{heard_of}
+use Rattle.call_byte.proofs.Turns.{event_of, nothing_heard, whole_heard, place_in_body, keep_heard}
 use Rattle.call_byte.proofs.hearing.hear.Statement.{statement}
 use Rattle.call_byte.proofs.hearing.hear.Tie as tie
 
@@ -35,7 +35,7 @@ module _ (p : tie.After-put-receiver) where
   abbrev block : List ℕ
   block = begun.args.state.now
 
-  is-step : stepped-on.step.result ≡ stepped (decodedReceiver block) begun.args.byte
+  is-step : stepped-on.step.result ≡ stepped (decoded_receiver block) begun.args.byte
   is-step = stepped-on.step.ensures ∙ ap (λ (r : Receiver). stepped r begun.args.byte) stepped-on.before.receiver-in.ensures
 
   small : (i : ℕ) → get_or block i 0 < 256
@@ -57,7 +57,7 @@ put-byte-requires : tie.Need-put-byte-requires
 put-byte-requires c κs =
     let p = c.before.before.before.before.before.before.before in
     let e = c.before.before.before in
-    let inside = place-in-body (block p) (begun p).args.byte (begun p).requires (small p) (stepped-on p).step.result (is-step p) e.event.given.0.0 e.event.given.0.1.0 e.event.given.1 in
+    let inside = place_in_body (block p) (begun p).args.byte (begun p).requires (small p) (stepped-on p).step.result (is-step p) e.event.given.0.0 e.event.given.0.1.0 e.event.given.1 in
     omega (arith, inside, p.put-receiver.auto.0, c.usize-of-u8.ensures.0, (begun p).requires)
 
 enum-known-event-2 : tie.Need-enum-known-event-2
@@ -71,8 +71,8 @@ returns c =
     let p = c.before.before.before.before in
     let h = c.enum_told.given.1 in
     record {
-      brought = ap heardOf (sym (event-of (block p) (begun p).args.byte (begun p).requires (small p) (stepped-on p).step.result (is-step p) Nothing h));
-      state = nothing-heard (block p) (begun p).args.byte (begun p).requires (small p) (stepped-on p).step.result (is-step p) _ h p.put-receiver.ensures;
+      brought = ap heard_of (sym (event_of (block p) (begun p).args.byte (begun p).requires (small p) (stepped-on p).step.result (is-step p) Nothing h));
+      state = nothing_heard (block p) (begun p).args.byte (begun p).requires (small p) (stepped-on p).step.result (is-step p) _ h p.put-receiver.ensures;
     }
 
 same-length-2 : tie.Need-same-length-2
@@ -88,10 +88,10 @@ returns-2 c =
     let byte = e.event.given.0.1.0 in
     let h = e.event.given.1 in
     record {
-      brought = ap heardOf (sym (event-of (block p) (begun p).args.byte (begun p).requires (small p) (stepped-on p).step.result (is-step p) (Keep at byte) h));
+      brought = ap heard_of (sym (event_of (block p) (begun p).args.byte (begun p).requires (small p) (stepped-on p).step.result (is-step p) (Keep at byte) h));
       state =
-          keep-heard (block p) (begun p).args.byte (begun p).requires (small p) (stepped-on p).step.result (is-step p) _ at byte h
-          (kept.put_byte.ensures ∙ (λ i. set (p.put-receiver.ensures i) (bodyPlace + wide.usize-of-u8.ensures.0 i) byte));
+          keep_heard (block p) (begun p).args.byte (begun p).requires (small p) (stepped-on p).step.result (is-step p) _ at byte h
+          (kept.put_byte.ensures ∙ (λ i. set (p.put-receiver.ensures i) (body_place + wide.usize-of-u8.ensures.0 i) byte));
     }
 
 same-length-3 : tie.Need-same-length-3
@@ -106,8 +106,8 @@ returns-3 c =
     let sum = e.event2.given.0.1.1.0 in
     let h = e.event2.given.1 in
     record {
-      brought = ap heardOf (sym (event-of (block p) (begun p).args.byte (begun p).requires (small p) (stepped-on p).step.result (is-step p) (Whole command n sum) h));
-      state = whole-heard (block p) (begun p).args.byte (begun p).requires (small p) (stepped-on p).step.result (is-step p) _ command n sum h p.put-receiver.ensures;
+      brought = ap heard_of (sym (event_of (block p) (begun p).args.byte (begun p).requires (small p) (stepped-on p).step.result (is-step p) (Whole command n sum) h));
+      state = whole_heard (block p) (begun p).args.byte (begun p).requires (small p) (stepped-on p).step.result (is-step p) _ command n sum h p.put-receiver.ensures;
     }
 
 pub hear-spec : {M : Type 1} → statement M

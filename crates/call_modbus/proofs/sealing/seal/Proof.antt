@@ -3,7 +3,7 @@ use mathlib.Core.Path.{refl}
 use native.Mathlib.Omega.{arith}
 use lib.ListN.{length-set}
 use borrow.Author.Rules.{rules}
-use Rattle.call_modbus.proofs.Sealed.{sum-stored}
+use Rattle.call_modbus.proofs.Sealed.{sum_stored}
 use Rattle.call_modbus.proofs.sealing.seal.Statement.{statement}
 use Rattle.call_modbus.proofs.sealing.seal.Tie as tie
 
@@ -34,7 +34,7 @@ same_length c = search rules
 returns : tie.Need-returns
 returns c =
     let a = c.before.before.before.args in
-    (refl, sum-stored a.out.now a.told c.sum-of-front.result _ (omega arith) c.sum-of-front.ensures)
+    (refl, sum_stored a.out.now a.told c.sum-of-front.result _ (omega arith) c.sum-of-front.ensures)
 
 pub seal-spec : {M : Type 1} → statement M
 seal-spec =

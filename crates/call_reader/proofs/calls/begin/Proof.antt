@@ -1,18 +1,18 @@
 -- Too short, too long an expectation, or begun.
 use borrow.Author.Rules.{rules}
-use Rattle.call_reader.proofs.Readings.{begin-short, begin-refused, begun}
+use Rattle.call_reader.proofs.Readings.{begin_short, begin_refused, begun}
 use Rattle.call_reader.proofs.calls.begin.Statement.{statement}
 use Rattle.call_reader.proofs.calls.begin.Tie as tie
 
 returns : tie.Need-returns
 returns c =
     let args = c.before.before.args in
-    begin-short args.reader.now args.expected c.if1.true
+    begin_short args.reader.now args.expected c.if1.true
 
 returns-2 : tie.Need-returns-2
 returns-2 c =
     let args = c.before.before.before.args in
-    begin-refused args.reader.now args.expected c.before.if1.false c.if2.true
+    begin_refused args.reader.now args.expected c.before.if1.false c.if2.true
 
 cast-begin-reader : tie.Need-overflow-cast-begin-reader
 cast-begin-reader c = search rules

@@ -1,7 +1,7 @@
 -- Refused, nothing changes; else the byte is taken.
 use mathlib.Core.Path.{sym, subst, ◌∙◌}
 use borrow.Author.Rules.{rules}
-use Rattle.call_reader.proofs.Readings.{number-known, read-refused, read_taken}
+use Rattle.call_reader.proofs.Readings.{number_known, read_refused, read_taken}
 use Rattle.call_reader.specs.Promises.{ReadDone}
 use Rattle.call_reader.specs.declared.calls.ReadByte.{ReadByte}
 use Rattle.call_reader.proofs.calls.read.Statement.{statement}
@@ -23,13 +23,13 @@ returns : tie.Need-returns
 returns c =
     let args = c.before.before.before.before.before.before.before.args in
     let read-refusal = c.before.before.read-refusal in
-    subst (λ (q : ReadByte). ReadDone args.reader.now args.byte args.out.now q args.reader.now args.out.now) (sym c.without-answer.ensures) (read-refused args.reader.now args.byte args.out.now read-refusal.result read-refusal.ensures c.before.if1.true)
+    subst (λ (q : ReadByte). ReadDone args.reader.now args.byte args.out.now q args.reader.now args.out.now) (sym c.without-answer.ensures) (read_refused args.reader.now args.byte args.out.now read-refusal.result read-refusal.ensures c.before.if1.true)
 
 read-on-requires : tie.Need-read-on-requires
 read-on-requires c κs =
     let args = c.before.before.before.before.before.before.before.before.args in
     let read-refusal = c.before.before.before.read-refusal in
-    number-known args.reader.now args.out.now (sym read-refusal.ensures ∙ c.before.before.if1.false)
+    number_known args.reader.now args.out.now (sym read-refusal.ensures ∙ c.before.before.if1.false)
 
 same-length-3 : tie.Need-same-length-3
 same-length-3 c = search rules

@@ -7,13 +7,13 @@ use lib.ListN.{length-take, set, take, drop}
 use lib.Seq.{sets}
 use borrow.Author.Rules.{rules}
 use Rattle.document.specs.Areas.{bytes_at}
-use Rattle.call_reader.specs.Layout.{decodedReader}
-use Rattle.line_reader.proofs.Heads.{sound-head}
-use Rattle.line_reader.specs.Head.{reach, headStep}
+use Rattle.call_reader.specs.Layout.{decoded_reader}
+use Rattle.line_reader.proofs.Heads.{sound_head}
+use Rattle.line_reader.specs.Head.{reach, head_step}
 use Rattle.line_reader.specs.declared.head.Asked.{Asked}
 use Rattle.line_reader.specs.Reader.{AnswerReader}
 use Rattle.line_reader.specs.Reader as host
-use Rattle.call_reader.proofs.Readings.{read-nothing, read-keep, read_right, read-wrong}
+use Rattle.call_reader.proofs.Readings.{read_nothing, read_keep, read_right, read_wrong}
 use Rattle.call_reader.proofs.calls.read_on.Statement.{statement}
 use Rattle.call_reader.proofs.calls.read_on.Tie as tie
 
@@ -24,7 +24,7 @@ step-requires : tie.Need-step-requires
 step-requires c κs =
     let args = c.before.before.before.before.args in
     let pre = c.before.before.before.before.requires in
-    sound-head c.head_in.result [] (bytes_at args.reader.now 6 64) ∙ ap host.sound c.head_in.ensures ∙ pre.1
+    sound_head c.head_in.result [] (bytes_at args.reader.now 6 64) ∙ ap host.sound c.head_in.ensures ∙ pre.1
 
 put-reader-head-requires : tie.Need-put-reader-head-requires
 put-reader-head-requires c κs = search rules
@@ -44,7 +44,7 @@ module _ (put : tie.After-put-reader-head) where
   out = begun.args.out.now
 
   -- what the whole reader makes of the byte, in the head's words
-  in_head : host.stepped (decodedReader block) begun.args.byte ≡ headStep stepped.step.result (bytes_at block 6 64)
+  in_head : host.stepped (decoded_reader block) begun.args.byte ≡ head_step stepped.step.result (bytes_at block 6 64)
   in_head =
       ap (λ (r : AnswerReader). host.stepped r begun.args.byte) (sym stepped.before.head_in.ensures)
       ∙ stepped.step.ensures.0 (bytes_at block 6 64)
@@ -117,7 +117,7 @@ returns : tie.Need-returns
 returns c =
     let e = c.before in
     let put = e.before.before.before.before in
-    read-nothing (block put) (begun put).requires.0 _ (stepped put).step.result (in_head put) (out put) _ _ e.enum_told.given.1 c.without-answer.ensures
+    read_nothing (block put) (begun put).requires.0 _ (stepped put).step.result (in_head put) (out put) _ _ e.enum_told.given.1 c.without-answer.ensures
     put.put-reader-head.ensures
 
 same-length-2 : tie.Need-same-length-2
@@ -132,7 +132,7 @@ returns-2 c =
     let at = e.asks.given.0.0 in
     let byte = e.asks.given.0.1.0 in
     let inside : at + 1 ≤ 64 = within put _ e.asks.given.1 in
-    read-keep (block put) (begun put).requires.0 _ (stepped put).step.result (in_head put) (out put) _ at byte _ e.asks.given.1 (omega (arith, inside)) c.without-answer2.ensures
+    read_keep (block put) (begun put).requires.0 _ (stepped put).step.result (in_head put) (out put) _ at byte _ e.asks.given.1 (omega (arith, inside)) c.without-answer2.ensures
     (kept.put_byte.ensures ∙ (λ i. set (put.put-reader-head.ensures i) (6 + wide.usize-of-u8.ensures.0 i) byte))
 
 same-length-3 : tie.Need-same-length-3
@@ -160,7 +160,7 @@ returns-4 : tie.Need-returns-4
 returns-4 c =
     let e = c.before in
     let put = e.before.before.before.before in
-    read-wrong (block put) (begun put).requires.0 _ (stepped put).step.result (in_head put) (out put) _ _ e.enum-told2.given.1 c.without-answer3.ensures
+    read_wrong (block put) (begun put).requires.0 _ (stepped put).step.result (in_head put) (out put) _ _ e.enum-told2.given.1 c.without-answer3.ensures
     put.put-reader-head.ensures
 
 pub read-on-spec : {M : Type 1} → statement M

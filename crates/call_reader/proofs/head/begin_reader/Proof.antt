@@ -5,7 +5,7 @@ use Prim.Native.Nat.{ℕ}
 use lib.ListN.{replicate}
 use lib.Seq.{sets}
 use borrow.Author.Rules.{rules}
-use Rattle.call_reader.specs.Layout.{encodedReader}
+use Rattle.call_reader.specs.Layout.{encoded_reader}
 use Rattle.call_reader.proofs.head.begin_reader.Statement.{statement}
 use Rattle.call_reader.proofs.head.begin_reader.Tie as tie
 
@@ -19,7 +19,7 @@ same_length : tie.Need-same-length
 same_length c = search rules
 
 returns : tie.Need-returns
-unfolding encodedReader
+unfolding encoded_reader
 returns c =
     let put-head = c.before.before.before.before.before.before.put-head in
     c.before.before.clear.ensures ∙ ap (λ (k : List ℕ). sets k 6 (replicate 64 0)) put-head.ensures

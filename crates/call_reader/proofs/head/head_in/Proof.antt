@@ -1,7 +1,7 @@
 -- Each field as it was read.
 use mathlib.Core.Path.{refl}
 use borrow.Author.Rules.{rules}
-use Rattle.call_reader.specs.Layout.{decodedReader}
+use Rattle.call_reader.specs.Layout.{decoded_reader}
 use Rattle.call_reader.proofs.head.head_in.Statement.{statement}
 use Rattle.call_reader.proofs.head.head_in.Tie as tie
 
@@ -24,7 +24,7 @@ shared-slice-read-t13 : tie.Need-shared-slice-read-t13
 shared-slice-read-t13 c = search rules
 
 returns : tie.Need-returns
-unfolding decodedReader
+unfolding decoded_reader
 returns c = refl
 
 pub head-in-spec : {M : Type 1} → statement M

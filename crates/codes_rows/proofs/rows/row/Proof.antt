@@ -1,167 +1,167 @@
 -- Each key is the place of a row in the list; behind the last of them stands the last row.
-use Rattle.document.specs.Services.{serviceOf}
+use Rattle.document.specs.Services.{service_of}
 use Rattle.document.specs.Kinds.{kind_of}
 use Rattle.codes_rows.specs.Rule.{entry_of}
-use Rattle.codes_rows.specs.Rows.{rows, lastRow}
+use Rattle.codes_rows.specs.Rows.{rows, last_row}
 use Rattle.codes_rows.proofs.Matches.{beyond}
 use Rattle.codes_rows.proofs.rows.row.Statement.{statement}
 use Rattle.codes_rows.proofs.rows.row.Tie as tie
 
 returns : tie.Need-returns
-unfolding entry_of kind_of serviceOf
+unfolding entry_of kind_of service_of
 returns c = rw c.match.keys1
 
 returns-2 : tie.Need-returns-2
-unfolding entry_of kind_of serviceOf
+unfolding entry_of kind_of service_of
 returns-2 c = rw c.match.keys2
 
 returns-3 : tie.Need-returns-3
-unfolding entry_of kind_of serviceOf
+unfolding entry_of kind_of service_of
 returns-3 c = rw c.match.keys3
 
 returns-4 : tie.Need-returns-4
-unfolding entry_of kind_of serviceOf
+unfolding entry_of kind_of service_of
 returns-4 c = rw c.match.keys4
 
 returns-5 : tie.Need-returns-5
-unfolding entry_of kind_of serviceOf
+unfolding entry_of kind_of service_of
 returns-5 c = rw c.match.keys5
 
 returns-6 : tie.Need-returns-6
-unfolding entry_of kind_of serviceOf
+unfolding entry_of kind_of service_of
 returns-6 c = rw c.match.keys6
 
 returns-7 : tie.Need-returns-7
-unfolding entry_of kind_of serviceOf
+unfolding entry_of kind_of service_of
 returns-7 c = rw c.match.keys7
 
 returns-8 : tie.Need-returns-8
-unfolding entry_of kind_of serviceOf
+unfolding entry_of kind_of service_of
 returns-8 c = rw c.match.keys8
 
 returns-9 : tie.Need-returns-9
-unfolding entry_of kind_of serviceOf
+unfolding entry_of kind_of service_of
 returns-9 c = rw c.match.keys9
 
 returns-10 : tie.Need-returns-10
-unfolding entry_of kind_of serviceOf
+unfolding entry_of kind_of service_of
 returns-10 c = rw c.match.keys10
 
 returns-11 : tie.Need-returns-11
-unfolding entry_of kind_of serviceOf
+unfolding entry_of kind_of service_of
 returns-11 c = rw c.match.keys11
 
 returns-12 : tie.Need-returns-12
-unfolding entry_of kind_of serviceOf
+unfolding entry_of kind_of service_of
 returns-12 c = rw c.match.keys12
 
 returns-13 : tie.Need-returns-13
-unfolding entry_of kind_of serviceOf
+unfolding entry_of kind_of service_of
 returns-13 c = rw c.match.keys13
 
 returns-14 : tie.Need-returns-14
-unfolding entry_of kind_of serviceOf
+unfolding entry_of kind_of service_of
 returns-14 c = rw c.match.keys14
 
 returns-15 : tie.Need-returns-15
-unfolding entry_of kind_of serviceOf
+unfolding entry_of kind_of service_of
 returns-15 c = rw c.match.keys15
 
 returns-16 : tie.Need-returns-16
-unfolding entry_of kind_of serviceOf
+unfolding entry_of kind_of service_of
 returns-16 c = rw c.match.keys16
 
 returns-17 : tie.Need-returns-17
-unfolding entry_of kind_of serviceOf
+unfolding entry_of kind_of service_of
 returns-17 c = rw c.match.keys17
 
 returns-18 : tie.Need-returns-18
-unfolding entry_of kind_of serviceOf
+unfolding entry_of kind_of service_of
 returns-18 c = rw c.match.keys18
 
 returns-19 : tie.Need-returns-19
-unfolding entry_of kind_of serviceOf
+unfolding entry_of kind_of service_of
 returns-19 c = rw c.match.keys19
 
 returns-20 : tie.Need-returns-20
-unfolding entry_of kind_of serviceOf
+unfolding entry_of kind_of service_of
 returns-20 c = rw c.match.keys20
 
 returns-21 : tie.Need-returns-21
-unfolding entry_of kind_of serviceOf
+unfolding entry_of kind_of service_of
 returns-21 c = rw c.match.keys21
 
 returns-22 : tie.Need-returns-22
-unfolding entry_of kind_of serviceOf
+unfolding entry_of kind_of service_of
 returns-22 c = rw c.match.keys22
 
 returns-23 : tie.Need-returns-23
-unfolding entry_of kind_of serviceOf
+unfolding entry_of kind_of service_of
 returns-23 c = rw c.match.keys23
 
 returns-24 : tie.Need-returns-24
-unfolding entry_of kind_of serviceOf
+unfolding entry_of kind_of service_of
 returns-24 c = rw c.match.keys24
 
 returns-25 : tie.Need-returns-25
-unfolding entry_of kind_of serviceOf
+unfolding entry_of kind_of service_of
 returns-25 c = rw c.match.keys25
 
 returns-26 : tie.Need-returns-26
-unfolding entry_of kind_of serviceOf
+unfolding entry_of kind_of service_of
 returns-26 c = rw c.match.keys26
 
 returns-27 : tie.Need-returns-27
-unfolding entry_of kind_of serviceOf
+unfolding entry_of kind_of service_of
 returns-27 c = rw c.match.keys27
 
 returns-28 : tie.Need-returns-28
-unfolding entry_of kind_of serviceOf
+unfolding entry_of kind_of service_of
 returns-28 c = rw c.match.keys28
 
 returns-29 : tie.Need-returns-29
-unfolding entry_of kind_of serviceOf
+unfolding entry_of kind_of service_of
 returns-29 c = rw c.match.keys29
 
 returns-30 : tie.Need-returns-30
-unfolding entry_of kind_of serviceOf
+unfolding entry_of kind_of service_of
 returns-30 c = rw c.match.keys30
 
 returns-31 : tie.Need-returns-31
-unfolding entry_of kind_of serviceOf
+unfolding entry_of kind_of service_of
 returns-31 c = rw c.match.keys31
 
 returns-32 : tie.Need-returns-32
-unfolding entry_of kind_of serviceOf
+unfolding entry_of kind_of service_of
 returns-32 c = rw c.match.keys32
 
 returns-33 : tie.Need-returns-33
-unfolding entry_of kind_of serviceOf
+unfolding entry_of kind_of service_of
 returns-33 c = rw c.match.keys33
 
 returns-34 : tie.Need-returns-34
-unfolding entry_of kind_of serviceOf
+unfolding entry_of kind_of service_of
 returns-34 c = rw c.match.keys34
 
 returns-35 : tie.Need-returns-35
-unfolding entry_of kind_of serviceOf
+unfolding entry_of kind_of service_of
 returns-35 c = rw c.match.keys35
 
 returns-36 : tie.Need-returns-36
-unfolding entry_of kind_of serviceOf
+unfolding entry_of kind_of service_of
 returns-36 c = rw c.match.keys36
 
 returns-37 : tie.Need-returns-37
-unfolding entry_of kind_of serviceOf
+unfolding entry_of kind_of service_of
 returns-37 c = rw c.match.keys37
 
 returns-38 : tie.Need-returns-38
-unfolding entry_of kind_of serviceOf
+unfolding entry_of kind_of service_of
 returns-38 c = rw c.match.keys38
 
 returns-39 : tie.Need-returns-39
-unfolding entry_of kind_of serviceOf
-returns-39 c = beyond rows lastRow c.before.args.number c.match.rest
+unfolding entry_of kind_of service_of
+returns-39 c = beyond rows last_row c.before.args.number c.match.rest
 
 pub row-spec : {M : Type 1} → statement M
 row-spec =

@@ -2,7 +2,7 @@
 use mathlib.Core.Path.{ap, ◌∙◌}
 use native.Mathlib.Omega.{arith}
 use borrow.Author.Rules.{rules}
-use Rattle.codes_table.specs.Table.{lengthIn}
+use Rattle.codes_table.specs.Table.{length_in}
 use Rattle.codes_table.proofs.Commands.{length_at}
 use Rattle.codes_table.proofs.table.data_length.Statement.{statement}
 use Rattle.codes_table.proofs.table.data_length.Tie as tie
@@ -16,7 +16,7 @@ length-in-requires c κs = search rules
 returns : tie.Need-returns
 returns c =
     let command = c.before.before.args.command in
-    c.length-in.ensures ∙ ap lengthIn c.before.entry.ensures ∙ length_at command (omega arith)
+    c.length-in.ensures ∙ ap length_in c.before.entry.ensures ∙ length_at command (omega arith)
 
 pub data-length-spec : {M : Type 1} → statement M
 data-length-spec = tie.close (tie.spec entry-requires length-in-requires returns)

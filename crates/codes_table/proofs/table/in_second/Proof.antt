@@ -2,8 +2,8 @@
 use Prim.Native.Nat.{ℕ, ◌+◌}
 use borrow.Author.Rules.{rules}
 use Rattle.document.specs.Kinds.{kind_of}
-use Rattle.document.specs.Services.{serviceOf}
-use Rattle.codes_rows.specs.Rows.{rowNumber}
+use Rattle.document.specs.Services.{service_of}
+use Rattle.codes_rows.specs.Rows.{row_number}
 use Rattle.codes_rows.specs.Rule.{entry_of}
 use Rattle.codes_table.proofs.Entries.{entry_at}
 use Rattle.codes_table.proofs.table.in_second.Statement.{statement}
@@ -13,8 +13,8 @@ array-read-result : tie.Need-array-read-result
 array-read-result c = search rules
 
 returns : tie.Need-returns
-unfolding entry_of kind_of serviceOf
-returns c = entry_at (λ (k : ℕ). rowNumber (64 + k)) 0 64 c.args.low c.requires
+unfolding entry_of kind_of service_of
+returns c = entry_at (λ (k : ℕ). row_number (64 + k)) 0 64 c.args.low c.requires
 
 pub in-second-spec : {M : Type 1} → statement M
 in-second-spec = tie.close (tie.spec array-read-result returns)

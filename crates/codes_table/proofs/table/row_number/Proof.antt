@@ -3,7 +3,7 @@ use mathlib.Core.Path.{◌≡◌, ap, ◌∙◌}
 use Prim.Native.Nat.{ℕ, ◌+◌, ◌/◌, ◌%◌, ◌<◌, ◌≤◌}
 use native.Mathlib.Omega.{arith}
 use borrow.Author.Rules.{rules}
-use Rattle.codes_rows.specs.Rows.{rowNumber}
+use Rattle.codes_rows.specs.Rows.{row_number}
 use Rattle.codes_rows.proofs.Matches.{missed}
 use Rattle.codes_table.proofs.table.row_number.Statement.{statement}
 use Rattle.codes_table.proofs.table.row_number.Tie as tie
@@ -32,21 +32,21 @@ returns c =
     let m = c.before in
     let u = m.before in
     let at : u.usize-of-u8.result ≡ u.before.args.command = omega (arith, u.usize-of-u8.ensures.0, m.match.keys1) in
-    c.in-first.ensures ∙ ap rowNumber at
+    c.in-first.ensures ∙ ap row_number at
 
 returns-2 : tie.Need-returns-2
 returns-2 c =
     let m = c.before in
     let u = m.before in
     let at : 64 + u.usize-of-u8.result ≡ u.before.args.command = omega (arith, u.usize-of-u8.ensures.0, m.match.keys2) in
-    c.in-second.ensures ∙ ap rowNumber at
+    c.in-second.ensures ∙ ap row_number at
 
 returns-3 : tie.Need-returns-3
 returns-3 c =
     let m = c.before in
     let u = m.before in
     let at : 128 + u.usize-of-u8.result ≡ u.before.args.command = omega (arith, u.usize-of-u8.ensures.0, m.match.keys3) in
-    c.in-third.ensures ∙ ap rowNumber at
+    c.in-third.ensures ∙ ap row_number at
 
 returns-4 : tie.Need-returns-4
 returns-4 c =
@@ -54,7 +54,7 @@ returns-4 c =
     let u = m.before in
     let command = u.before.args.command in
     let at = last command u.usize-of-u8.result (omega arith) (missed 3 (command / 64) m.match.rest) u.usize-of-u8.ensures.0 in
-    c.in-last.ensures ∙ ap rowNumber at
+    c.in-last.ensures ∙ ap row_number at
 
 pub row-number-spec : {M : Type 1} → statement M
 row-number-spec =

@@ -2,7 +2,7 @@
 use mathlib.Core.Path.{refl, sym}
 use native.Mathlib.Omega.{arith}
 use borrow.Author.Tests.{lt-ltb, le-ltb}
-use Rattle.line_wire.proofs.Writing.{progressed-none}
+use Rattle.line_wire.proofs.Writing.{progressed_none}
 use borrow.Author.Rules.{rules}
 use Rattle.line_commands.proofs.command.put_length.Statement.{statement}
 use Rattle.line_commands.proofs.command.put_length.Tie as tie
@@ -22,7 +22,7 @@ returns c = rw (lt-ltb _ _ c.before.before.before.before.if1.true) c.before.befo
 returns-2 : tie.Need-returns-2
 returns-2 c =
     rw (le-ltb _ _ c.if1.false)
-    (record { progress = sym (progressed-none c.before.before.before.args.from (omega arith)); buffer = refl })
+    (record { progress = sym (progressed_none c.before.before.before.args.from (omega arith)); buffer = refl })
 
 pub put-length-spec : {M : Type 1} → statement M
 put-length-spec = tie.close (tie.spec cast-put put-requires same_length returns returns-2)

@@ -1,7 +1,7 @@
 -- A literal, a 0x2B that waits, or a start: told by whether the byte is a 0x2B and whether one waits.
 use mathlib.Core.Path.{sym, ◌∙◌}
 use borrow.Author.Tests.{eq-eqb, ne_eqb}
-use Rattle.line_receiver.specs.Step.{afterByte}
+use Rattle.line_receiver.specs.Step.{after_byte}
 use borrow.Author.Rules.{rules}
 use Rattle.line_receiver.proofs.Receiver.after_byte.Statement.{statement}
 use Rattle.line_receiver.proofs.Receiver.after_byte.Tie as tie
@@ -13,7 +13,7 @@ after-literal-requires : tie.Need-after-literal-requires
 after-literal-requires c κs = search rules
 
 returns : tie.Need-returns
-unfolding afterByte
+unfolding after_byte
 returns c =
     simp (
       c.after-literal.ensures,
@@ -21,7 +21,7 @@ returns c =
     )
 
 returns-2 : tie.Need-returns-2
-unfolding afterByte
+unfolding after_byte
 returns-2 c =
     simp (
       ne_eqb _ _ (λ e. c.before.if1.false (c.before.before.before.plus-of.ensures ∙ e)),
@@ -32,7 +32,7 @@ open-requires : tie.Need-open-requires
 open-requires c κs = search rules
 
 returns-3 : tie.Need-returns-3
-unfolding afterByte
+unfolding after_byte
 returns-3 c =
     simp (
       c.«open».ensures,

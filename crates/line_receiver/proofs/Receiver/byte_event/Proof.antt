@@ -1,7 +1,7 @@
 -- Only a literal has an event.
 use mathlib.Core.Path.{sym, ◌∙◌}
 use borrow.Author.Tests.{eq-eqb, ne_eqb}
-use Rattle.line_receiver.specs.Step.{byteEvent}
+use Rattle.line_receiver.specs.Step.{byte_event}
 use borrow.Author.Rules.{rules}
 use Rattle.line_receiver.proofs.Receiver.byte_event.Statement.{statement}
 use Rattle.line_receiver.proofs.Receiver.byte_event.Tie as tie
@@ -13,7 +13,7 @@ literal-event-requires : tie.Need-literal-event-requires
 literal-event-requires c κs = search rules
 
 returns : tie.Need-returns
-unfolding byteEvent
+unfolding byte_event
 returns c =
     simp (
       c.literal-event.ensures,
@@ -21,7 +21,7 @@ returns c =
     )
 
 returns-2 : tie.Need-returns-2
-unfolding byteEvent
+unfolding byte_event
 returns-2 c = simp (ne_eqb _ _ (λ e. c.if1.false (c.before.before.plus-of.ensures ∙ e)))
 
 pub byte-event-spec : {M : Type 1} → statement M

@@ -5,7 +5,7 @@ use native.Mathlib.Numerals.{add-one}
 use borrow.Author.Rules.{rules}
 use borrow.Author.Tests.{ne_eqb}
 use lib.ListN.{length-set}
-use Rattle.line_wire.proofs.Stuffed.{stuffed-some}
+use Rattle.line_wire.proofs.Stuffed.{stuffed_some}
 use Rattle.line_wire.proofs.doubling.put.Statement.{statement}
 use Rattle.line_wire.proofs.doubling.put.Tie as tie
 use Rattle.line_wire.proofs.doubling.put.Reads as reads
@@ -13,7 +13,7 @@ use Rattle.line_wire.proofs.doubling.put.Lts as lts
 use Rattle.line_wire.proofs.sum.added.Reads as added-reads
 
 slice-write-out : tie.Need-slice-write-out
-slice-write-out c = omega (arith, stuffed-some c.before.args.byte)
+slice-write-out c = omega (arith, stuffed_some c.before.args.byte)
 
 add-behind : tie.Need-overflow-add-behind
 add-behind c = search rules

@@ -9,7 +9,7 @@ use lib.Seq.{sets}
 use Rattle.document.specs.Doubling.{stuffed}
 use Rattle.document.specs.Sum.{total}
 use Rattle.line_wire.specs.declared.doubling.Progress.{Progress}
-use Rattle.line_wire.proofs.Stuffed.{stuffed-drop-length, stuffed-drop-sets, total-drop}
+use Rattle.line_wire.proofs.Stuffed.{stuffed-drop-length, stuffed_drop_sets, total_drop}
 use Rattle.line_wire.proofs.doubling.put_all.Statement.{statement}
 use Rattle.line_wire.proofs.doubling.put_all.Tie as tie
 use Rattle.line_wire.proofs.doubling.put_all.Reads as reads
@@ -58,8 +58,8 @@ loop-again c =
       search rules,
       omega arith,
       omega (arith, stuffed-drop-length s l.i h),
-      omega (arith, total-drop s l.i h),
-      rw (p.ensures.buffer, at, stuffed-drop-sets s l.i h) l.invariant.5,
+      omega (arith, total_drop s l.i h),
+      rw (p.ensures.buffer, at, stuffed_drop_sets s l.i h) l.invariant.5,
     )
 
 same_length : tie.Need-same-length invariant-loop decreases-loop

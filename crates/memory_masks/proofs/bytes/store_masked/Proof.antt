@@ -5,8 +5,8 @@ use native.Mathlib.Omega.{arith}
 use native.Mathlib.Nat.{add-zero}
 use lib.ListN.{length, drop}
 use borrow.Author.Rules.{rules}
-use Rattle.document.specs.Stores.{maskStored}
-use Rattle.memory_masks.proofs.Turns.{mask-stored-next, mask-stored-ended}
+use Rattle.document.specs.Stores.{mask_stored}
+use Rattle.memory_masks.proofs.Turns.{mask_stored_next, mask_stored_ended}
 use Rattle.memory_masks.proofs.bytes.store_masked.Statement.{statement}
 use Rattle.memory_masks.proofs.bytes.store_masked.Tie as tie
 
@@ -14,7 +14,7 @@ abbrev invariant-loop : tie.invariant-loop
 invariant-loop memory₀ at values masks n i₀ memory i =
     (i ≤ n)
     × (length memory ≡ length memory₀)
-    × (maskStored memory (at + i) (drop i values) (drop i masks) ≡ maskStored memory₀ at values masks)
+    × (mask_stored memory (at + i) (drop i values) (drop i masks) ≡ mask_stored memory₀ at values masks)
 
 abbrev decreases-loop : tie.decreases-loop
 decreases-loop memory₀ at values masks n i₀ memory i = n - i
@@ -55,7 +55,7 @@ loop-again c =
     let l = c.before.before.before.before.before.loop in (
       search rules,
       search rules,
-      mask-stored-next l.memory a.values.now a.masks.now a.at l.i _ (search rules) (search rules) (search rules) c.mixed.ensures ∙ l.invariant.2,
+      mask_stored_next l.memory a.values.now a.masks.now a.at l.i _ (search rules) (search rules) (search rules) c.mixed.ensures ∙ l.invariant.2,
     )
 
 same_length : tie.Need-same-length invariant-loop decreases-loop
@@ -64,7 +64,7 @@ same_length c = search rules
 returns : tie.Need-returns invariant-loop decreases-loop
 returns c =
     let s = c.before.before.before.before.before.before in
-    mask-stored-ended c.before.loop.memory s.args.values.now s.args.masks.now s.args.at c.before.loop.i (omega arith) ∙ c.before.loop.invariant.2
+    mask_stored_ended c.before.loop.memory s.args.values.now s.args.masks.now s.args.at c.before.loop.i (omega arith) ∙ c.before.loop.invariant.2
 
 pub store-masked-spec : {M : Type 1} → statement M
 store-masked-spec =

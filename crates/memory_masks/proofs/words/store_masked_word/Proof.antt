@@ -3,9 +3,9 @@ use mathlib.Core.Path.{◌≡◌, sym, ap, ◌∙◌}
 use Prim.Native.Nat.{ℕ}
 use borrow.Author.Rules.{rules}
 use lib.Seq.{sets}
-use Rattle.document.specs.Values.{littleEndian}
-use Rattle.bytes_fields.proofs.Numbers.{number-kept}
-use Rattle.memory_masks.proofs.Turns.{mask-stored-number}
+use Rattle.document.specs.Values.{little_endian}
+use Rattle.bytes_fields.proofs.Numbers.{number_kept}
+use Rattle.memory_masks.proofs.Turns.{mask_stored_number}
 use Rattle.memory_masks.proofs.words.store_masked_word.Statement.{statement}
 use Rattle.memory_masks.proofs.words.store_masked_word.Tie as tie
 
@@ -30,10 +30,10 @@ returns c =
     let s = known.before in
     let a = s.args in
     let memory = a.memory.now in
-    let held = number-kept memory (λ i. (known.slice-known.given i).fits) a.at 2 s.requires in
+    let held = number_kept memory (λ i. (known.slice-known.given i).fits) a.at 2 s.requires in
     put.put_word.ensures
-    ∙ ap (λ (n : ℕ). sets memory a.at (littleEndian 2 n)) mixed.mixed-word.ensures
-    ∙ sym (mask-stored-number 2 memory a.at read.word_at.result a.value a.mask (sym held ∙ ap (littleEndian 2) (sym read.word_at.ensures)))
+    ∙ ap (λ (n : ℕ). sets memory a.at (little_endian 2 n)) mixed.mixed-word.ensures
+    ∙ sym (mask_stored_number 2 memory a.at read.word_at.result a.value a.mask (sym held ∙ ap (little_endian 2) (sym read.word_at.ensures)))
 
 pub store-masked-word-spec : {M : Type 1} → statement M
 store-masked-word-spec =

@@ -7,7 +7,7 @@ use lib.Seq.{drop-length}
 use lib.ListN.{length, drop}
 use borrow.Author.Rules.{rules}
 use Rattle.document.specs.Values.{number}
-use Rattle.memory_ranges.proofs.Widths.{bytes_bits, fewer_bytes, byte_more, byte-more-below}
+use Rattle.memory_ranges.proofs.Widths.{bytes_bits, fewer_bytes, byte_more, byte_more_below}
 use Rattle.memory_ranges.proofs.values.number.Statement.{statement}
 use Rattle.memory_ranges.proofs.values.number.Tie as tie
 
@@ -47,7 +47,7 @@ loop-again c =
     let l = c.before.before.before.loop in (
       search rules,
       byte_more s l.i l.x c.u32-of-u8.result (omega arith) l.invariant.0 l.invariant.1 c.u32-of-u8.ensures.0,
-      byte-more-below s l.i l.x c.u32-of-u8.result (omega arith) l.invariant.0 l.invariant.2 (omega (arith, c.before.shared-slice-known2.given (l.i - 1))),
+      byte_more_below s l.i l.x c.u32-of-u8.result (omega arith) l.invariant.0 l.invariant.2 (omega (arith, c.before.shared-slice-known2.given (l.i - 1))),
     )
 
 returns : tie.Need-returns invariant-loop decreases-loop

@@ -1,8 +1,8 @@
 -- Function by function, at twice the register.
 use mathlib.Core.Path.{◌≡◌, ◌∙◌}
 use borrow.Author.Rules.{rules}
-use Rattle.document.specs.Frames.{firstIn, quantityIn}
-use Rattle.modbus_frames.proofs.WrongAddresses.{reading-address, writing-address, register-address}
+use Rattle.document.specs.Frames.{first_in, quantity_in}
+use Rattle.modbus_frames.proofs.WrongAddresses.{reading_address, writing_address, register_address}
 use Rattle.modbus_frames.proofs.addresses.is_address_wrong.Statement.{statement}
 use Rattle.modbus_frames.proofs.addresses.is_address_wrong.Tie as tie
 
@@ -55,31 +55,31 @@ module _ (u : tie.After-usize-of-u16) where
   abbrev start : tie.Start
   start = u.before.before.before.before.before
 
-  first : u.before.before.u32-of-u16.result ≡ firstIn start.args.frame.now
+  first : u.before.before.u32-of-u16.result ≡ first_in start.args.frame.now
   first = u.before.before.u32-of-u16.ensures.0 ∙ u.before.before.before.word_in.ensures.0
 
-  quantity : u.usize-of-u16.result ≡ quantityIn start.args.frame.now
+  quantity : u.usize-of-u16.result ≡ quantity_in start.args.frame.now
   quantity = u.usize-of-u16.ensures.0 ∙ u.before.word-in2.ensures.0
 
 returns : tie.Need-returns
 returns c memory =
     let u = c.before.before.before in
-    rw c.before.enum_told.given.1 (reading-address (start u).args.frame.now memory _ _ (first u) (quantity u) c.may-be-read.result c.may-be-read.ensures)
+    rw c.before.enum_told.given.1 (reading_address (start u).args.frame.now memory _ _ (first u) (quantity u) c.may-be-read.result c.may-be-read.ensures)
 
 returns-2 : tie.Need-returns-2
 returns-2 c memory =
     let u = c.before.before.before in
-    rw c.before.enum-told2.given.1 (register-address (start u).args.frame.now memory _ _ (first u) (quantity u) c.may-be-written.result c.may-be-written.ensures)
+    rw c.before.enum-told2.given.1 (register_address (start u).args.frame.now memory _ _ (first u) (quantity u) c.may-be-written.result c.may-be-written.ensures)
 
 returns-3 : tie.Need-returns-3
 returns-3 c memory =
     let u = c.before.before.before in
-    rw c.before.enum-told3.given.1 (writing-address (start u).args.frame.now memory _ _ (first u) (quantity u) c.may-be-written2.result c.may-be-written2.ensures)
+    rw c.before.enum-told3.given.1 (writing_address (start u).args.frame.now memory _ _ (first u) (quantity u) c.may-be-written2.result c.may-be-written2.ensures)
 
 returns-4 : tie.Need-returns-4
 returns-4 c memory =
     let u = c.before.before.before in
-    rw c.before.enum-told4.given.1 (register-address (start u).args.frame.now memory _ _ (first u) (quantity u) c.may-be-written3.result c.may-be-written3.ensures)
+    rw c.before.enum-told4.given.1 (register_address (start u).args.frame.now memory _ _ (first u) (quantity u) c.may-be-written3.result c.may-be-written3.ensures)
 
 returns-5 : tie.Need-returns-5
 returns-5 c memory = rw c.enum-told5.given.1

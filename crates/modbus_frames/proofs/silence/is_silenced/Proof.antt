@@ -1,7 +1,7 @@
 -- Reason by reason; the check sum over the whole frame leaves 0 where it is right.
 use borrow.Author.Rules.{rules}
-use Rattle.document.proofs.Bytes.{all-of-bytes}
-use Rattle.modbus_frames.proofs.Silenced.{too_short, too_long, elsewhere, no-function, by-check-sum}
+use Rattle.document.proofs.Bytes.{all_of_bytes}
+use Rattle.modbus_frames.proofs.Silenced.{too_short, too_long, elsewhere, no_function, by_check_sum}
 use Rattle.modbus_frames.proofs.silence.is_silenced.Statement.{statement}
 use Rattle.modbus_frames.proofs.silence.is_silenced.Tie as tie
 
@@ -29,7 +29,7 @@ shared-slice-read-if4 c = search rules
 returns-4 : tie.Need-returns-4
 returns-4 c =
     let a = c.before.before.before.before.before.before.before.args in
-    no-function a.station a.frame.now c.if4.true
+    no_function a.station a.frame.now c.if4.true
 
 check-sum-requires : tie.Need-check-sum-requires
 check-sum-requires c κs = search rules
@@ -39,8 +39,8 @@ returns-5 c =
     let own = c.before.before.before in
     let long = own.before.before in
     let s = long.before.before.before in
-    by-check-sum s.args.station s.args.frame.now
-    (all-of-bytes s.args.frame.now (λ i. (long.before.before.shared-slice-known.given i).fits))
+    by_check_sum s.args.station s.args.frame.now
+    (all_of_bytes s.args.frame.now (λ i. (long.before.before.shared-slice-known.given i).fits))
     s.requires long.before.if1.false long.if2.false own.if3.false c.before.if4.false
     c.check-sum.result c.check-sum.ensures
 

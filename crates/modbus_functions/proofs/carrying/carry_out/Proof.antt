@@ -9,11 +9,11 @@ use borrow.Author.Rules.{rules}
 use Rattle.document.specs.Areas.{bytes_at}
 use Rattle.document.specs.Stores.{stored}
 use Rattle.document.specs.Registers.{turned}
-use Rattle.document.specs.Frames.{firstIn}
-use Rattle.document.proofs.Bytes.{all-of-bytes}
-use Rattle.modbus_frames.proofs.Order.{accepted-long}
-use Rattle.modbus_functions.proofs.Masked.{masked-so}
-use Rattle.modbus_functions.proofs.Carried.{none-as, carried-as, OneFits, SeveralFit, one_written, one-masked, several-written, values-between, values_length}
+use Rattle.document.specs.Frames.{first_in}
+use Rattle.document.proofs.Bytes.{all_of_bytes}
+use Rattle.modbus_frames.proofs.Order.{accepted_long}
+use Rattle.modbus_functions.proofs.Masked.{masked_so}
+use Rattle.modbus_functions.proofs.Carried.{none_as, carried_as, OneFits, SeveralFit, one_written, one_masked, several_written, values_between, values_length}
 use Rattle.modbus_functions.proofs.carrying.carry_out.Statement.{statement}
 use Rattle.modbus_functions.proofs.carrying.carry_out.Tie as tie
 
@@ -25,7 +25,7 @@ module _ (s : tie.Start) where
   memory = s.args.memory.now
 
   long : 8 ≤ length frame
-  long = accepted-long s.args.function frame memory s.pre.0
+  long = accepted_long s.args.function frame memory s.pre.0
 
 -- ---- the first register is read
 
@@ -33,7 +33,7 @@ module _ (u : tie.After-usize-of-u16) where
   abbrev start : tie.Start
   start = u.before.before.before.before
 
-  first : u.usize-of-u16.result ≡ firstIn (frame start)
+  first : u.usize-of-u16.result ≡ first_in (frame start)
   first = u.usize-of-u16.ensures.0 ∙ u.before.word_in.ensures.0
 
 word-in-requires : tie.Need-word-in-requires
@@ -59,7 +59,7 @@ module _ (e : tie.After-enum-told2) where
 
   written : OneFits (frame one) (memory one) one.pre.1 8
   written =
-      one_written (frame one) (memory one) one.pre.1 (none-as e.enum-told2.given.1 (frame one) (memory one) one.pre.0)
+      one_written (frame one) (memory one) one.pre.1 (none_as e.enum-told2.given.1 (frame one) (memory one) one.pre.0)
 
   values-two : length (bytes_at (frame one) 4 2) ≡ 2
   values-two = length-take-le 2 (drop 4 (frame one)) (rw length-drop (omega (arith, long one)))
@@ -89,16 +89,16 @@ module _ (e : tie.After-enum-told3) where
   many = start e.before.before
 
   several : SeveralFit (frame many) (memory many) many.pre.1
-  several = several-written (frame many) (memory many) many.pre.1 (none-as e.enum-told3.given.1 (frame many) (memory many) many.pre.0)
+  several = several_written (frame many) (memory many) many.pre.1 (none_as e.enum-told3.given.1 (frame many) (memory many) many.pre.0)
 
 sub-end : tie.Need-overflow-sub-end
 sub-end c = omega (arith, long (start c.before.before))
 
 sub-copy-swapped-2 : tie.Need-overflow-sub-copy-swapped-2
-sub-copy-swapped-2 c = omega (arith, (several c.before).frame-length)
+sub-copy-swapped-2 c = omega (arith, (several c.before).frame_length)
 
 part-copy-swapped-start-2 : tie.Need-slice-bounds-copy-swapped-start-2
-part-copy-swapped-start-2 c = omega (arith, (several c.before).frame-length)
+part-copy-swapped-start-2 c = omega (arith, (several c.before).frame_length)
 
 part-copy-swapped-end-2 : tie.Need-slice-bounds-copy-swapped-end-2
 part-copy-swapped-end-2 c = search rules
@@ -107,7 +107,7 @@ copy-swapped-requires-2 : tie.Need-copy-swapped-requires-2
 copy-swapped-requires-2 c κs =
     let e = c.before.before in
     let s = start e.before.before in
-    omega (arith, (several e).room, first e.before.before, ap length (values-between (frame s) (memory s) s.pre.1 (several e)), values_length (frame s) (memory s) s.pre.1 (several e))
+    omega (arith, (several e).room, first e.before.before, ap length (values_between (frame s) (memory s) s.pre.1 (several e)), values_length (frame s) (memory s) s.pre.1 (several e))
 
 enum-told-4 : tie.Need-enum-told-4
 enum-told-4 c = search rules
@@ -119,7 +119,7 @@ module _ (e : tie.After-enum-told4) where
   mask = start e.before.before
 
   masked : OneFits (frame mask) (memory mask) mask.pre.1 10
-  masked = one-masked (frame mask) (memory mask) mask.pre.1 (none-as e.enum-told4.given.1 (frame mask) (memory mask) mask.pre.0)
+  masked = one_masked (frame mask) (memory mask) mask.pre.1 (none_as e.enum-told4.given.1 (frame mask) (memory mask) mask.pre.0)
 
 word-in-requires-2 : tie.Need-word-in-requires-2
 word-in-requires-2 c κs = omega (arith, long (start c.before.before))
@@ -146,7 +146,7 @@ returns-2 c =
     let w = c.before.before in
     let e = w.before.before.before in
     let s = one e in
-    carried-as e.enum-told2.given.1 (frame s) (memory s) _
+    carried_as e.enum-told2.given.1 (frame s) (memory s) _
     (w.copy-swapped.ensures ∙ ap (λ (r : ℕ). stored (memory s) (2 * r) (turned (bytes_at (frame s) 4 2))) (first e.before.before))
 
 same-length-2 : tie.Need-same-length-2
@@ -157,8 +157,8 @@ returns-3 c =
     let w = c.before.before in
     let e = w.before.before.before in
     let s = many e in
-    let values = values-between (frame s) (memory s) s.pre.1 (several e) in
-    carried-as e.enum-told3.given.1 (frame s) (memory s) _
+    let values = values_between (frame s) (memory s) s.pre.1 (several e) in
+    carried_as e.enum-told3.given.1 (frame s) (memory s) _
     (w.copy-swapped2.ensures ∙ ap₂ (λ (r : ℕ) (vs : List ℕ). stored (memory s) (2 * r) (turned vs)) (first e.before.before) values)
 
 same-length-3 : tie.Need-same-length-3
@@ -172,10 +172,10 @@ returns-4 c =
     let s = mask e in
     let kept = words.before.word-in2 in
     let set = words.word-in3 in
-    carried-as e.enum-told4.given.1 (frame s) (memory s) _
+    carried_as e.enum-told4.given.1 (frame s) (memory s) _
     (w.store-masked-word.ensures
-    ∙ masked-so (memory s) (first e.before.before) kept.ensures.0 set.ensures.0
-    (all-of-bytes (memory s) (λ i. (e.before.before.before.before.slice-known.given i).fits)) (masked e).room kept.ensures.1 set.ensures.1)
+    ∙ masked_so (memory s) (first e.before.before) kept.ensures.0 set.ensures.0
+    (all_of_bytes (memory s) (λ i. (e.before.before.before.before.slice-known.given i).fits)) (masked e).room kept.ensures.1 set.ensures.1)
 
 returns-5 : tie.Need-returns-5
 returns-5 c = search rules

@@ -4,15 +4,15 @@ use native.Mathlib.Omega.{arith}
 use lib.ListN.{length}
 use borrow.Author.Rules.{rules}
 use Rattle.document.specs.declared.Function.TheVariants.{ReadRegisters}
-use Rattle.modbus_frames.proofs.WrongValues.{reading-right}
-use Rattle.modbus_frames.proofs.Order.{accepted, accepted-long}
-use Rattle.modbus_functions.proofs.Carried.{none-as}
-use Rattle.modbus_functions.proofs.Told.{front-told, told-as, reads-inside}
+use Rattle.modbus_frames.proofs.WrongValues.{reading_right_lem}
+use Rattle.modbus_frames.proofs.Order.{accepted, accepted_long}
+use Rattle.modbus_functions.proofs.Carried.{none_as}
+use Rattle.modbus_functions.proofs.Told.{front_told, told_as, reads_inside}
 use Rattle.modbus_functions.proofs.telling.tell.Statement.{statement}
 use Rattle.modbus_functions.proofs.telling.tell.Tie as tie
 
 long : (s : tie.Start) → 8 ≤ length s.args.frame.now
-long s = accepted-long s.args.function s.args.frame.now s.args.memory.now s.requires.0
+long s = accepted_long s.args.function s.args.frame.now s.args.memory.now s.requires.0
 
 enum_told : tie.Need-enum-told
 enum_told c = search rules
@@ -23,9 +23,9 @@ tell-registers-requires c κs =
     let s = e.before.before.before.before.before in
     let frame = s.args.frame.now in
     let memory = s.args.memory.now in
-    let none = none-as e.enum_told.given.1 frame memory s.requires.0 in
-    let right = reading-right frame (accepted ReadRegisters frame memory none).value in
-    ((omega (arith, right.0), right.1, s.requires.2), omega (arith, reads-inside frame memory none, s.requires.1))
+    let none = none_as e.enum_told.given.1 frame memory s.requires.0 in
+    let right = reading_right_lem frame (accepted ReadRegisters frame memory none).value in
+    ((omega (arith, right.0), right.1, s.requires.2), omega (arith, reads_inside frame memory none, s.requires.1))
 
 enum-told-2 : tie.Need-enum-told-2
 enum-told-2 c = search rules
@@ -67,7 +67,7 @@ returns c =
     let w = c.before.before in
     let e = w.before.before in
     let s = e.before.before.before.before.before in
-    told-as e.enum_told.given.1 s.args.frame.now s.args.memory.now s.args.out.now _ _ w.tell-registers.ensures
+    told_as e.enum_told.given.1 s.args.frame.now s.args.memory.now s.args.out.now _ _ w.tell-registers.ensures
 
 same-length-2 : tie.Need-same-length-2
 same-length-2 c = search rules
@@ -78,7 +78,7 @@ returns-2 c =
     let e = w.before.before in
     let s = e.before.before.before.before.before in
     let a = s.args in
-    told-as e.enum-told2.given.1 a.frame.now a.memory.now a.out.now _ _ (front-told 4 a.frame.now a.out.now _ _ (omega (arith, long s)) w.tell-front.ensures)
+    told_as e.enum-told2.given.1 a.frame.now a.memory.now a.out.now _ _ (front_told 4 a.frame.now a.out.now _ _ (omega (arith, long s)) w.tell-front.ensures)
 
 same-length-3 : tie.Need-same-length-3
 same-length-3 c = search rules
@@ -89,7 +89,7 @@ returns-3 c =
     let e = w.before.before in
     let s = e.before.before.before.before.before in
     let a = s.args in
-    told-as e.enum-told3.given.1 a.frame.now a.memory.now a.out.now _ _ (front-told 4 a.frame.now a.out.now _ _ (omega (arith, long s)) w.tell-front2.ensures)
+    told_as e.enum-told3.given.1 a.frame.now a.memory.now a.out.now _ _ (front_told 4 a.frame.now a.out.now _ _ (omega (arith, long s)) w.tell-front2.ensures)
 
 same-length-4 : tie.Need-same-length-4
 same-length-4 c = search rules
@@ -100,7 +100,7 @@ returns-4 c =
     let e = w.before.before in
     let s = e.before.before.before.before.before in
     let a = s.args in
-    told-as e.enum-told4.given.1 a.frame.now a.memory.now a.out.now _ _ (front-told 6 a.frame.now a.out.now _ _ (omega (arith, long s)) w.tell-front3.ensures)
+    told_as e.enum-told4.given.1 a.frame.now a.memory.now a.out.now _ _ (front_told 6 a.frame.now a.out.now _ _ (omega (arith, long s)) w.tell-front3.ensures)
 
 same-length-5 : tie.Need-same-length-5
 same-length-5 c = search rules
@@ -111,7 +111,7 @@ returns-5 c =
     let e = w.before.before in
     let s = e.before.before.before.before.before in
     let a = s.args in
-    told-as e.enum-told5.given.1 a.frame.now a.memory.now a.out.now _ _ (front-told 0 a.frame.now a.out.now _ _ (omega (arith, long s)) w.tell-front4.ensures)
+    told_as e.enum-told5.given.1 a.frame.now a.memory.now a.out.now _ _ (front_told 0 a.frame.now a.out.now _ _ (omega (arith, long s)) w.tell-front4.ensures)
 
 pub tell-spec : {M : Type 1} → statement M
 tell-spec =

@@ -7,9 +7,9 @@ use lib.ListN.{length, length-set}
 use lib.Seq.{length-sets}
 use borrow.Author.Rules.{rules}
 use Rattle.document.specs.Registers.{turned}
-use Rattle.document.specs.Frames.{firstIn, quantityIn}
-use Rattle.modbus_functions.proofs.Told.{registers-told, part_length}
-use Rattle.modbus_functions.proofs.Told.{part, part_length, registers-told}
+use Rattle.document.specs.Frames.{first_in, quantity_in}
+use Rattle.modbus_functions.proofs.Told.{registers_told, part_length}
+use Rattle.modbus_functions.proofs.Told.{part, part_length, registers_told}
 use Rattle.modbus_functions.proofs.telling.tell_registers.Statement.{statement}
 use Rattle.modbus_functions.proofs.telling.tell_registers.Tie as tie
 
@@ -76,10 +76,10 @@ module _ (q : tie.After-usize-of-u162) where
   abbrev count : ℕ
   count = q.usize-of-u162.result
 
-  first : from ≡ firstIn start.args.frame.now
+  first : from ≡ first_in start.args.frame.now
   first = q.before.before.usize-of-u16.ensures.0 ∙ q.before.before.before.word_in.ensures.0
 
-  quantity : count ≡ quantityIn start.args.frame.now
+  quantity : count ≡ quantity_in start.args.frame.now
   quantity = q.usize-of-u162.ensures.0 ∙ q.before.word-in2.ensures.0
 
   inside : 2 * from + 2 * count ≤ length memory
@@ -102,7 +102,7 @@ returns c =
     let t = c.before.before in
     let q = t.before.before.before.before.before in
     let a = (start q).args in
-    registers-told a.frame.now (memory q) a.out.now _ (from q) (count q) (first q) (quantity q) (inside q) t.copy-swapped.ensures
+    registers_told a.frame.now (memory q) a.out.now _ (from q) (count q) (first q) (quantity q) (inside q) t.copy-swapped.ensures
 
 pub tell-registers-spec : {M : Type 1} → statement M
 tell-registers-spec =

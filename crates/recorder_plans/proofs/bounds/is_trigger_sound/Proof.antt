@@ -1,7 +1,7 @@
 -- Test by test; a size that passes is at most 4, which the last one leans on.
 use mathlib.Core.Path.{sym, ◌∙◌}
 use borrow.Author.Tests.{le-leb, lt-leb, not-true, not-false}
-use Rattle.recorder_plans.proofs.Granted.{size-bounds}
+use Rattle.recorder_plans.proofs.Granted.{size_bounds}
 use native.Mathlib.Omega.{arith}
 use borrow.Author.Rules.{rules}
 use Rattle.recorder_plans.proofs.bounds.is_trigger_sound.Statement.{statement}
@@ -53,7 +53,7 @@ does-fit-requires c κs =
     let e = c.before.before.before in
     let s = e.before.before.before.before in
     let b =
-    size-bounds s.args.mode s.args.size (sym e.before.before.is-size-sound.ensures ∙ not-false _ e.before.if2.false) in
+    size_bounds s.args.mode s.args.size (sym e.before.before.is-size-sound.ensures ∙ not-false _ e.before.if2.false) in
     omega (arith, b.1, c.before.before.usize-of-u8.ensures.0)
 
 returns-5 : tie.Need-returns-5

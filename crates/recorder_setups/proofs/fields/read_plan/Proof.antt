@@ -5,9 +5,9 @@ use Prim.Native.Nat.{ℕ, ◌+◌}
 use lib.ListN.{get_or, take}
 use Rattle.document.specs.Areas.{bytes_at}
 use Rattle.document.specs.Values.{number}
-use Rattle.document.specs.Plan.{noTrigger, planIn}
+use Rattle.document.specs.Plan.{no_trigger, plan_in}
 use Rattle.variables_list.specs.State.{kept}
-use Rattle.recorder_setups.proofs.Heads.{triggerFields, trigger-none, trigger-some, plan-kept}
+use Rattle.recorder_setups.proofs.Heads.{trigger_fields, trigger_none, trigger_some, plan_kept_lem}
 use native.Mathlib.Omega.{arith}
 use borrow.Author.Rules.{rules}
 use Rattle.recorder_setups.proofs.fields.read_plan.Statement.{statement}
@@ -26,13 +26,13 @@ shared-slice-read-mode : tie.Need-shared-slice-read-mode
 shared-slice-read-mode c = search rules
 
 returns : tie.Need-returns
-unfolding planIn
+unfolding plan_in
 returns c =
     let w = c.before.before in
     let s = w.before.before.before.before in (
-      plan-kept (planIn s.args.ex s.args.body.now) noTrigger (kept []) _ _ _ 0 0 0 0 0
+      plan_kept_lem (plan_in s.args.ex s.args.body.now) no_trigger (kept []) _ _ _ 0 0 0 0 0
           w.before.before.word_at.ensures w.before.word-at2.ensures w.word-at3.ensures
-          (trigger-none s.args.ex s.args.body.now c.if1.true) refl refl refl refl refl,
+          (trigger_none s.args.ex s.args.body.now c.if1.true) refl refl refl refl refl,
       λ h. omega arith,
     )
 
@@ -64,7 +64,7 @@ threshold-at-requires : tie.Need-threshold-at-requires
 threshold-at-requires c κs = search rules
 
 returns-2 : tie.Need-returns-2
-unfolding planIn
+unfolding plan_in
 returns-2 c =
     let n = c.before.before in
     let a = n.before.before.before in
@@ -74,9 +74,9 @@ returns-2 c =
     let body = s.args.body.now in
     let ex = s.args.ex in
     let wide = a.address-width.ensures.0 in (
-      plan-kept (planIn ex body) (triggerFields ex body) (kept []) _ _ _ _ _ _ _ _
+      plan_kept_lem (plan_in ex body) (trigger_fields ex body) (kept []) _ _ _ _ _ _ _ _
           w.before.before.word_at.ensures w.before.word-at2.ensures w.word-at3.ensures
-          (trigger-some ex body e.if1.false)
+          (trigger_some ex body e.if1.false)
           refl
           (ap (λ (k : ℕ). get_or body (7 + k) 0) wide)
           (ap (λ (k : ℕ). get_or body (8 + k) 0) wide)

@@ -1,6 +1,6 @@
 -- Fewer than four bytes are the front of the four.
 use mathlib.Core.Path.{◌≡◌, ◌∙◌}
-use Rattle.recorder_setups.proofs.Heads.{threshold-short, threshold-whole}
+use Rattle.recorder_setups.proofs.Heads.{threshold_short, threshold_whole}
 use native.Mathlib.Omega.{arith}
 use borrow.Author.Rules.{rules}
 use Rattle.recorder_setups.proofs.fields.threshold_at.Statement.{statement}
@@ -12,7 +12,7 @@ number-at-requires c κs = search rules
 returns : tie.Need-returns
 returns c =
     let s = c.before.before.before in (
-      c.number_at.ensures.value ∙ threshold-short s.args.body.now s.args.at s.args.size c.before.if1.true,
+      c.number_at.ensures.value ∙ threshold_short s.args.body.now s.args.at s.args.size c.before.if1.true,
       λ h. c.number_at.ensures.fits,
     )
 
@@ -22,7 +22,7 @@ number-at-requires-2 c κs = search rules
 returns-2 : tie.Need-returns-2
 returns-2 c =
     let s = c.before.before.before in (
-      c.number-at2.ensures.value ∙ threshold-whole s.args.body.now s.args.at s.args.size c.before.if1.false,
+      c.number-at2.ensures.value ∙ threshold_whole s.args.body.now s.args.at s.args.size c.before.if1.false,
       λ h. let e : s.args.size ≡ 4 = omega (arith, c.before.if1.false) in rw e c.number-at2.ensures.fits,
     )
 

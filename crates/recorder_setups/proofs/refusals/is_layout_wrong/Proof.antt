@@ -7,18 +7,18 @@ use lib.Dec.{eqb}
 use lib.ListN.{length, get_or}
 use borrow.Author.Tests.{eqb-true, lt-ltb, le-ltb, ne_eqb, not-false}
 use borrow.Author.Rules.{rules}
-use Rattle.document.specs.Variables.{lengthGiven}
-use Rattle.document.specs.Plan.{headWidth, variablesPart}
+use Rattle.document.specs.Variables.{length_given}
+use Rattle.document.specs.Plan.{head_width, variables_part}
 use Rattle.recorder_setups.proofs.refusals.is_layout_wrong.Statement.{statement}
 use Rattle.recorder_setups.proofs.refusals.is_layout_wrong.Tie as tie
 
 abbrev start : tie.Else1 → tie.Start
 start c = c.before.before.before
 
-other : (c : tie.Else1) → not (eqb (length (start c).args.body.now) (headWidth (start c).args.ex + lengthGiven (start c).args.ex (variablesPart (start c).args.ex (start c).args.body.now))) ≡ false
+other : (c : tie.Else1) → not (eqb (length (start c).args.body.now) (head_width (start c).args.ex + length_given (start c).args.ex (variables_part (start c).args.ex (start c).args.body.now))) ≡ false
 other c = sym c.before.is-length-wrong.ensures ∙ c.if1.false
 
-right : (c : tie.Else1) → length (start c).args.body.now ≡ headWidth (start c).args.ex + lengthGiven (start c).args.ex (variablesPart (start c).args.ex (start c).args.body.now)
+right : (c : tie.Else1) → length (start c).args.body.now ≡ head_width (start c).args.ex + length_given (start c).args.ex (variables_part (start c).args.ex (start c).args.body.now)
 right c = eqb-true _ _ (not-false _ (other c))
 
 is-length-wrong-requires : tie.Need-is-length-wrong-requires

@@ -6,10 +6,10 @@ use native.Mathlib.Omega.{arith}
 use lib.ListN.{length}
 use borrow.Author.Tests.{ne_eqb}
 use borrow.Author.Rules.{rules}
-use Rattle.document.specs.Variables.{lengthGiven}
-use Rattle.document.specs.Plan.{headWidth, variablesPart}
-use Rattle.variables_definitions.specs.Parts.{isWhole}
-use Rattle.recorder_setups.proofs.SetUps.{tail-part, whole_same}
+use Rattle.document.specs.Variables.{length_given}
+use Rattle.document.specs.Plan.{head_width, variables_part}
+use Rattle.variables_definitions.specs.Parts.{is_whole}
+use Rattle.recorder_setups.proofs.SetUps.{tail_part, whole_same}
 use Rattle.recorder_setups.proofs.refusals.is_length_wrong.Statement.{statement}
 use Rattle.recorder_setups.proofs.refusals.is_length_wrong.Tie as tie
 
@@ -20,7 +20,7 @@ returns : tie.Need-returns
 returns c =
     let s = c.before.before.before in
     let body = s.args.body.now in
-    sym (ap not (ne_eqb (length body) (headWidth s.args.ex + lengthGiven s.args.ex (variablesPart s.args.ex body)) (λ e. omega (arith, c.if1.true, c.before.head-width.ensures.0))))
+    sym (ap not (ne_eqb (length body) (head_width s.args.ex + length_given s.args.ex (variables_part s.args.ex body)) (λ e. omega (arith, c.if1.true, c.before.head-width.ensures.0))))
 
 sub-is-whole : tie.Need-overflow-sub-is-whole
 sub-is-whole c = search rules
@@ -41,7 +41,7 @@ returns-2 c =
     let h = e.before.head-width in
     ap not
     (c.is_whole.ensures
-    ∙ ap (isWhole s.args.ex) (tail-part s.args.ex s.args.body.now h.result h.ensures.0)
+    ∙ ap (is_whole s.args.ex) (tail_part s.args.ex s.args.body.now h.result h.ensures.0)
     ∙ whole_same s.args.ex s.args.body.now (omega (arith, e.if1.false, h.ensures.0)))
 
 pub is-length-wrong-spec : {M : Type 1} → statement M

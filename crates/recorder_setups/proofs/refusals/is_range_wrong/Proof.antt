@@ -5,7 +5,7 @@ use Prim.Native.Nat.{ℕ, ◌+◌}
 use lib.Dec.{eqb}
 use lib.ListN.{get_or}
 use borrow.Author.Rules.{rules}
-use Rattle.document.specs.Areas.{bytes_at, mayBeRecorded}
+use Rattle.document.specs.Areas.{bytes_at, may_be_recorded}
 use Rattle.document.specs.Values.{number}
 use Rattle.recorder_setups.proofs.refusals.is_range_wrong.Statement.{statement}
 use Rattle.recorder_setups.proofs.refusals.is_range_wrong.Tie as tie
@@ -40,8 +40,8 @@ returns-2 c =
     let looks = not (eqb (get_or body 0 0) 0) in
     rw e.if1.false
     (c.is-trigger-range-wrong.ensures
-    ∙ ap (λ (x : ℕ). looks && not (mayBeRecorded x (get_or body (7 + a.address-width.result) 0))) n.number_at.ensures.value
-    ∙ ap (λ (k : ℕ). looks && not (mayBeRecorded (number (bytes_at body 7 k)) (get_or body (7 + k) 0))) a.address-width.ensures.0)
+    ∙ ap (λ (x : ℕ). looks && not (may_be_recorded x (get_or body (7 + a.address-width.result) 0))) n.number_at.ensures.value
+    ∙ ap (λ (k : ℕ). looks && not (may_be_recorded (number (bytes_at body 7 k)) (get_or body (7 + k) 0))) a.address-width.ensures.0)
 
 pub is-range-wrong-spec : {M : Type 1} → statement M
 is-range-wrong-spec =

@@ -7,19 +7,19 @@ use lib.Dec.{eqb, ltb}
 use lib.ListN.{get_or}
 use borrow.Author.Tests.{ne_eqb}
 use borrow.Author.Rules.{rules}
-use Rattle.document.specs.Numbers.{isIn}
-use Rattle.document.specs.Plan.{samplesField}
+use Rattle.document.specs.Numbers.{is_in}
+use Rattle.document.specs.Plan.{samples_field}
 use Rattle.recorder_setups.proofs.refusals.is_size_wrong.Statement.{statement}
 use Rattle.recorder_setups.proofs.refusals.is_size_wrong.Tie as tie
 
 abbrev start : tie.After-word-at → tie.Start
 start w = w.before.before.before
 
-some : (c : tie.Else2) → eqb (samplesField (start c.before).args.body.now) 0 ≡ false
-some c = ne_eqb (samplesField (start c.before).args.body.now) 0 (λ z. c.if2.false (c.before.word_at.ensures ∙ z))
+some : (c : tie.Else2) → eqb (samples_field (start c.before).args.body.now) 0 ≡ false
+some c = ne_eqb (samples_field (start c.before).args.body.now) 0 (λ z. c.if2.false (c.before.word_at.ensures ∙ z))
 
 -- the code's product is that of the fields
-overflows : (c : tie.After-do-sets-overflow) → c.do-sets-overflow.result ≡ ltb 4096 (samplesField (start c.before.before).args.body.now * (start c.before.before).args.seen.size)
+overflows : (c : tie.After-do-sets-overflow) → c.do-sets-overflow.result ≡ ltb 4096 (samples_field (start c.before.before).args.body.now * (start c.before.before).args.seen.size)
 overflows c =
     let w = c.before.before in
     c.do-sets-overflow.ensures ∙ ap (λ (n : ℕ). ltb 4096 (n * (start w).args.seen.size)) w.word_at.ensures
@@ -66,7 +66,7 @@ returns-4 c =
     let body = (start o.before.before).args.body.now in
     rw (o.before.before.before.if1.false, some o.before, sym (overflows o) ∙ e.if3.false)
     (c.is-trigger-size-wrong.ensures
-    ∙ ap (λ (k : ℕ). not (eqb (get_or body 0 0) 0) && not (isIn (get_or body (7 + k) 0) (1 ∷ 2 ∷ 4 ∷ []))) a.address-width.ensures.0)
+    ∙ ap (λ (k : ℕ). not (eqb (get_or body 0 0) 0) && not (is_in (get_or body (7 + k) 0) (1 ∷ 2 ∷ 4 ∷ []))) a.address-width.ensures.0)
 
 pub is-size-wrong-spec : {M : Type 1} → statement M
 is-size-wrong-spec =

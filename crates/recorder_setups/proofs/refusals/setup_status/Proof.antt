@@ -7,14 +7,14 @@ use native.Mathlib.Omega.{arith}
 use lib.ListN.{length, take, drop}
 use borrow.Author.Tests.{eq-eqb}
 use borrow.Author.Rules.{rules}
-use Rattle.document.specs.Areas.{recordedEnd}
-use Rattle.document.specs.Variables.{lengthGiven, countIn, countWrong, variablesIn}
-use Rattle.document.specs.Plan.{headWidth, variablesPart, recordedIn, recorderLayoutWrong, recorderSizeWrong, recorderRangeWrong}
-use Rattle.variables_list.proofs.Wrong.{count-right}
-use Rattle.variables_definitions.specs.Parts.{isWhole}
+use Rattle.document.specs.Areas.{recorded_end}
+use Rattle.document.specs.Variables.{length_given, count_in, count_wrong, variables_in}
+use Rattle.document.specs.Plan.{head_width, variables_part, recorded_in, recorder_layout_wrong, recorder_size_wrong, recorder_range_wrong}
+use Rattle.variables_list.proofs.Wrong.{count_right}
+use Rattle.variables_definitions.specs.Parts.{is_whole}
 use Rattle.variables_surveys.specs.Survey.{surveyed}
-use Rattle.recorder_setups.specs.Setup.{seenSizeWrong, seenRangeWrong}
-use Rattle.recorder_setups.proofs.SetUps.{tail-part, count_at, whole_same, layout-right, count-decides, size-seen}
+use Rattle.recorder_setups.specs.Setup.{seen_size_wrong, seen_range_wrong}
+use Rattle.recorder_setups.proofs.SetUps.{tail_part, count_at, whole_same, layout_right, count_decides, size_seen}
 use Rattle.recorder_setups.proofs.refusals.setup_status.Statement.{statement}
 use Rattle.recorder_setups.proofs.refusals.setup_status.Tie as tie
 
@@ -27,25 +27,25 @@ ex c = (start c).args.ex
 abbrev body : tie.After-is-layout-wrong → List ℕ
 body c = (start c).args.body.now
 
-layout : (c : tie.Else1) → recorderLayoutWrong (ex c.before) (body c.before) ≡ false
+layout : (c : tie.Else1) → recorder_layout_wrong (ex c.before) (body c.before) ≡ false
 layout c = sym c.before.is-layout-wrong.ensures ∙ c.if1.false
 
-right : (c : tie.Else1) → length (body c.before) ≡ headWidth (ex c.before) + lengthGiven (ex c.before) (variablesPart (ex c.before) (body c.before))
-right c = layout-right (ex c.before) (body c.before) (layout c)
+right : (c : tie.Else1) → length (body c.before) ≡ head_width (ex c.before) + length_given (ex c.before) (variables_part (ex c.before) (body c.before))
+right c = layout_right (ex c.before) (body c.before) (layout c)
 
 -- the count's byte is the one that the code looks at
-count : (c : tie.After-is-count-wrong) → c.is-count-wrong.result ≡ countWrong (countIn (variablesPart (ex c.before.before.before.before) (body c.before.before.before.before)))
+count : (c : tie.After-is-count-wrong) → c.is-count-wrong.result ≡ count_wrong (count_in (variables_part (ex c.before.before.before.before) (body c.before.before.before.before)))
 count c =
     let h = c.before.before in
     let l = h.before.before in
-    c.is-count-wrong.ensures ∙ ap countWrong (count_at (ex l) (body l) h.head-width.result h.head-width.ensures.0)
+    c.is-count-wrong.ensures ∙ ap count_wrong (count_at (ex l) (body l) h.head-width.result h.head-width.ensures.0)
 
-counted : (c : tie.Else2) → countWrong (countIn (variablesPart (ex c.before.before.before.before.before) (body c.before.before.before.before.before))) ≡ false
+counted : (c : tie.Else2) → count_wrong (count_in (variables_part (ex c.before.before.before.before.before) (body c.before.before.before.before.before))) ≡ false
 counted c = sym (count c.before) ∙ c.if2.false
 
 -- the part that is lent on is the one with the variables
-lent : (c : tie.After-head-width) → take (length (body c.before.before) - c.head-width.result) (drop c.head-width.result (body c.before.before)) ≡ variablesPart (ex c.before.before) (body c.before.before)
-lent c = tail-part (ex c.before.before) (body c.before.before) c.head-width.result c.head-width.ensures.0
+lent : (c : tie.After-head-width) → take (length (body c.before.before) - c.head-width.result) (drop c.head-width.result (body c.before.before)) ≡ variables_part (ex c.before.before) (body c.before.before)
+lent c = tail_part (ex c.before.before) (body c.before.before) c.head-width.result c.head-width.ensures.0
 
 abbrev head : tie.After-survey → tie.After-head-width
 head c = c.before.before.before.before.before
@@ -53,20 +53,20 @@ head c = c.before.before.before.before.before
 abbrev first : tie.After-survey → tie.After-is-layout-wrong
 first c = (head c).before.before
 
-seen : (c : tie.After-survey) → c.survey.result ≡ surveyed recordedEnd (recordedIn (ex (first c)) (body (first c)))
-seen c = c.survey.ensures.0 ∙ ap (λ (l : List ℕ). surveyed recordedEnd (variablesIn (ex (first c)) l)) (lent (head c))
+seen : (c : tie.After-survey) → c.survey.result ≡ surveyed recorded_end (recorded_in (ex (first c)) (body (first c)))
+seen c = c.survey.ensures.0 ∙ ap (λ (l : List ℕ). surveyed recorded_end (variables_in (ex (first c)) l)) (lent (head c))
 
-size : (c : tie.After-is-size-wrong) → c.is-size-wrong.result ≡ recorderSizeWrong (ex (first c.before)) (body (first c.before))
+size : (c : tie.After-is-size-wrong) → c.is-size-wrong.result ≡ recorder_size_wrong (ex (first c.before)) (body (first c.before))
 size c =
     let s = c.before in
     c.is-size-wrong.ensures
-    ∙ ap (seenSizeWrong (ex (first s)) (body (first s))) (seen s)
-    ∙ size-seen (ex (first s)) (body (first s)) (counted s.before.before)
+    ∙ ap (seen_size_wrong (ex (first s)) (body (first s))) (seen s)
+    ∙ size_seen (ex (first s)) (body (first s)) (counted s.before.before)
 
-range : (c : tie.After-is-range-wrong) → c.is-range-wrong.result ≡ recorderRangeWrong (ex (first c.before.before.before)) (body (first c.before.before.before))
+range : (c : tie.After-is-range-wrong) → c.is-range-wrong.result ≡ recorder_range_wrong (ex (first c.before.before.before)) (body (first c.before.before.before))
 range c =
     let s = c.before.before.before in
-    c.is-range-wrong.ensures ∙ ap (seenRangeWrong (ex (first s)) (body (first s))) (seen s)
+    c.is-range-wrong.ensures ∙ ap (seen_range_wrong (ex (first s)) (body (first s))) (seen s)
 
 is-layout-wrong-requires : tie.Need-is-layout-wrong-requires
 is-layout-wrong-requires c κs = search rules
@@ -86,7 +86,7 @@ is-count-wrong-requires c κs = search rules
 returns-2 : tie.Need-returns-2
 returns-2 c =
     let e = c.before.before.before.before in
-    rw (layout e, count-decides (ex e.before) (body e.before) (sym (count c.before) ∙ c.if2.true))
+    rw (layout e, count_decides (ex e.before) (body e.before) (sym (count c.before) ∙ c.if2.true))
 
 sub-survey : tie.Need-overflow-sub-survey
 sub-survey c = omega (arith, right c.before.before.before.before, c.before.before.before.head-width.ensures.0)
@@ -104,9 +104,9 @@ survey-requires c κs =
     let e = h.before in
     let x = ex e.before in
     let l = body e.before in
-    let long : headWidth x ≤ length l = omega (arith, right e) in (
-      ap (isWhole x) (lent h) ∙ whole_same x l long ∙ eq-eqb (length l) (headWidth x + lengthGiven x (variablesPart x l)) (right e),
-      rw (lent h) (count-right (countIn (variablesPart x l)) (counted n)).1,
+    let long : head_width x ≤ length l = omega (arith, right e) in (
+      ap (is_whole x) (lent h) ∙ whole_same x l long ∙ eq-eqb (length l) (head_width x + length_given x (variables_part x l)) (right e),
+      rw (lent h) (count_right (count_in (variables_part x l)) (counted n)).1,
     )
 
 is-size-wrong-requires : tie.Need-is-size-wrong-requires

@@ -3,8 +3,8 @@ use mathlib.Core.Path.{◌≡◌, sym}
 use mathlib.Core.Bool.{Bool, true, false, not, and-true, and-false}
 use Prim.Native.Nat.{ℕ}
 use Rattle.document.specs.Plan.{Trigger}
-use Rattle.document.specs.Trigger.{fires, isBeyond}
-use Rattle.document.proofs.Levels.{edge-of-levels}
+use Rattle.document.specs.Trigger.{fires, is_beyond}
+use Rattle.document.proofs.Levels.{edge_of_levels}
 use borrow.Author.Rules.{rules}
 use Rattle.recorder_triggers.proofs.edges.comes.Statement.{statement}
 use Rattle.recorder_triggers.proofs.edges.comes.Tie as tie
@@ -15,13 +15,13 @@ is-beyond-requires c κs = search rules
 is-beyond-requires-2 : tie.Need-is-beyond-requires-2
 is-beyond-requires-2 c κs = search rules
 
-module _ (t : Trigger) (previous this : ℕ) (now : Bool) (e : now ≡ isBeyond t this) where
+module _ (t : Trigger) (previous this : ℕ) (now : Bool) (e : now ≡ is_beyond t this) where
   -- this set is at or beyond the threshold, and the one before tells
-  reached : (was : Bool) → was ≡ isBeyond t previous → now ≡ true → not was ≡ fires t previous this
-  reached was f y = rw (edge-of-levels t previous this, ← e, ← f, y) (sym (and-true (not was)))
+  reached : (was : Bool) → was ≡ is_beyond t previous → now ≡ true → not was ≡ fires t previous this
+  reached was f y = rw (edge_of_levels t previous this, ← e, ← f, y) (sym (and-true (not was)))
 
   not-reached : now ≡ false → false ≡ fires t previous this
-  not-reached n = rw (edge-of-levels t previous this, ← e, n) (sym (and-false (not (isBeyond t previous))))
+  not-reached n = rw (edge_of_levels t previous this, ← e, n) (sym (and-false (not (is_beyond t previous))))
 
 returns : tie.Need-returns
 returns c address =

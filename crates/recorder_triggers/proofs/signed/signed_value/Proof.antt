@@ -5,7 +5,7 @@ use mir.Syntax.{w64}
 use mir.Facts.{to_z_pos, to_z-of_z}
 use borrow.Author.Tests.{eq-eqb, ne_eqb}
 use borrow.Author.Rules.{rules}
-use Rattle.document.specs.Values.{twosComplement}
+use Rattle.document.specs.Values.{twos_complement}
 use Rattle.recorder_triggers.proofs.signed.signed_value.Statement.{statement}
 use Rattle.recorder_triggers.proofs.signed.signed_value.Tie as tie
 
@@ -19,7 +19,7 @@ returns : tie.Need-returns
 returns c =
     let s = c.before.before.before in
     rw (eq-eqb _ _ c.before.before.if1.true)
-    (to_z-of_z (record { sfits = c.twos-complement.type-inv }) ∙ c.twos-complement.ensures ∙ ap (twosComplement s.args.size) c.before.u64-of-u32.ensures.0)
+    (to_z-of_z (record { sfits = c.twos-complement.type-inv }) ∙ c.twos-complement.ensures ∙ ap (twos_complement s.args.size) c.before.u64-of-u32.ensures.0)
 
 cast-result : tie.Need-overflow-cast-result
 cast-result c = record { sfits = omega arith }

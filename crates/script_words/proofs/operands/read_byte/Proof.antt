@@ -1,6 +1,6 @@
 -- The word that is read is the definition's, and so is what it says.
 use borrow.Author.Rules.{rules}
-use Rattle.script_words.proofs.Reading.{byte-read}
+use Rattle.script_words.proofs.Reading.{byte_read}
 use Rattle.script_words.proofs.operands.read_byte.Statement.{statement}
 use Rattle.script_words.proofs.operands.read_byte.Tie as tie
 
@@ -30,14 +30,14 @@ returns c =
     let a = c.before.before.before.before.before.before.before.args in
     let w = c.before.before.before.before.before.word_at in
     let h = c.before.before.before.hex in
-    rw c.before.value.given.1 at (byte-read a.line.now a.from w.result.start w.result.end w.ensures.start w.ensures.end h.result h.ensures)
+    rw c.before.value.given.1 at (byte_read a.line.now a.from w.result.start w.result.end w.ensures.start w.ensures.end h.result h.ensures)
 
 returns-2 : tie.Need-returns-2
 returns-2 c =
     let a = c.before.before.before.before.before.before.args in
     let w = c.before.before.before.before.word_at in
     let h = c.before.before.hex in
-    rw c.enum_told.given.1 at (byte-read a.line.now a.from w.result.start w.result.end w.ensures.start w.ensures.end h.result h.ensures)
+    rw c.enum_told.given.1 at (byte_read a.line.now a.from w.result.start w.result.end w.ensures.start w.ensures.end h.result h.ensures)
 
 pub read-byte-spec : {M : Type 1} → statement M
 read-byte-spec =

@@ -8,7 +8,7 @@ use borrow.Author.Rules.{rules}
 use borrow.Author.Tests.{not-true, not-false}
 use lib.ListN.{length, get_or, drop, drop_of_length-le}
 use Rattle.script_words.specs.Words.{blank, spread}
-use Rattle.script_words.proofs.Spreads.{spread-goes, spread-stops}
+use Rattle.script_words.proofs.Spreads.{spread_goes, spread_stops}
 use Rattle.script_words.proofs.words.end_of.Statement.{statement}
 use Rattle.script_words.proofs.words.end_of.Tie as tie
 
@@ -34,7 +34,7 @@ returns c =
     let a = c.before.before.before.before.before.before.args in
     let other : beq (blank (get_or a.line.now l.i 0)) a.blanks ≡ false =
     rw (← c.before.is-blank.ensures) (not-true _ c.if1.true) in
-    (omega (arith, spread-stops a.blanks a.line.now l.i (search rules) other), search rules, search rules)
+    (omega (arith, spread_stops a.blanks a.line.now l.i (search rules) other), search rules, search rules)
 
 add-i : tie.Need-overflow-add-i invariant-loop decreases-loop
 add-i c = search rules
@@ -48,7 +48,7 @@ loop-again c =
     let a = c.before.before.before.before.before.before.args in
     let same : beq (blank (get_or a.line.now l.i 0)) a.blanks ≡ true =
     rw (← c.before.is-blank.ensures) (not-false _ c.if1.false) in
-    (search rules, search rules, omega (arith, spread-goes a.blanks a.line.now l.i (search rules) same))
+    (search rules, search rules, omega (arith, spread_goes a.blanks a.line.now l.i (search rules) same))
 
 returns-2 : tie.Need-returns-2 invariant-loop decreases-loop
 returns-2 c =

@@ -8,7 +8,7 @@ use native.Mathlib.Omega.{arith}
 use lib.ListN.{length, drop, drop_of_length-le}
 use lib.Seq.{drop-length}
 use borrow.Author.Rules.{rules}
-use Rattle.script_words.specs.Words.{spread, wordStart}
+use Rattle.script_words.specs.Words.{spread, word_start}
 use Rattle.script_words.proofs.words.word_at.Statement.{statement}
 use Rattle.script_words.proofs.words.word_at.Tie as tie
 
@@ -38,7 +38,7 @@ returns-2 : tie.Need-returns-2
 returns-2 c =
     let a = c.before.before.before.before.args in
     let within : a.from ≤ length a.line.now = omega arith in
-    let start : c.before.end_of_lem.result ≡ wordStart a.line.now a.from = rw min-eq_left c.before.end_of_lem.ensures.0 in
+    let start : c.before.end_of_lem.result ≡ word_start a.line.now a.from = rw min-eq_left c.before.end_of_lem.ensures.0 in
     record {
       behind = rw min-eq_left (omega arith);
       start = start;

@@ -8,12 +8,12 @@ use borrow.Author.Rules.{rules}
 use borrow.Author.Tests.{not-true, not-false, leb-true}
 use lib.ListN.{length}
 use Rattle.document.specs.Numbers.{done}
-use Rattle.document.specs.Areas.{memoryEnd, mayBeRead}
-use Rattle.document.specs.Values.{number, littleEndian}
-use Rattle.document.specs.Variables.{addressWidth}
-use Rattle.document.specs.Strings.{stringLength, stringEnds}
-use Rattle.line_wire.proofs.Writing.{told-as}
-use Rattle.serve_reads.proofs.Strings.{ends-within, ends-not, string-layout, string-outside, string-unended, string-told}
+use Rattle.document.specs.Areas.{memory_end, may_be_read}
+use Rattle.document.specs.Values.{number, little_endian}
+use Rattle.document.specs.Variables.{address_width}
+use Rattle.document.specs.Strings.{string_length, string_ends}
+use Rattle.line_wire.proofs.Writing.{told_as}
+use Rattle.serve_reads.proofs.Strings.{ends_within, ends_not, string_layout, string_outside, string_unended, string_told}
 use Rattle.serve_reads.proofs.measuring.measure_string.Statement.{statement}
 use Rattle.serve_reads.proofs.measuring.measure_string.Tie as tie
 
@@ -37,8 +37,8 @@ returns c =
     let w = t.before in
     let a = (begun w).args in
     λ g same.
-    told-as _ _
-    (string-layout g a.service a.body.now (λ e. t.if1.true (e ∙ sym w.address-width.ensures.0)))
+    told_as _ _
+    (string_layout g a.service a.body.now (λ e. t.if1.true (e ∙ sym w.address-width.ensures.0)))
     said.status-alone.ensures
 
 number-requires : tie.Need-number-requires
@@ -56,11 +56,11 @@ module _ (r : tie.After-may-be-read) where
   abbrev body : List ℕ
   body = asked.args.body.now
 
-  whole : length body ≡ addressWidth asked.args.service.ex
+  whole : length body ≡ address_width asked.args.service.ex
   whole = r.before.before.if1.left ∙ r.before.before.before.address-width.ensures.0
 
-  read_at : r.may-be-read.result ≡ mayBeRead (number body) 1
-  read_at = r.may-be-read.ensures ∙ ap (λ (k : ℕ). mayBeRead k 1) r.before.number.ensures.value
+  read_at : r.may-be-read.result ≡ may_be_read (number body) 1
+  read_at = r.may-be-read.ensures ∙ ap (λ (k : ℕ). may_be_read k 1) r.before.number.ensures.value
 
 status-alone-requires-2 : tie.Need-status-alone-requires-2
 status-alone-requires-2 c κs = search rules
@@ -74,8 +74,8 @@ returns-2 c =
     let t = said.before.before in
     let r = t.before in
     λ g same.
-    told-as _ _
-    (string-outside g (asked r).args.service (body r) (whole r) (sym (read_at r) ∙ not-true _ t.if2.true))
+    told_as _ _
+    (string_outside g (asked r).args.service (body r) (whole r) (sym (read_at r) ∙ not-true _ t.if2.true))
     said.status-alone2.ensures
 
 usize-of-u32-requires : tie.Need-usize-of-u32-requires
@@ -84,11 +84,11 @@ usize-of-u32-requires c κs = search rules
 -- ---- it is inside
 
 module _ (e : tie.Else2) where
-  inside : mayBeRead (number (body e.before)) 1 ≡ true
+  inside : may_be_read (number (body e.before)) 1 ≡ true
   inside = sym (read_at e.before) ∙ not-false _ e.if2.false
 
-  below : number (body e.before) + 1 ≤ memoryEnd
-  below = leb-true (number (body e.before) + 1) memoryEnd inside
+  below : number (body e.before) + 1 ≤ memory_end
+  below = leb-true (number (body e.before) + 1) memory_end inside
 
 string-length-requires : tie.Need-string-length-requires
 string-length-requires c κs =
@@ -105,10 +105,10 @@ module _ (l : tie.After-string-length) where
   from : l.before.usize-of-u32.result ≡ number (body looked.before)
   from = l.before.usize-of-u32.ensures.0 ∙ looked.before.before.number.ensures.value
 
-  measured : l.string-length.result ≡ stringLength memory (number (body looked.before))
-  measured = l.string-length.ensures.0 ∙ ap (stringLength memory) from
+  measured : l.string-length.result ≡ string_length memory (number (body looked.before))
+  measured = l.string-length.ensures.0 ∙ ap (string_length memory) from
 
-  within : number (body looked.before) + stringLength memory (number (body looked.before)) ≤ length memory
+  within : number (body looked.before) + string_length memory (number (body looked.before)) ≤ length memory
   within = omega (arith, l.string-length.ensures.1, from, measured)
 
 add-if3 : tie.Need-overflow-add-if3
@@ -128,9 +128,9 @@ returns-3 c =
     let e = looked l in
     let at = number (body e.before) in
     λ g same.
-    told-as _ _
-    (string-unended g (asked e.before).args.service (body e.before) (whole e.before) (inside e)
-    (ap (λ (m : List ℕ). stringEnds m at) same ∙ ends-not (memory l) at (omega (arith, t.if3.true, from l, measured l))))
+    told_as _ _
+    (string_unended g (asked e.before).args.service (body e.before) (whole e.before) (inside e)
+    (ap (λ (m : List ℕ). string_ends m at) same ∙ ends_not (memory l) at (omega (arith, t.if3.true, from l, measured l))))
     said.status-alone3.ensures
 
 cast-done-word : tie.Need-overflow-cast-done-word
@@ -149,12 +149,12 @@ returns-4 c =
     let l = f.before in
     let e = looked l in
     let at = number (body e.before) in
-    let size : l.string-length.result % 65536 ≡ stringLength (memory l) at = omega (arith, measured l, within l, (asked e.before).pre.0) in
+    let size : l.string-length.result % 65536 ≡ string_length (memory l) at = omega (arith, measured l, within l, (asked e.before).pre.0) in
     λ g same.
-    told-as _ _
-    (ap (λ (n : ℕ). record { status = done; body = littleEndian 2 n }) (size ∙ ap (λ (m : List ℕ). stringLength m at) (sym same))
-    ∙ string-told g (asked e.before).args.service (body e.before) (whole e.before) (inside e)
-    (ap (λ (m : List ℕ). stringEnds m at) same ∙ ends-within (memory l) at (omega (arith, within l)) (λ h. f.if3.false (omega (arith, h, from l, measured l))) (within l)))
+    told_as _ _
+    (ap (λ (n : ℕ). record { status = done; body = little_endian 2 n }) (size ∙ ap (λ (m : List ℕ). string_length m at) (sym same))
+    ∙ string_told g (asked e.before).args.service (body e.before) (whole e.before) (inside e)
+    (ap (λ (m : List ℕ). string_ends m at) same ∙ ends_within (memory l) at (omega (arith, within l)) (λ h. f.if3.false (omega (arith, h, from l, measured l))) (within l)))
     told.done-word.ensures
 
 pub measure-string-spec : {M : Type 1} → statement M

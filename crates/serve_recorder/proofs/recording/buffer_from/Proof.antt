@@ -4,10 +4,10 @@ use mathlib.Core.Bool.{Bool}
 use mathlib.Core.List.{◌++◌}
 use borrow.Author.Rules.{rules}
 use Rattle.document.specs.Numbers.{done}
-use Rattle.document.specs.Areas.{bufferBegin}
-use Rattle.document.specs.Values.{littleEndian}
-use Rattle.document.specs.Variables.{addressWidth}
-use Rattle.line_wire.proofs.Writing.{told-as}
+use Rattle.document.specs.Areas.{buffer_begin}
+use Rattle.document.specs.Values.{little_endian}
+use Rattle.document.specs.Variables.{address_width}
+use Rattle.line_wire.proofs.Writing.{told_as}
 use Rattle.serve_recorder.proofs.recording.buffer_from.Statement.{statement}
 use Rattle.serve_recorder.proofs.recording.buffer_from.Tie as tie
 
@@ -25,7 +25,7 @@ returns c =
     let told = c.before.before in
     let t = told.before.before in
     let index = t.before.before.args.index in
-    told-as _ _ (ap (λ (ex : Bool). record { status = done; body = littleEndian (addressWidth ex) bufferBegin ++ littleEndian 2 index }) (sym t.if1.true)) told.done-three-words.ensures
+    told_as _ _ (ap (λ (ex : Bool). record { status = done; body = little_endian (address_width ex) buffer_begin ++ little_endian 2 index }) (sym t.if1.true)) told.done-three-words.ensures
 
 cast-done-two-words : tie.Need-overflow-cast-done-two-words
 cast-done-two-words c = search rules
@@ -41,7 +41,7 @@ returns-2 c =
     let told = c.before.before in
     let e = told.before.before in
     let index = e.before.before.args.index in
-    told-as _ _ (ap (λ (ex : Bool). record { status = done; body = littleEndian (addressWidth ex) bufferBegin ++ littleEndian 2 index }) (sym e.if1.false)) told.done-two-words.ensures
+    told_as _ _ (ap (λ (ex : Bool). record { status = done; body = little_endian (address_width ex) buffer_begin ++ little_endian 2 index }) (sym e.if1.false)) told.done-two-words.ensures
 
 pub buffer-from-spec : {M : Type 1} → statement M
 buffer-from-spec =

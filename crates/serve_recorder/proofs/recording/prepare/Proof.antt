@@ -6,11 +6,11 @@ use Prim.Native.Nat.{ℕ}
 use borrow.Author.Tests.{ne_eqb}
 use borrow.Author.Rules.{rules}
 use Rattle.document.specs.Numbers.{done}
-use Rattle.document.specs.Recorder.{isRunning}
-use Rattle.recorder_state.specs.State.{recorderOf}
-use Rattle.recorder_state.specs.Preparing.{prepareStatus}
+use Rattle.document.specs.Recorder.{is_running}
+use Rattle.recorder_state.specs.State.{recorder_of}
+use Rattle.recorder_state.specs.Preparing.{prepare_status}
 use Rattle.recorder_state.proofs.Answers.{taken-body}
-use Rattle.state_block.specs.Layout.{dataTo, decodedRecorder}
+use Rattle.state_block.specs.Layout.{data_to, decoded_recorder}
 use Rattle.serve_recorder.proofs.recording.prepare.Statement.{statement}
 use Rattle.serve_recorder.proofs.recording.prepare.Tie as tie
 
@@ -42,15 +42,15 @@ module _ (d : tie.After-prepare-status) where
 
   -- the data of the message
   abbrev told : List ℕ
-  told = dataTo block begun.args.to
+  told = data_to block begun.args.to
 
   abbrev running : Bool
-  running = isRunning (recorderOf (decodedRecorder block))
+  running = is_running (recorder_of (decoded_recorder block))
 
-  status : d.prepare-status.result ≡ prepareStatus running begun.args.ex told
+  status : d.prepare-status.result ≡ prepare_status running begun.args.ex told
   status =
       d.prepare-status.ensures
-      ∙ ap (λ (b : Bool). prepareStatus b begun.args.ex told) looked.recorder-runs.ensures
+      ∙ ap (λ (b : Bool). prepare_status b begun.args.ex told) looked.recorder-runs.ensures
 
 same_length : tie.Need-same-length
 same_length c = search rules

@@ -11,18 +11,18 @@ use Rattle.document.specs.Bytes.{AllBytes}
 use Rattle.document.specs.Commands.{served}
 use Rattle.document.specs.declared.Service.{Service}
 use Rattle.document.specs.declared.Operation.TheVariants.{PrepareAndStart, Start}
-use Rattle.document.proofs.Bytes.{all-of-bytes}
+use Rattle.document.proofs.Bytes.{all_of_bytes}
 use Rattle.recorder_state.proofs.Answers.{both-taken, both-refused}
-use Rattle.document_outcomes.specs.Known.{knownAs}
-use Rattle.state_parts.specs.State.{gateOf, withRecorder}
-use Rattle.state_parts.proofs.ByteLaws.{all-range}
-use Rattle.state_byte.specs.After.{instrumentsAfter}
-use Rattle.state_block.specs.Places.{bodyPlace, scopePlace}
-use Rattle.state_block.specs.Layout.{dataTo, decodedRecorder, decodedInstruments, encodedInstruments}
-use Rattle.serve_recorder.specs.Operates.{statusAlone, Settles}
-use Rattle.serve_recorder.proofs.Statuses.{recorder-prepared}
+use Rattle.document_outcomes.specs.Known.{known_as}
+use Rattle.state_parts.specs.State.{gate_of, with_recorder}
+use Rattle.state_parts.proofs.ByteLaws.{all_range}
+use Rattle.state_byte.specs.After.{instruments_after}
+use Rattle.state_block.specs.Places.{body_place, scope_place}
+use Rattle.state_block.specs.Layout.{data_to, decoded_recorder, decoded_instruments, encoded_instruments}
+use Rattle.serve_recorder.specs.Operates.{status_alone, Settles}
+use Rattle.serve_recorder.proofs.Statuses.{recorder_prepared_lem}
 use Rattle.serve_recorder.proofs.Changing.{settles, same_block}
-use Rattle.serve_recorder.proofs.InARow.{between, started-done, started-stored}
+use Rattle.serve_recorder.proofs.InARow.{between, started_done, started_stored}
 use Rattle.serve_recorder.proofs.recording.prepare_and_start.Statement.{statement}
 use Rattle.serve_recorder.proofs.recording.prepare_and_start.Tie as tie
 
@@ -41,23 +41,23 @@ module _ (p : tie.After-prepare) where
 
   -- the data of the message
   abbrev told : List ℕ
-  told = dataTo block begun.args.to
+  told = data_to block begun.args.to
 
   small : (i : ℕ) → get_or block i 0 < 256
   small i = (p.before.before.slice-known.given i).fits
 
-  answer : (memory : List ℕ) → statusAlone p.prepare.result ≡ (served (gateOf (decodedInstruments block) memory) (knownAs PrepareAndStart service) told).answer
-  answer memory = ap statusAlone p.prepare.ensures.0 ∙ recorder-prepared (gateOf (decodedInstruments block) memory) service told
+  answer : (memory : List ℕ) → status_alone p.prepare.result ≡ (served (gate_of (decoded_instruments block) memory) (known_as PrepareAndStart service) told).answer
+  answer memory = ap status_alone p.prepare.ensures.0 ∙ recorder_prepared_lem (gate_of (decoded_instruments block) memory) service told
 
   all : AllBytes told
-  all = all-range block bodyPlace (begun.args.to - bodyPlace) (all-of-bytes block small)
+  all = all_range block body_place (begun.args.to - body_place) (all_of_bytes block small)
 
   -- refused, the block stays, and so does what is set up
-  kept : (p.prepare.result ≡ done → ⊥) → p.prepare.last.0 ≡ sets block scopePlace (encodedInstruments (instrumentsAfter PrepareAndStart (decodedInstruments block) service told))
+  kept : (p.prepare.result ≡ done → ⊥) → p.prepare.last.0 ≡ sets block scope_place (encoded_instruments (instruments_after PrepareAndStart (decoded_instruments block) service told))
   kept wrong =
       let stays : p.prepare.last.0 ≡ block = rw (ne_eqb p.prepare.result done wrong) at p.prepare.ensures.1 in
-      let same = sym (both-refused (decodedRecorder block) service.ex told (λ e. wrong (p.prepare.ensures.0 ∙ e))) in
-      stays ∙ same_block block begun.pre.0 small _ (λ i. withRecorder (decodedInstruments block) (same i))
+      let same = sym (both-refused (decoded_recorder block) service.ex told (λ e. wrong (p.prepare.ensures.0 ∙ e))) in
+      stays ∙ same_block block begun.pre.0 small _ (λ i. with_recorder (decoded_instruments block) (same i))
 
 same_length : tie.Need-same-length
 same_length c = search rules
@@ -83,15 +83,15 @@ returns-2 c =
     let ex = (service p).ex in
     let here : p.prepare.new.0 ≡ between (block p) s.pre.0 (small p) ex (told p) (all p) =
     rw (eq-eqb p.prepare.result done right.if1.false) at p.prepare.ensures.1 in
-    let next = sym (both-taken (decodedRecorder (block p)) ex (told p) (sym p.prepare.ensures.0 ∙ right.if1.false)) in
+    let next = sym (both-taken (decoded_recorder (block p)) ex (told p) (sym p.prepare.ensures.0 ∙ right.if1.false)) in
     λ memory.
     let did =
-    subst (λ (l : List ℕ). Settles (served (gateOf (decodedInstruments l) memory) (knownAs Start (service p)) []) (instrumentsAfter Start (decodedInstruments l) (service p) []) l st.start.result st.start.new.0 memory)
+    subst (λ (l : List ℕ). Settles (served (gate_of (decoded_instruments l) memory) (known_as Start (service p)) []) (instruments_after Start (decoded_instruments l) (service p) []) l st.start.result st.start.new.0 memory)
     here (st.start.ensures memory (service p) []) in
     settles PrepareAndStart refl (block p) memory (service p) (told p) st.start.result _
-    (started-done (block p) s.pre.0 (small p) ex (told p) (all p) memory (service p) [] st.start.result _ did ∙ ap statusAlone (sym right.if1.false) ∙ answer p memory)
-    (started-stored (block p) s.pre.0 (small p) ex (told p) (all p) memory (service p) [] st.start.result _ did
-    ∙ (λ i. sets (block p) scopePlace (encodedInstruments (withRecorder (decodedInstruments (block p)) (next i)))))
+    (started_done (block p) s.pre.0 (small p) ex (told p) (all p) memory (service p) [] st.start.result _ did ∙ ap status_alone (sym right.if1.false) ∙ answer p memory)
+    (started_stored (block p) s.pre.0 (small p) ex (told p) (all p) memory (service p) [] st.start.result _ did
+    ∙ (λ i. sets (block p) scope_place (encoded_instruments (with_recorder (decoded_instruments (block p)) (next i)))))
 
 pub prepare-and-start-spec : {M : Type 1} → statement M
 prepare-and-start-spec =

@@ -4,15 +4,15 @@ use borrow.Author.Rules.{rules}
 use lib.Seq.{sets}
 use Rattle.document.specs.declared.Operation.TheVariants.{Start}
 use Rattle.recorder_state.specs.declared.state.Recorder.{Recorder}
-use Rattle.recorder_state.specs.State.{recorderOf}
-use Rattle.recorder_state.specs.Calls.{startStatus, startedState}
-use Rattle.state_parts.specs.State.{gateOf, withRecorder}
-use Rattle.state_block.specs.Places.{scopePlace, runPlace}
-use Rattle.state_block.specs.Layout.{decodedRecorder, decodedInstruments, encodedRun, encodedInstruments}
-use Rattle.state_block.proofs.Stored.{run-stored}
-use Rattle.serve_recorder.specs.Operates.{statusAlone}
-use Rattle.serve_recorder.proofs.Statuses.{recorder-started}
-use Rattle.serve_recorder.proofs.Changing.{settles, started-run}
+use Rattle.recorder_state.specs.State.{recorder_of}
+use Rattle.recorder_state.specs.Calls.{start_status, started_state}
+use Rattle.state_parts.specs.State.{gate_of, with_recorder}
+use Rattle.state_block.specs.Places.{scope_place, run_place}
+use Rattle.state_block.specs.Layout.{decoded_recorder, decoded_instruments, encoded_run, encoded_instruments}
+use Rattle.state_block.proofs.Stored.{run_stored}
+use Rattle.serve_recorder.specs.Operates.{status_alone}
+use Rattle.serve_recorder.proofs.Statuses.{recorder_started_lem}
+use Rattle.serve_recorder.proofs.Changing.{settles, started_run}
 use Rattle.serve_recorder.proofs.recording.start.Statement.{statement}
 use Rattle.serve_recorder.proofs.recording.start.Tie as tie
 
@@ -36,16 +36,16 @@ returns c =
     let known = found.before.before in
     let block = known.before.args.state.now in
     let is = found.recorder-in.ensures in
-    let status = done.start.ensures.status ∙ ap (λ (q : Recorder). startStatus (recorderOf q)) is in
-    let next = done.start.ensures.next ∙ ap startedState is in
+    let status = done.start.ensures.status ∙ ap (λ (q : Recorder). start_status (recorder_of q)) is in
+    let next = done.start.ensures.next ∙ ap started_state is in
     let stored =
     put.put-run.ensures
-    ∙ (λ i. sets block runPlace (encodedRun (next i).run))
-    ∙ run-stored block known.before.requires (λ i. (known.slice-known.given i).fits) (startedState (decodedRecorder block)).run
-    ∙ (λ i. sets block scopePlace (encodedInstruments (withRecorder (decodedInstruments block) (started-run (decodedRecorder block) i)))) in
+    ∙ (λ i. sets block run_place (encoded_run (next i).run))
+    ∙ run_stored block known.before.requires (λ i. (known.slice-known.given i).fits) (started_state (decoded_recorder block)).run
+    ∙ (λ i. sets block scope_place (encoded_instruments (with_recorder (decoded_instruments block) (started_run (decoded_recorder block) i)))) in
     λ memory s body.
     settles Start refl block memory s body done.start.result.status _
-    (ap statusAlone status ∙ recorder-started (gateOf (decodedInstruments block) memory) s body) stored
+    (ap status_alone status ∙ recorder_started_lem (gate_of (decoded_instruments block) memory) s body) stored
 
 pub start_spec : {M : Type 1} → statement M
 start_spec =

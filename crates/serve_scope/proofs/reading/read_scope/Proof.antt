@@ -5,19 +5,19 @@ use Prim.Native.Nat.{ℕ, ◌≤◌}
 use native.Mathlib.Omega.{arith}
 use borrow.Author.Rules.{rules}
 use lib.ListN.{length}
-use Rattle.document.specs.Areas.{memoryEnd}
+use Rattle.document.specs.Areas.{memory_end}
 use Rattle.document.specs.Numbers.{done}
-use Rattle.document.specs.Sum.{sumByteOf}
+use Rattle.document.specs.Sum.{sum_byte_of}
 use Rattle.document.specs.Variables.{values_of}
 use Rattle.line_wire.specs.Told.{Telling}
-use Rattle.line_wire.proofs.Writing.{put-append, telling-room, told-in-parts, told-as}
-use Rattle.variables_list.specs.State.{variablesOf}
+use Rattle.line_wire.proofs.Writing.{put_append, telling_room, told_in_parts, told_as}
+use Rattle.variables_list.specs.State.{variables_of}
 use Rattle.variables_list.proofs.Values.{values_length}
-use Rattle.scope_state.specs.Read.{readStatus}
-use Rattle.scope_state.proofs.Given.{no_bytes, all-bytes}
-use Rattle.state_block.specs.Layout.{decodedScope, decodedInstruments}
-use Rattle.serve_scope.proofs.Statuses.{scope-read, some, short}
-use Rattle.serve_scope.proofs.Walked.{all-may}
+use Rattle.scope_state.specs.Read.{read_status}
+use Rattle.scope_state.proofs.Given.{no_bytes, all_bytes}
+use Rattle.state_block.specs.Layout.{decoded_scope, decoded_instruments}
+use Rattle.serve_scope.proofs.Statuses.{scope_read_lem, some, short}
+use Rattle.serve_scope.proofs.Walked.{all_may_lem}
 use Rattle.serve_scope.proofs.reading.read_scope.Statement.{statement}
 use Rattle.serve_scope.proofs.reading.read_scope.Tie as tie
 
@@ -41,11 +41,11 @@ returns c =
     let r = t.before in
     let block = (asked r).args.state.now in
     let memory = (asked r).args.memory.now in
-    let wrong : readStatus (decodedScope block) ≡ done → ⊥ = λ e. t.if1.true (r.read-status.ensures ∙ e) in
+    let wrong : read_status (decoded_scope block) ≡ done → ⊥ = λ e. t.if1.true (r.read-status.ensures ∙ e) in
     λ s body.
-    told-as _ _
-    ((λ i. record { status = r.read-status.ensures i; body = sym (no_bytes (decodedScope block) memory wrong) i })
-    ∙ scope-read (decodedInstruments block) memory s body)
+    told_as _ _
+    ((λ i. record { status = r.read-status.ensures i; body = sym (no_bytes (decoded_scope block) memory wrong) i })
+    ∙ scope_read_lem (decoded_instruments block) memory s body)
     told.status-alone.ensures
 
 begin-requires : tie.Need-begin-requires
@@ -60,17 +60,17 @@ module _ (e : tie.Else1) where
   block = start.args.state.now
 
   abbrev values : List ℕ
-  values = values_of start.args.memory.now (variablesOf (decodedScope block).variables)
+  values = values_of start.args.memory.now (variables_of (decoded_scope block).variables)
 
-  given : readStatus (decodedScope block) ≡ done
+  given : read_status (decoded_scope block) ≡ done
   given = sym e.before.read-status.ensures ∙ e.if1.left
 
   fits : length values ≤ 64
   fits =
       omega (
         arith,
-        values_length start.args.memory.now memoryEnd (variablesOf (decodedScope block).variables) (all-may block start.pre.1) (omega (arith, start.pre.2)),
-        short (decodedScope block) given,
+        values_length start.args.memory.now memory_end (variables_of (decoded_scope block).variables) (all_may_lem block start.pre.1) (omega (arith, start.pre.2)),
+        short (decoded_scope block) given,
       )
 
 put-values-requires : tie.Need-put-values-requires
@@ -78,7 +78,7 @@ put-values-requires c κs =
     let b = c.before.before.before in
     let e = b.before.before in
     let s = start e in
-    (s.pre.0, s.pre.1, s.pre.2, telling-room done [] s.args.out.now b.begin.result _ b.begin.ensures s.pre.3 (values e) (omega (arith, fits e)))
+    (s.pre.0, s.pre.1, s.pre.2, telling_room done [] s.args.out.now b.begin.result _ b.begin.ensures s.pre.3 (values e) (omega (arith, fits e)))
 
 -- ---- they are put
 module _ (p : tie.After-put-values) where
@@ -89,13 +89,13 @@ module _ (p : tie.After-put-values) where
   right = begun.before.before
 
   telling : Telling done (values right) (start right).args.out.now p.put-values.result p.put-values.last.1.1.1.0
-  telling = put-append _ _ _ [] (values right) _ _ _ begun.begin.ensures p.put-values.ensures
+  telling = put_append _ _ _ [] (values right) _ _ _ begun.begin.ensures p.put-values.ensures
 
 put-sum-requires : tie.Need-put-sum-requires
 put-sum-requires c κs =
     let p = c.before.before.before in
     let s = start (right p) in
-    telling-room done (values (right p)) s.args.out.now p.put-values.result _ (telling p) s.pre.3 (sumByteOf (p.put-values.result.sum ∷ []) ∷ []) (omega (arith, fits (right p)))
+    telling_room done (values (right p)) s.args.out.now p.put-values.result _ (telling p) s.pre.3 (sum_byte_of (p.put-values.result.sum ∷ []) ∷ []) (omega (arith, fits (right p)))
 
 same-length-2 : tie.Need-same-length-2
 same-length-2 c = search rules
@@ -107,10 +107,10 @@ returns-2 c =
     let e = right p in
     let memory = (start e).args.memory.now in
     λ s body.
-    told-as _ _
-    ((λ i. record { status = sym (given e) i; body = sym (all-bytes (decodedScope (block e)) memory (some (decodedScope (block e)) (given e)) (given e)) i })
-    ∙ scope-read (decodedInstruments (block e)) memory s body)
-    (told-in-parts done (values e) (start e).args.out.now p.put-values.result _ (telling p) q.put-sum.result _ q.put-sum.ensures)
+    told_as _ _
+    ((λ i. record { status = sym (given e) i; body = sym (all_bytes (decoded_scope (block e)) memory (some (decoded_scope (block e)) (given e)) (given e)) i })
+    ∙ scope_read_lem (decoded_instruments (block e)) memory s body)
+    (told_in_parts done (values e) (start e).args.out.now p.put-values.result _ (telling p) q.put-sum.result _ q.put-sum.ensures)
 
 pub read-scope-spec : {M : Type 1} → statement M
 read-scope-spec =

@@ -2,7 +2,7 @@
 use mathlib.Core.Path.{sym, ◌∙◌}
 use lib.ListN.{get_or}
 use borrow.Author.Rules.{rules}
-use Rattle.bytes_fields.proofs.Definitions.{definition-here}
+use Rattle.bytes_fields.proofs.Definitions.{definition_here}
 use Rattle.state_block.proofs.reading.definition_at.Statement.{statement}
 use Rattle.state_block.proofs.reading.definition_at.Tie as tie
 
@@ -18,7 +18,7 @@ shared-slice-read-t6 c = search rules
 returns : tie.Need-returns
 returns c =
     let args = c.before.before.before.args in
-    let a = args in (λ i. record { address = c.before.long-at.ensures i; size = get_or a.block.now a.at 0 }) ∙ sym (definition-here a.block.now a.at)
+    let a = args in (λ i. record { address = c.before.long-at.ensures i; size = get_or a.block.now a.at 0 }) ∙ sym (definition_here a.block.now a.at)
 
 pub definition-at-spec : {M : Type 1} → statement M
 definition-at-spec = tie.close (tie.spec add-long-at long-at-requires shared-slice-read-t6 returns)

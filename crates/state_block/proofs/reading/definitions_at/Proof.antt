@@ -6,20 +6,20 @@ use native.Mathlib.Omega.{arith}
 use lib.Seq.{sets}
 use lib.ListN.{length, drop, length-set}
 use borrow.Author.Rules.{rules}
-use Rattle.document.specs.Variables.{definitionsIn}
-use Rattle.state_block.specs.Layout.{decodedDefinitions}
-use Rattle.state_block.proofs.Definitions.{definitions-read}
+use Rattle.document.specs.Variables.{definitions_in}
+use Rattle.state_block.specs.Layout.{decoded_definitions}
+use Rattle.state_block.proofs.Definitions.{definitions_read}
 use Rattle.state_block.proofs.reading.definitions_at.Statement.{statement}
 use Rattle.state_block.proofs.reading.definitions_at.Tie as tie
 
 abbrev invariant-loop : tie.invariant-loop
-invariant-loop block from list₀ at₀ k₀ list at k = (k ≤ 8) × (length list ≡ 8) × (at ≡ from + 5 * k) × (sets list k (definitionsIn true (8 - k) (drop at block)) ≡ decodedDefinitions block from)
+invariant-loop block from list₀ at₀ k₀ list at k = (k ≤ 8) × (length list ≡ 8) × (at ≡ from + 5 * k) × (sets list k (definitions_in true (8 - k) (drop at block)) ≡ decoded_definitions block from)
 
 abbrev decreases-loop : tie.decreases-loop
 decreases-loop block from list₀ at₀ k₀ list at k = 8 - k
 
 loop-holds : tie.Need-loop-init invariant-loop decreases-loop
-unfolding decodedDefinitions
+unfolding decoded_definitions
 loop-holds c = (search rules, refl, omega arith, refl)
 
 definition-at-requires : tie.Need-definition-at-requires invariant-loop decreases-loop
@@ -43,7 +43,7 @@ loop-less c = search rules
 loop-again : tie.Need-loop-preserved invariant-loop decreases-loop
 loop-again c =
     let args = c.before.before.before.before.args in
-    let l = c.before.before.loop in (omega arith, simp length-set (omega arith), omega arith, definitions-read args.block.now l.at l.k l.list c.definition-at.result (omega arith) c.definition-at.ensures ∙ l.invariant.3)
+    let l = c.before.before.loop in (omega arith, simp length-set (omega arith), omega arith, definitions_read args.block.now l.at l.k l.list c.definition-at.result (omega arith) c.definition-at.ensures ∙ l.invariant.3)
 
 returns : tie.Need-returns invariant-loop decreases-loop
 returns c = let z : 8 - c.before.loop.k ≡ 0 = omega arith in rw z at c.before.loop.invariant.3

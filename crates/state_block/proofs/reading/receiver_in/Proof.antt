@@ -1,7 +1,7 @@
 -- Each field as it was read.
 use mathlib.Core.Path.{refl}
 use borrow.Author.Rules.{rules}
-use Rattle.state_block.specs.Layout.{decodedReceiver}
+use Rattle.state_block.specs.Layout.{decoded_receiver}
 use Rattle.state_block.proofs.reading.receiver_in.Statement.{statement}
 use Rattle.state_block.proofs.reading.receiver_in.Tie as tie
 
@@ -24,7 +24,7 @@ shared-slice-read-t13 : tie.Need-shared-slice-read-t13
 shared-slice-read-t13 c = search rules
 
 returns : tie.Need-returns
-unfolding decodedReceiver
+unfolding decoded_receiver
 returns c = refl
 
 pub receiver-in-spec : {M : Type 1} → statement M

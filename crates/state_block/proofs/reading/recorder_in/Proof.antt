@@ -1,8 +1,8 @@
 -- The flag, the plan and the run, each as it was read.
 use lib.ListN.{get_or}
 use borrow.Author.Rules.{rules}
-use Rattle.state_block.specs.Layout.{decodedRecorder}
-use Rattle.state_block.specs.Places.{recorderPlace}
+use Rattle.state_block.specs.Layout.{decoded_recorder}
+use Rattle.state_block.specs.Places.{recorder_place}
 use Rattle.state_block.proofs.reading.recorder_in.Statement.{statement}
 use Rattle.state_block.proofs.reading.recorder_in.Tie as tie
 
@@ -16,10 +16,10 @@ shared-slice-read-t5 : tie.Need-shared-slice-read-t5
 shared-slice-read-t5 c = search rules
 
 returns : tie.Need-returns
-unfolding decodedRecorder
+unfolding decoded_recorder
 returns c =
     let args = c.before.before.before.before.args in
-    λ i. record { ready = get_or args.block.now recorderPlace 0; plan = c.before.before.plan-in.ensures i; run = c.before.run_in.ensures i }
+    λ i. record { ready = get_or args.block.now recorder_place 0; plan = c.before.before.plan-in.ensures i; run = c.before.run_in.ensures i }
 
 pub recorder-in-spec : {M : Type 1} → statement M
 recorder-in-spec =

@@ -1,7 +1,7 @@
 -- Each field as it was read.
 use lib.ListN.{get_or}
 use borrow.Author.Rules.{rules}
-use Rattle.state_block.specs.Places.{runPlace, fullPlace, watchPlace}
+use Rattle.state_block.specs.Places.{run_place, full_place, watch_place}
 use Rattle.state_block.proofs.reading.run_in.Statement.{statement}
 use Rattle.state_block.proofs.reading.run_in.Tie as tie
 
@@ -26,7 +26,7 @@ long-at-requires c κs = search rules
 returns : tie.Need-returns
 returns c =
     let args = c.before.before.before.before.before.before.before.args in
-    let l = args.block.now in λ i. record { running = get_or l runPlace 0; full = get_or l fullPlace 0; watch = get_or l watchPlace 0; wait = c.before.before.word_at.ensures i; place = c.before.word-at2.ensures i; value = c.long-at.ensures i }
+    let l = args.block.now in λ i. record { running = get_or l run_place 0; full = get_or l full_place 0; watch = get_or l watch_place 0; wait = c.before.before.word_at.ensures i; place = c.before.word-at2.ensures i; value = c.long-at.ensures i }
 
 pub run-in-spec : {M : Type 1} → statement M
 run-in-spec =

@@ -1,7 +1,7 @@
 -- Stores that meet are one store.
 use mathlib.Core.Path.{refl}
 use borrow.Author.Rules.{rules}
-use Rattle.state_block.specs.Layout.{encodedRun}
+use Rattle.state_block.specs.Layout.{encoded_run}
 use Rattle.state_block.proofs.writing.put_run.Statement.{statement}
 use Rattle.state_block.proofs.writing.put_run.Tie as tie
 
@@ -15,7 +15,7 @@ same_length : tie.Need-same-length
 same_length c = search rules
 
 returns : tie.Need-returns
-unfolding encodedRun
+unfolding encoded_run
 returns c =
     let two = c.before.before in
     let one = two.before.before.before.before in

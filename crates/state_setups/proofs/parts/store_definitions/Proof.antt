@@ -7,17 +7,17 @@ use native.Mathlib.Omega.{arith}
 use lib.ListN.{length, get_or, take, drop}
 use lib.Seq.{sets}
 use borrow.Author.Rules.{rules}
-use Rattle.document.specs.Values.{littleEndian}
-use Rattle.document.specs.Variables.{definitionWidth, definitionsIn}
-use Rattle.state_block.specs.Layout.{encodedDefinitions}
-use Rattle.memory_ranges.proofs.Stored.{byte-agree}
+use Rattle.document.specs.Values.{little_endian}
+use Rattle.document.specs.Variables.{definition_width, definitions_in}
+use Rattle.state_block.specs.Layout.{encoded_definitions}
+use Rattle.memory_ranges.proofs.Stored.{byte_agree}
 use Rattle.state_setups.proofs.Fronts.{number_same}
-use Rattle.state_setups.proofs.Turns.{left_one, front_same, definition-stored}
+use Rattle.state_setups.proofs.Turns.{left_one, front_same, definition_stored}
 use Rattle.state_setups.proofs.parts.store_definitions.Statement.{statement}
 use Rattle.state_setups.proofs.parts.store_definitions.Tie as tie
 
 abbrev invariant-loop : tie.invariant-loop
-invariant-loop block₀ at from n ex width read₀ write₀ k₀ block read write k = (k ≤ n) × (length block ≡ length block₀) × (read + (n - k) * definitionWidth ex ≤ at) × (at ≤ write) × (write + (n - k) * 5 ≤ length block₀) × (take at block ≡ take at block₀) × (sets block write (encodedDefinitions (definitionsIn ex (n - k) (drop read block₀))) ≡ sets block₀ at (encodedDefinitions (definitionsIn ex n (drop from block₀))))
+invariant-loop block₀ at from n ex width read₀ write₀ k₀ block read write k = (k ≤ n) × (length block ≡ length block₀) × (read + (n - k) * definition_width ex ≤ at) × (at ≤ write) × (write + (n - k) * 5 ≤ length block₀) × (take at block ≡ take at block₀) × (sets block write (encoded_definitions (definitions_in ex (n - k) (drop read block₀))) ≡ sets block₀ at (encoded_definitions (definitions_in ex n (drop from block₀))))
 
 abbrev decreases-loop : tie.decreases-loop
 decreases-loop block₀ at from n ex width read₀ write₀ k₀ block read write k = n - k
@@ -67,20 +67,20 @@ loop-again c =
     let a = turn.before.before.before.before.args in
     let source = a.block.now in
     let left = turn.loop-test.true in
-    let one = left_one a.n l.k (definitionWidth a.ex) left in
+    let one = left_one a.n l.k (definition_width a.ex) left in
     let five = left_one a.n l.k 5 left in
     let wide = width.ensures.0 in
     let same = l.invariant.5 in
-    let sized = byte-agree l.block source a.at l.read same (omega (arith, one, l.invariant.2)) in
+    let sized = byte_agree l.block source a.at l.read same (omega (arith, one, l.invariant.2)) in
     let addressed = number_same l.block source a.at same (l.read + 1) width.result (omega (arith, one, wide, l.invariant.2)) in (
       omega arith,
       put.put-definition.auto.0 ∙ l.invariant.1,
       omega (arith, one, wide, l.invariant.2),
       omega (arith, l.invariant.3),
       omega (arith, five, l.invariant.4),
-      ap (take a.at) put.put-definition.ensures ∙ front_same source l.block a.at l.write (get_or l.block l.read 0 ∷ littleEndian 4 read.number_at.result) same l.invariant.3,
-      ap (λ (b : List ℕ). sets b (l.write + 5) (encodedDefinitions (definitionsIn a.ex (a.n - (l.k + 1)) (drop (l.read + (1 + width.result)) source)))) put.put-definition.ensures
-          ∙ definition-stored a.ex source l.block l.read l.write a.n l.k width.result _ _ left wide sized (read.number_at.ensures.value ∙ addressed)
+      ap (take a.at) put.put-definition.ensures ∙ front_same source l.block a.at l.write (get_or l.block l.read 0 ∷ little_endian 4 read.number_at.result) same l.invariant.3,
+      ap (λ (b : List ℕ). sets b (l.write + 5) (encoded_definitions (definitions_in a.ex (a.n - (l.k + 1)) (drop (l.read + (1 + width.result)) source)))) put.put-definition.ensures
+          ∙ definition_stored a.ex source l.block l.read l.write a.n l.k width.result _ _ left wide sized (read.number_at.ensures.value ∙ addressed)
           ∙ l.invariant.6,
     )
 

@@ -7,9 +7,9 @@ use native.Mathlib.Omega.{arith}
 use lib.ListN.{get_or, set, drop, replicate}
 use lib.Seq.{sets, get_or-drop, drop-drop}
 use borrow.Author.Rules.{rules}
-use Rattle.document.specs.Variables.{definitionWidth, definitionsIn, countIn}
-use Rattle.state_block.specs.Layout.{encodedDefinitions}
-use Rattle.state_setups.proofs.Padded.{part-stored}
+use Rattle.document.specs.Variables.{definition_width, definitions_in, count_in}
+use Rattle.state_block.specs.Layout.{encoded_definitions}
+use Rattle.state_setups.proofs.Padded.{part_stored}
 use Rattle.state_setups.proofs.parts.store_variables.Statement.{statement}
 use Rattle.state_setups.proofs.parts.store_variables.Tie as tie
 
@@ -24,14 +24,14 @@ module _ (u : tie.After-usize-of-u8) where
   abbrev count : ℕ
   count = get_or block begun.args.from 0
 
-  counted : count ≡ countIn (drop begun.args.from block)
+  counted : count ≡ count_in (drop begun.args.from block)
   counted = sym (get_or-drop begun.args.from block 0 0 ∙ ap (λ (k : ℕ). get_or block k 0) (add-zero begun.args.from))
 
   few : count ≤ 8
   few = omega (arith, counted, begun.pre.0)
 
-  fits : begun.args.from + 1 + count * definitionWidth begun.args.ex ≤ begun.args.at + 1
-  fits = omega (arith, ap (λ (k : ℕ). k * definitionWidth begun.args.ex) counted, begun.pre.1)
+  fits : begun.args.from + 1 + count * definition_width begun.args.ex ≤ begun.args.at + 1
+  fits = omega (arith, ap (λ (k : ℕ). k * definition_width begun.args.ex) counted, begun.pre.1)
 
 slice-read-count : tie.Need-slice-read-count
 slice-read-count c = search rules
@@ -49,7 +49,7 @@ store-definitions-requires : tie.Need-store-definitions-requires
 store-definitions-requires c κs =
     let u = c.before in
     let n = u.usize-of-u8.ensures.0 in
-    (omega (arith, ap (λ (k : ℕ). k * definitionWidth (begun u).args.ex) n, fits u), omega (arith, n, few u, (begun u).requires.2))
+    (omega (arith, ap (λ (k : ℕ). k * definition_width (begun u).args.ex) n, fits u), omega (arith, n, few u, (begun u).requires.2))
 
 complete-definitions-requires : tie.Need-complete-definitions-requires
 complete-definitions-requires c κs =
@@ -70,8 +70,8 @@ returns c =
     let n : ℕ = count u in
     enclosed.complete-definitions.ensures
     ∙ (λ i. sets (set (stored.store-definitions.ensures i) a.at n) (a.at + 1 + n * 5) (replicate ((8 - n) * 5) 0))
-    ∙ (λ i. sets (set (sets source (a.at + 1) (encodedDefinitions (definitionsIn a.ex (u.usize-of-u8.ensures.0 i) (sym (drop-drop 1 a.from source) i)))) a.at n) (a.at + 1 + n * 5) (replicate ((8 - n) * 5) 0))
-    ∙ part-stored a.ex source (drop a.from source) a.at n (counted u) (few u)
+    ∙ (λ i. sets (set (sets source (a.at + 1) (encoded_definitions (definitions_in a.ex (u.usize-of-u8.ensures.0 i) (sym (drop-drop 1 a.from source) i)))) a.at n) (a.at + 1 + n * 5) (replicate ((8 - n) * 5) 0))
+    ∙ part_stored a.ex source (drop a.from source) a.at n (counted u) (few u)
 
 pub store-variables-spec : {M : Type 1} → statement M
 store-variables-spec =

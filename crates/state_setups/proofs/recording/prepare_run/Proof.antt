@@ -3,8 +3,8 @@ use mathlib.Core.Path.{ap, ◌∙◌}
 use lib.Seq.{sets}
 use borrow.Author.Rules.{rules}
 use Rattle.recorder_runs.specs.declared.run.Run.{Run}
-use Rattle.state_block.specs.Layout.{encodedRun}
-use Rattle.state_block.specs.Places.{runPlace}
+use Rattle.state_block.specs.Layout.{encoded_run}
+use Rattle.state_block.specs.Places.{run_place}
 use Rattle.state_setups.proofs.recording.prepare_run.Statement.{statement}
 use Rattle.state_setups.proofs.recording.prepare_run.Tie as tie
 
@@ -25,7 +25,7 @@ returns c =
     let put = c.before.before in
     let p = put.before.before in
     put.put-run.ensures
-    ∙ ap (λ (r : Run). sets p.before.before.before.before.args.block.now runPlace (encodedRun r)) p.prepared.ensures
+    ∙ ap (λ (r : Run). sets p.before.before.before.before.args.block.now run_place (encoded_run r)) p.prepared.ensures
 
 pub prepare-run-spec : {M : Type 1} → statement M
 prepare-run-spec =

@@ -8,19 +8,19 @@ use lib.ListN.{length, set, take, drop}
 use lib.Seq.{sets, take-set-le}
 use borrow.Author.Rules.{rules}
 use Rattle.document.specs.declared.Variable.{Variable}
-use Rattle.document.specs.Plan.{headWidth, variablesPart, recordedIn}
-use Rattle.document.specs.Variables.{countIn, lengthGiven}
+use Rattle.document.specs.Plan.{head_width, variables_part, recorded_in}
+use Rattle.document.specs.Variables.{count_in, length_given}
 use Rattle.variables_list.specs.State.{kept}
-use Rattle.variables_list.proofs.Wrong.{count-right}
+use Rattle.variables_list.proofs.Wrong.{count_right}
 use Rattle.recorder_plans.specs.declared.plan.Plan.{Plan}
 use Rattle.recorder_setups.proofs.SetUps.{Accepted, accepted}
-use Rattle.recorder_state.specs.Preparing.{preparedState}
-use Rattle.memory_ranges.proofs.Stored.{take-sets}
-use Rattle.state_block.specs.Layout.{dataTo, encodedNumbers, encodedVariables, encodedRun}
-use Rattle.state_block.specs.Places.{bodyPlace, scopePlace, recorderPlace, planPlace, recordedPlace, runPlace}
-use Rattle.state_setups.proofs.Fronts.{count_same, length-same, variables-same}
-use Rattle.state_setups.proofs.Places.{data-short, part-front}
-use Rattle.state_setups.proofs.Joined.{prepared-put}
+use Rattle.recorder_state.specs.Preparing.{prepared_state}
+use Rattle.memory_ranges.proofs.Stored.{take_sets}
+use Rattle.state_block.specs.Layout.{data_to, encoded_numbers, encoded_variables, encoded_run}
+use Rattle.state_block.specs.Places.{body_place, scope_place, recorder_place, plan_place, recorded_place, run_place}
+use Rattle.state_setups.proofs.Fronts.{count_same, length_same, variables_same}
+use Rattle.state_setups.proofs.Places.{data_short, part_front}
+use Rattle.state_setups.proofs.Joined.{prepared_put}
 use Rattle.state_setups.proofs.recording.store_prepared.Statement.{statement}
 use Rattle.state_setups.proofs.recording.store_prepared.Tie as tie
 
@@ -30,16 +30,16 @@ module _ (s : tie.Start) where
 
   -- the data of the message
   abbrev told : List ℕ
-  told = dataTo block s.args.to
+  told = data_to block s.args.to
 
   facts : Accepted s.args.ex told
   facts = accepted s.args.ex told s.pre.3
 
-  few : countIn (variablesPart s.args.ex told) ≤ 8
-  few = (count-right (countIn (variablesPart s.args.ex told)) facts.count).1
+  few : count_in (variables_part s.args.ex told) ≤ 8
+  few = (count_right (count_in (variables_part s.args.ex told)) facts.count).1
 
-  long : headWidth s.args.ex + lengthGiven s.args.ex (variablesPart s.args.ex told) ≤ s.args.to - bodyPlace
-  long = omega (arith, facts.right, data-short block s.args.to)
+  long : head_width s.args.ex + length_given s.args.ex (variables_part s.args.ex told) ≤ s.args.to - body_place
+  long = omega (arith, facts.right, data_short block s.args.to)
 
 sub-read-plan : tie.Need-overflow-sub-read-plan
 sub-read-plan c = search rules
@@ -74,30 +74,30 @@ module _ (n : tie.After-store-numbers) where
   begun = read.before.before.before.before
 
   abbrev from : ℕ
-  from = bodyPlace + head.head-width.result
+  from = body_place + head.head-width.result
 
   abbrev ex : Bool
   ex = begun.args.ex
 
-  place : from ≡ bodyPlace + headWidth ex
+  place : from ≡ body_place + head_width ex
   place = omega (arith, head.head-width.ensures.0)
 
-  numbered : n.store-numbers.last.0 ≡ sets (set (block begun) recorderPlace 1) planPlace (encodedNumbers read.read-plan.result)
+  numbered : n.store-numbers.last.0 ≡ sets (set (block begun) recorder_place 1) plan_place (encoded_numbers read.read-plan.result)
   numbered = n.store-numbers.ensures
 
   lasting : length n.store-numbers.last.0 ≡ length (block begun)
   lasting = n.store-numbers.kept.0
 
-  front : take scopePlace n.store-numbers.last.0 ≡ take scopePlace (block begun)
+  front : take scope_place n.store-numbers.last.0 ≡ take scope_place (block begun)
   front =
-      ap (take scopePlace) numbered
-      ∙ take-sets (encodedNumbers read.read-plan.result) (set (block begun) recorderPlace 1) planPlace scopePlace (omega arith)
-      ∙ take-set-le scopePlace (block begun) recorderPlace 1 (omega arith)
+      ap (take scope_place) numbered
+      ∙ take_sets (encoded_numbers read.read-plan.result) (set (block begun) recorder_place 1) plan_place scope_place (omega arith)
+      ∙ take-set-le scope_place (block begun) recorder_place 1 (omega arith)
 
-  same : take (begun.args.to - from) (drop from n.store-numbers.last.0) ≡ take (begun.args.to - from) (variablesPart ex (told begun))
-  same = part-front (block begun) begun.args.to ex n.store-numbers.last.0 from front begun.pre.2 place (omega (arith, long begun, begun.pre.1, place))
+  same : take (begun.args.to - from) (drop from n.store-numbers.last.0) ≡ take (begun.args.to - from) (variables_part ex (told begun))
+  same = part_front (block begun) begun.args.to ex n.store-numbers.last.0 from front begun.pre.2 place (omega (arith, long begun, begun.pre.1, place))
 
-  inside : lengthGiven ex (variablesPart ex (told begun)) ≤ begun.args.to - from
+  inside : length_given ex (variables_part ex (told begun)) ≤ begun.args.to - from
   inside = omega (arith, long begun, place)
 
 store-variables-requires : tie.Need-store-variables-requires
@@ -105,9 +105,9 @@ store-variables-requires c κs =
     let n = c.before.before.before in
     let s = begun n in
     let l = drop (from n) n.store-numbers.new.0 in
-    let part = variablesPart (ex n) (told s) in (
+    let part = variables_part (ex n) (told s) in (
       omega (arith, count_same (ex n) l part (s.args.to - from n) (same n) (inside n), few s),
-      omega (arith, length-same (ex n) l part (s.args.to - from n) (same n) (inside n), s.pre.2, place n, long s),
+      omega (arith, length_same (ex n) l part (s.args.to - from n) (same n) (inside n), s.pre.2, place n, long s),
       omega (arith, lasting n, s.pre.0),
     )
 
@@ -124,14 +124,14 @@ returns c =
     let n = stored.before.before.before.before in
     let s = begun n in
     run.prepare-run.ensures
-    ∙ ap (λ (l : List ℕ). sets l runPlace (encodedRun (preparedState (ex n) (told s)).run))
+    ∙ ap (λ (l : List ℕ). sets l run_place (encoded_run (prepared_state (ex n) (told s)).run))
     (stored.store-variables.ensures
-    ∙ ap (λ (q : List Variable). sets n.store-numbers.new.0 recordedPlace (encodedVariables (kept q)))
-    (variables-same (ex n) (drop (from n) n.store-numbers.new.0) (variablesPart (ex n) (told s)) (s.args.to - from n) (same n) (inside n))
-    ∙ ap (λ (l : List ℕ). sets l recordedPlace (encodedVariables (kept (recordedIn (ex n) (told s)))))
+    ∙ ap (λ (q : List Variable). sets n.store-numbers.new.0 recorded_place (encoded_variables (kept q)))
+    (variables_same (ex n) (drop (from n) n.store-numbers.new.0) (variables_part (ex n) (told s)) (s.args.to - from n) (same n) (inside n))
+    ∙ ap (λ (l : List ℕ). sets l recorded_place (encoded_variables (kept (recorded_in (ex n) (told s)))))
     (numbered n
-    ∙ ap (λ (p : Plan). sets (set (block s) recorderPlace 1) planPlace (encodedNumbers p)) (read n).read-plan.ensures.0))
-    ∙ prepared-put (block s) s.pre.0 (λ i. ((read n).before.before.before.slice-known.given i).fits) (ex n) (told s)
+    ∙ ap (λ (p : Plan). sets (set (block s) recorder_place 1) plan_place (encoded_numbers p)) (read n).read-plan.ensures.0))
+    ∙ prepared_put (block s) s.pre.0 (λ i. ((read n).before.before.before.slice-known.given i).fits) (ex n) (told s)
 
 pub store-prepared-spec : {M : Type 1} → statement M
 store-prepared-spec =

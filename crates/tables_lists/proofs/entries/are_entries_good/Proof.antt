@@ -3,15 +3,15 @@ use mathlib.Core.Path.{◌≡◌, refl, sym, ◌∙◌}
 use Prim.Native.Nat.{◌+◌, ◌*◌, ◌≤◌}
 use borrow.Author.Rules.{rules}
 use borrow.Author.Tests.{not-true, not-false}
-use Rattle.document.specs.Areas.{memoryEnd}
-use Rattle.document.specs.Tables.{entrySize, areEntriesGood}
+use Rattle.document.specs.Areas.{memory_end}
+use Rattle.document.specs.Tables.{entry_size, are_entries_good}
 use Rattle.tables_lists.proofs.EachEntry.{none_left, hit, miss}
 use Rattle.tables_lists.proofs.entries.are_entries_good.Statement.{statement}
 use Rattle.tables_lists.proofs.entries.are_entries_good.Tie as tie
 
 abbrev invariant-loop : tie.invariant-loop
 invariant-loop memory address count at₀ left₀ at left =
-    (at + left * entrySize ≤ memoryEnd) × (areEntriesGood memory at left ≡ areEntriesGood memory address count)
+    (at + left * entry_size ≤ memory_end) × (are_entries_good memory at left ≡ are_entries_good memory address count)
 
 abbrev decreases-loop : tie.decreases-loop
 decreases-loop memory address count at₀ left₀ at left = left

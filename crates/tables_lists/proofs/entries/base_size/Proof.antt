@@ -2,7 +2,7 @@
 use mathlib.Core.Path.{sym, ◌∙◌}
 use borrow.Author.Rules.{rules}
 use borrow.Author.Tests.{eq-eqb, ne_eqb}
-use Rattle.tables_lists.proofs.Types.{code-alone, code-and-next}
+use Rattle.tables_lists.proofs.Types.{code_alone, code_and_next}
 use Rattle.tables_lists.proofs.entries.base_size.Statement.{statement}
 use Rattle.tables_lists.proofs.entries.base_size.Tie as tie
 
@@ -12,7 +12,7 @@ add-next c = search rules
 returns : tie.Need-returns
 returns c =
     let s = c.before.before in
-    sym (code-alone s.args.memory.now s.args.address s.requires c.if1.true)
+    sym (code_alone s.args.memory.now s.args.address s.requires c.if1.true)
 
 shared-slice-read-if2 : tie.Need-shared-slice-read-if2
 shared-slice-read-if2 c = search rules
@@ -21,7 +21,7 @@ returns-2 : tie.Need-returns-2
 returns-2 c =
     let e = c.before.before in
     let s = e.before.before in
-    rw (code-and-next s.args.memory.now s.args.address s.requires e.if1.false, ne_eqb _ 0 c.if2.true)
+    rw (code_and_next s.args.memory.now s.args.address s.requires e.if1.false, ne_eqb _ 0 c.if2.true)
 
 shared-slice-read-size-of : tie.Need-shared-slice-read-size-of
 shared-slice-read-size-of c = search rules
@@ -37,7 +37,7 @@ returns-3 c =
     let e = c.before.before.before in
     let o = e.before.before in
     let s = o.before.before in
-    rw (code-and-next s.args.memory.now s.args.address s.requires o.if1.false, eq-eqb _ 0 e.if2.false)
+    rw (code_and_next s.args.memory.now s.args.address s.requires o.if1.false, eq-eqb _ 0 e.if2.false)
     (c.u16-of-u8.ensures.0 ∙ c.before.size_of.ensures)
 
 pub base-size-spec : {M : Type 1} → statement M

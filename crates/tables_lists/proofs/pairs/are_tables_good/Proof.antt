@@ -4,12 +4,12 @@ use Prim.Native.Nat.{◌-◌, ◌≤◌}
 use lib.ListN.{length}
 use borrow.Author.Rules.{rules}
 use borrow.Author.Tests.{not-true, not-false}
-use Rattle.tables_lists.proofs.EachTable.{goodFrom, none_left, hit, miss}
+use Rattle.tables_lists.proofs.EachTable.{good_from, none_left, hit, miss}
 use Rattle.tables_lists.proofs.pairs.are_tables_good.Statement.{statement}
 use Rattle.tables_lists.proofs.pairs.are_tables_good.Tie as tie
 
 abbrev invariant-loop : tie.invariant-loop
-invariant-loop memory list at₀ at = (at ≤ length list) × (goodFrom memory list at ≡ goodFrom memory list 0)
+invariant-loop memory list at₀ at = (at ≤ length list) × (good_from memory list at ≡ good_from memory list 0)
 
 abbrev decreases-loop : tie.decreases-loop
 decreases-loop memory list at₀ at = length list - at

@@ -6,7 +6,7 @@ use native.Mathlib.Omega.{arith}
 use lib.Dec.{leb}
 use borrow.Author.Rules.{rules}
 use borrow.Author.Tests.{le-leb, lt-leb, not-true, not-false}
-use Rattle.document.specs.Areas.{variablesEnd, calibrationEnd}
+use Rattle.document.specs.Areas.{variables_end, calibration_end}
 use Rattle.tables_lists.proofs.places.is_place_good.Statement.{statement}
 use Rattle.tables_lists.proofs.places.is_place_good.Tie as tie
 
@@ -21,7 +21,7 @@ returns c =
 within-requires : tie.Need-within-requires
 within-requires c κs = search rules
 
-begins : (o : tie.Else1) → leb variablesEnd o.before.before.args.address ≡ true
+begins : (o : tie.Else1) → leb variables_end o.before.before.args.address ≡ true
 begins o = let u = o.before in le-leb 8192 u.before.args.address (omega (arith, u.usize-of-u32.ensures.0))
 
 returns-2 : tie.Need-returns-2
@@ -32,7 +32,7 @@ module _ (o : tie.Else2) where
   abbrev start : tie.Start
   start = o.before.before.before.before
 
-  ends : leb (start.args.address + start.args.size) calibrationEnd ≡ true
+  ends : leb (start.args.address + start.args.size) calibration_end ≡ true
   ends = sym o.before.within.ensures ∙ not-false _ o.if2.left
 
 returns-3 : tie.Need-returns-3

@@ -3,8 +3,8 @@ use mathlib.Core.Path.{sym, ap, ◌∙◌}
 use Prim.Native.Nat.{ℕ, ◌/◌}
 use native.Mathlib.Omega.{arith}
 use borrow.Author.Rules.{rules}
-use Rattle.document.specs.Tables.{entrySize, areEntriesGood}
-use Rattle.tables_lists.proofs.Inside.{entries-inside}
+use Rattle.document.specs.Tables.{entry_size, are_entries_good}
+use Rattle.tables_lists.proofs.Inside.{entries_inside}
 use Rattle.tables_lists.proofs.places.is_table_good.Statement.{statement}
 use Rattle.tables_lists.proofs.places.is_table_good.Tie as tie
 
@@ -18,7 +18,7 @@ are-entries-good-requires : tie.Need-are-entries-good-requires
 are-entries-good-requires c κs =
     let p = c.before.before in
     let s = p.before.before in
-    let inside = entries-inside s.args.address s.args.size (sym p.is-place-good.ensures ∙ c.before.if1.true) in
+    let inside = entries_inside s.args.address s.args.size (sym p.is-place-good.ensures ∙ c.before.if1.true) in
     (s.requires, omega (arith, c.usize-of-u32.ensures.0))
 
 returns : tie.Need-returns
@@ -27,7 +27,7 @@ returns c =
     let p = u.before.before in
     let s = p.before.before in
     rw (sym p.is-place-good.ensures ∙ u.before.if1.true)
-    (c.are-entries-good.ensures ∙ ap (λ (a : ℕ). areEntriesGood s.args.memory.now a (s.args.size / entrySize)) u.usize-of-u32.ensures.0)
+    (c.are-entries-good.ensures ∙ ap (λ (a : ℕ). are_entries_good s.args.memory.now a (s.args.size / entry_size)) u.usize-of-u32.ensures.0)
 
 returns-2 : tie.Need-returns-2
 returns-2 c = rw (sym c.before.is-place-good.ensures ∙ c.if1.false)

@@ -6,16 +6,16 @@ use native.Mathlib.Omega.{arith}
 use lib.ListN.{length}
 use borrow.Author.Tests.{leb-true, not-true, not-false}
 use borrow.Author.Rules.{rules}
-use Rattle.document.specs.Variables.{definitionWidth}
-use Rattle.variables_definitions.specs.Parts.{isThere}
+use Rattle.document.specs.Variables.{definition_width}
+use Rattle.variables_definitions.specs.Parts.{is_there}
 use Rattle.variables_definitions.proofs.Read.{found_at}
 use Rattle.variables_definitions.proofs.reader.definition_at.Statement.{statement}
 use Rattle.variables_definitions.proofs.reader.definition_at.Tie as tie
 
-there : (c : tie.Else1) → let a = c.before.before.before.args in isThere a.ex a.part.now a.at ≡ true
+there : (c : tie.Else1) → let a = c.before.before.before.args in is_there a.ex a.part.now a.at ≡ true
 there c = sym c.before.is-there.ensures ∙ not-false _ c.if1.false
 
-fits : (c : tie.Else1) → let a = c.before.before.before.args in a.at + definitionWidth a.ex ≤ length a.part.now
+fits : (c : tie.Else1) → let a = c.before.before.before.args in a.at + definition_width a.ex ≤ length a.part.now
 fits c = leb-true _ _ (there c)
 
 is-there-requires : tie.Need-is-there-requires

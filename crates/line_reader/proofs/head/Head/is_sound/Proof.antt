@@ -3,7 +3,7 @@ use mathlib.Core.Path.{ap, ◌∙◌}
 use Prim.Native.Nat.{ℕ}
 use borrow.Author.Tests.{lt-leb, le-leb}
 use borrow.Author.Rules.{rules}
-use Rattle.line_reader.specs.Reader.{sound, soundAt}
+use Rattle.line_reader.specs.Reader.{sound, sound_at}
 use Rattle.line_reader.proofs.head.Head.is_sound.Statement.{statement}
 use Rattle.line_reader.proofs.head.Head.is_sound.Tie as tie
 
@@ -26,7 +26,7 @@ unfolding sound
 returns-3 c =
     let args = c.before.before.before.before.before.before.args in
     let if1 = c.before.before.before.before.if1 in
-    let r = args.self in rw (le-leb r.waiting 1 if1.false, le-leb r.expected 64 c.before.before.if2.false) (c.is_at.ensures ∙ ap (λ (n : ℕ). soundAt r.phase r.have n) c.before.data-length.ensures)
+    let r = args.self in rw (le-leb r.waiting 1 if1.false, le-leb r.expected 64 c.before.before.if2.false) (c.is_at.ensures ∙ ap (λ (n : ℕ). sound_at r.phase r.have n) c.before.data-length.ensures)
 
 pub is-sound-spec : {M : Type 1} → statement M
 is-sound-spec =

@@ -3,7 +3,7 @@ use mathlib.Core.Path.{◌≡◌, refl, sym, ◌∙◌}
 use mathlib.Core.Bool.{true, false}
 use borrow.Author.Tests.{not-true, not-false}
 use borrow.Author.Rules.{rules}
-use Rattle.recorder_runs.specs.Bounds.{flagsSound, countsSound}
+use Rattle.recorder_runs.specs.Bounds.{flags_sound, counts_sound}
 use Rattle.recorder_runs.proofs.run.Run.is_sound.Statement.{statement}
 use Rattle.recorder_runs.proofs.run.Run.is_sound.Tie as tie
 
@@ -17,7 +17,7 @@ are-counts-sound-requires : tie.Need-are-counts-sound-requires
 are-counts-sound-requires c κs = search rules
 
 -- the flags are within
-flags : (e : tie.Else1) → flagsSound e.before.before.args.self ≡ true
+flags : (e : tie.Else1) → flags_sound e.before.before.args.self ≡ true
 flags e = sym e.before.are-flags-sound.ensures ∙ not-false _ e.if1.false
 
 returns-2 : tie.Need-returns-2

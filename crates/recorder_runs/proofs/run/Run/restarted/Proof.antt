@@ -2,7 +2,7 @@
 use mathlib.Core.Path.{ap}
 use borrow.Author.Rules.{rules}
 use Rattle.recorder_runs.specs.declared.run.Run.{Run}
-use Rattle.recorder_runs.specs.State.{withWatch}
+use Rattle.recorder_runs.specs.State.{with_watch}
 use Rattle.recorder_runs.proofs.run.Run.restarted.Statement.{statement}
 use Rattle.recorder_runs.proofs.run.Run.restarted.Tie as tie
 
@@ -11,7 +11,7 @@ prepared-requires c κs = search rules
 
 returns : tie.Need-returns
 returns c =
-    ap (λ (r : Run). withWatch r 1 r.watch r.value) c.prepared.ensures
+    ap (λ (r : Run). with_watch r 1 r.watch r.value) c.prepared.ensures
 
 pub restarted-spec : {M : Type 1} → statement M
 restarted-spec = tie.close (tie.spec prepared-requires returns)

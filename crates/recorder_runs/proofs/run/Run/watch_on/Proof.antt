@@ -6,8 +6,8 @@ use native.Mathlib.Omega.{arith}
 use Rattle.document.specs.Run.Watch.{triggered}
 use Rattle.recorder_plans.specs.State.{plan_of}
 use Rattle.recorder_runs.specs.State.{watching}
-use Rattle.recorder_runs.proofs.Granted.{awaits, left-some}
-use Rattle.recorder_runs.proofs.Watches.{still-running, looked-set, counted-set}
+use Rattle.recorder_runs.proofs.Granted.{awaits, left_some}
+use Rattle.recorder_runs.proofs.Watches.{still_running, looked_set, counted_set}
 use borrow.Author.Rules.{rules}
 use Rattle.recorder_runs.proofs.run.Run.watch_on.Statement.{statement}
 use Rattle.recorder_runs.proofs.run.Run.watch_on.Tie as tie
@@ -18,7 +18,7 @@ sub-counting c =
     let s = t.before.before in
     let p = s.args.plan in
     let r = s.args.self in
-    left-some p.size p.post_trigger r.running r.watch r.value s.requires.0.watch
+    left_some p.size p.post_trigger r.running r.watch r.value s.requires.0.watch
     (λ e. omega (arith, t.if1.true)) (λ e. omega (arith, t.if1.true)) s.requires.1
 
 counting-requires : tie.Need-counting-requires
@@ -30,7 +30,7 @@ returns c =
     let s = t.before.before in
     let r = s.args.self in
     c.counting.ensures
-    ∙ counted-set (plan_of s.args.plan) r s.args.value t.if1.true
+    ∙ counted_set (plan_of s.args.plan) r s.args.value t.if1.true
 
 does-come-requires : tie.Need-does-come-requires
 does-come-requires c κs = (c.before.before.requires.0, c.if1.false)
@@ -57,7 +57,7 @@ returns-2 c =
     let r = s.args.self in
     c.counting2.ensures
     ∙ ap (λ (k : ℕ). watching r (triggered k)) c.before.u32-of-u16.ensures.0
-    ∙ looked-set (plan_of s.args.plan) r s.args.value true
+    ∙ looked_set (plan_of s.args.plan) r s.args.value true
     (awaited s n.if1.false)
     (sym y.if2.true ∙ d.does-come.ensures)
 
@@ -72,8 +72,8 @@ returns-3 c =
     let s = n.before.before in
     let r = s.args.self in
     c.primed.ensures
-    ∙ still-running r 1 s.args.value s.requires.1
-    ∙ looked-set (plan_of s.args.plan) r s.args.value false
+    ∙ still_running r 1 s.args.value s.requires.1
+    ∙ looked_set (plan_of s.args.plan) r s.args.value false
     (awaited s n.if1.false)
     (sym y.if2.false ∙ d.does-come.ensures)
 

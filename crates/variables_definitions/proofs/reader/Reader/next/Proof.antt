@@ -49,7 +49,7 @@ use denote.Triple.Table.{entered, cited}
 use denote.Triple.Walked.{says, Stays, stay_ref, stay_none, walk_of, Goes-ref, Goes-none, Walks, ends_at, walked, walk_Meets}
 use denote.Exit.{yes}
 use denote.Triple.Clauses.{ensured, lasts}
-use Rattle.variables_definitions.specs.Parts.{definitionAt, placeBehind}
+use Rattle.variables_definitions.specs.Parts.{definition_at, place_behind}
 use Rattle.variables_definitions.specs.declared.reader.Reader.{Reader}
 use Rattle.variables_definitions.specs.declared.reader.Definition.{Definition}
 use Rattle.variables_definitions.specs.contracts.reader.Reader as T
@@ -114,10 +114,10 @@ module _ {M : Type 1} {𝓤 : Ura M} (𝓛 : Logic 𝓤) (at_mem : Memory → SP
   v = slice_val d.part.ref_ptr (length d.part.now)
 
   abbrev found : Definition
-  found = definitionAt x d.part.now d.at
+  found = definition_at x d.part.now d.at
 
   abbrev place : ℕ
-  place = placeBehind x d.part.now d.at
+  place = place_behind x d.part.now d.at
 
   abbrev a : Bor Reader × (Bool × Unit {0})
   a = (record { ref_ptr = (b, o); ghost_name = γ; now = d }, (x, tt))
