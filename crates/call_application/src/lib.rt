@@ -6,7 +6,7 @@ use codes_table::TAKEN;
 
 // What a collection gave: its number, and how many bytes the command has; 0 where none waits.
 #[repr(C)]
-#[derive(Drop)]
+#[derive(Clone, Copy)]
 pub struct Collected {
     pub refusal: u8,
     pub length: usize,

@@ -15,7 +15,7 @@ use serve_message::respond;
 
 // The number with which a block is refused, or 0; how many of its bytes were taken, and how many bytes of answers were written.
 #[repr(C)]
-#[derive(Drop)]
+#[derive(Clone, Copy)]
 pub struct BlockTaken {
     pub refusal: u8,
     pub taken: usize,
@@ -23,7 +23,7 @@ pub struct BlockTaken {
 }
 
 // How far a block has been taken: so many of its bytes, and so many bytes of answers.
-#[derive(Drop)]
+#[derive(Clone, Copy)]
 struct Going {
     taken: usize,
     written: usize,

@@ -10,7 +10,7 @@ use serve_message::Whole;
 use state_block::{BODY, put_receiver, receiver_in};
 
 // What a byte brought: nothing to answer, or a whole message.
-#[derive(Drop)]
+#[derive(Clone, Copy)]
 pub enum Heard {
     Quiet,
     Message(Whole),

@@ -10,7 +10,7 @@ use serve_message::respond;
 
 // The number with which a byte is refused, or 0, and how many bytes of the lent buffer are its answer.
 #[repr(C)]
-#[derive(Drop)]
+#[derive(Clone, Copy)]
 pub struct Taken {
     pub refusal: u8,
     pub length: usize,

@@ -13,7 +13,7 @@ use state_given::store_given;
 
 // Whether the call refused, and what the panel is told: an error where it refused.
 #[repr(C)]
-#[derive(Drop)]
+#[derive(Clone, Copy)]
 pub struct Said {
     pub refusal: u8,
     pub status: u8,

@@ -15,7 +15,7 @@ use memory_ranges::copy_in;
 
 // What a byte brought: with `whole` 1, an answer's status and how many data stand in the lent buffer.
 #[repr(C)]
-#[derive(Drop)]
+#[derive(Clone, Copy)]
 pub struct ReadByte {
     pub refusal: u8,
     pub whole: u8,

@@ -11,7 +11,7 @@ use codes_rows::columns::{
 use document::{Operation, Service};
 
 // How many data bytes follow: as many as the next literal says, or so many.
-#[derive(Drop)]
+#[derive(Clone, Copy)]
 pub enum Length {
     Told,
     Fixed(u8),

@@ -3,14 +3,14 @@
 
 // One definition: `size` bytes from `address` on.
 #[repr(C)]
-#[derive(Drop)]
+#[derive(Clone, Copy)]
 pub struct Variable {
     pub address: u32,
     pub size: u8,
 }
 
 // A name for each thing that a command does.
-#[derive(Drop)]
+#[derive(Clone, Copy)]
 pub enum Operation {
     Unserved,
     Describe,
@@ -32,7 +32,7 @@ pub enum Operation {
 }
 
 // What a command does, whether its addresses take 4 bytes, and its own size; 0 where its data begin with one, or where it has none.
-#[derive(Drop)]
+#[derive(Clone, Copy)]
 pub struct Service {
     pub operation: Operation,
     pub ex: bool,
@@ -40,7 +40,7 @@ pub struct Service {
 }
 
 // A name for each function of the second port that is served, and one for every other.
-#[derive(Drop)]
+#[derive(Clone, Copy)]
 pub enum Function {
     ReadRegisters,
     WriteRegister,

@@ -18,7 +18,7 @@ pub const SUM: u8 = 2;
 // The top bit of a status.
 const ERROR: u8 = 0x80;
 
-#[derive(Drop)]
+#[derive(Clone, Copy)]
 pub struct Head {
     pub waiting: u8,
     pub phase: u8,
@@ -28,7 +28,7 @@ pub struct Head {
     pub sum: u8,
 }
 
-#[derive(Drop)]
+#[derive(Clone, Copy)]
 pub enum Asked {
     Nothing,
     // This data byte goes to this place, 0 to 63.
@@ -39,7 +39,7 @@ pub enum Asked {
     Wrong,
 }
 
-#[derive(Drop)]
+#[derive(Clone, Copy)]
 pub struct Stepped {
     pub next: Head,
     pub asks: Asked,

@@ -12,7 +12,7 @@ pub const DATA_NEXT: u8 = 2;
 pub const SUM_NEXT: u8 = 3;
 
 #[repr(C)]
-#[derive(Drop)]
+#[derive(Clone, Copy)]
 pub struct Receiver {
     pub waiting: u8,
     pub phase: u8,
@@ -22,7 +22,7 @@ pub struct Receiver {
     pub sum: u8,
 }
 
-#[derive(Drop)]
+#[derive(Clone, Copy)]
 pub enum Event {
     Nothing,
     // This data byte goes to this place, 0 to 63, of the body.
@@ -31,7 +31,7 @@ pub enum Event {
     Whole { command: u8, length: u8, sum: u8 },
 }
 
-#[derive(Drop)]
+#[derive(Clone, Copy)]
 pub struct Reaction {
     pub next: Receiver,
     pub event: Event,

@@ -11,7 +11,7 @@ use crate::sum;
 pub const PLUS: u8 = 0x2B;
 
 // How far a writer is: where the next byte goes, and the sum of the bytes so far.
-#[derive(Drop)]
+#[derive(Clone, Copy)]
 pub struct Progress {
     pub at: usize,
     pub sum: u8,

@@ -4,7 +4,7 @@ pub mod sum;
 
 // What a writer did: with which number it refused, or how many bytes it wrote.
 #[repr(C)]
-#[derive(Drop)]
+#[derive(Clone, Copy)]
 pub struct Written {
     pub refusal: u8,
     pub length: usize,

@@ -24,7 +24,7 @@ use script_lines::input::{Input, LONG, OVER, next_line};
 use script_lines::output::flush;
 
 // A script as far as it is played, and 0 in `going` once it is over.
-#[derive(Drop)]
+#[derive(Clone, Copy)]
 struct Run {
     play: Play,
     input: Input,

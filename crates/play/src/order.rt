@@ -14,7 +14,7 @@ use script_words::words::{is_over, word_at};
 // The letter of a line on which there is nothing to do. No word is a blank.
 const SKIP: u8 = b' ';
 
-#[derive(Drop)]
+#[derive(Clone, Copy)]
 pub struct Order {
     // why the line cannot be read, or NONE
     pub wrong: u8,

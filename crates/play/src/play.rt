@@ -6,7 +6,7 @@ use crate::order::Order;
 use crate::{cable, gate};
 use log_gate::{LOG_GATE_MEMORY, LOG_GATE_READER, LOG_GATE_STATE};
 
-#[derive(Drop)]
+#[derive(Clone, Copy)]
 pub struct Play {
     // how many bytes the gate was given
     pub given: u64,

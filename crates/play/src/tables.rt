@@ -7,14 +7,14 @@ use script_words::operands::{NumberRead, read_number};
 use script_words::words::is_over;
 
 // Why the words are no list, or NONE, and how many bytes the list has.
-#[derive(Drop)]
+#[derive(Clone, Copy)]
 pub struct List {
     pub wrong: u8,
     pub length: usize,
 }
 
 // Why a word is no part of a list, or NONE, and where the next word may begin.
-#[derive(Drop)]
+#[derive(Clone, Copy)]
 struct Part {
     wrong: u8,
     next: usize,

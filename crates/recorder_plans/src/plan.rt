@@ -1,6 +1,6 @@
 // What a setup fixes: numbers alone, so that every bit pattern is a value and one outside the bounds can be refused.
 #[repr(C)]
-#[derive(Drop)]
+#[derive(Clone, Copy)]
 pub struct Plan {
     pub samples: u16,
     pub post_trigger: u16,

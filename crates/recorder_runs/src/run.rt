@@ -11,7 +11,7 @@ pub const PREVIOUS: u8 = 1;
 pub const TRIGGERED: u8 = 2;
 
 #[repr(C)]
-#[derive(Drop)]
+#[derive(Clone, Copy)]
 pub struct Run {
     pub running: u8,
     // 'samples' sets are taken

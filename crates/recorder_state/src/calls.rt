@@ -7,14 +7,14 @@ use crate::state::Recorder;
 use codes_table::{BUSY, DONE, NOT_SET_UP, RECORDER_RUNS, RECORDER_STOPPED};
 
 // A status, and the recorder as it is then.
-#[derive(Drop)]
+#[derive(Clone, Copy)]
 pub struct Answered {
     pub status: u8,
     pub next: Recorder,
 }
 
 // A status, and the start index where it is done.
-#[derive(Drop)]
+#[derive(Clone, Copy)]
 pub struct Queried {
     pub status: u8,
     pub index: u16,

@@ -2,7 +2,7 @@
 
 // `ready` is 0 until a setup is accepted, and while it is 0 nothing else is looked at.
 #[repr(C)]
-#[derive(Drop)]
+#[derive(Clone, Copy)]
 pub struct Recorder {
     pub ready: u8,
     pub plan: recorder_plans::Plan,

@@ -5,7 +5,7 @@ pub use setup::set_up_status;
 
 // The variables of the last accepted setup; a count of 0 says that there was none.
 #[repr(C)]
-#[derive(Drop)]
+#[derive(Clone, Copy)]
 pub struct Scope {
     pub variables: variables_list::Variables,
 }

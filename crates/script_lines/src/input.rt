@@ -5,7 +5,7 @@ ghost use Rattle.script_lines.specs.Input.{LineEnd, Inside, Cut};
 use libc::STDIN_FILENO;
 
 // Which part of the text buffer has not been taken, and 1 once the input has ended.
-#[derive(Drop)]
+#[derive(Clone, Copy)]
 pub struct Input {
     pub start: usize,
     pub end: usize,
@@ -19,7 +19,7 @@ pub const OVER: u8 = 1;
 
 pub const LONG: u8 = 2;
 
-#[derive(Drop)]
+#[derive(Clone, Copy)]
 pub struct Line {
     pub kind: u8,
     pub start: usize,

@@ -6,20 +6,20 @@ use crate::words::word_at;
 use script_numbers::{Byte, Number, decimal, hex};
 
 // What a word says, and where the next word may begin.
-#[derive(Drop)]
+#[derive(Clone, Copy)]
 pub enum ByteRead {
     Is { value: u8, next: usize },
     No,
 }
 
-#[derive(Drop)]
+#[derive(Clone, Copy)]
 pub enum NumberRead {
     Is { value: u64, next: usize },
     No,
 }
 
 // Whether every word of the rest of a line is a byte, and how many bytes were kept.
-#[derive(Drop)]
+#[derive(Clone, Copy)]
 pub struct BytesRead {
     pub all: bool,
     pub count: usize,

@@ -11,7 +11,7 @@ use document::Service;
 use variables_definitions::address_width;
 
 // The status that the fields give by themselves, where in the memory they go, and where in the message the data begin.
-#[derive(Drop)]
+#[derive(Clone, Copy)]
 pub struct Fields {
     pub status: u8,
     pub address: u32,

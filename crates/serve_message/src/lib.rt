@@ -8,7 +8,7 @@ use serve_operations::serve;
 use state_block::BODY;
 
 // What the receiver tells of a whole message; its data stand in the block's body.
-#[derive(Drop)]
+#[derive(Clone, Copy)]
 pub struct Whole {
     pub command: u8,
     pub length: u8,

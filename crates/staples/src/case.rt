@@ -6,7 +6,7 @@ use crate::target::{CAME, give};
 use log_gate::{LOG_GATE_MEMORY, LOG_GATE_STATE, log_gate_reset};
 
 // Its number, and the byte of the memory that it names, before and after. The others are zero before.
-#[derive(Drop)]
+#[derive(Clone, Copy)]
 pub struct Case {
     pub number: u64,
     pub address: usize,

@@ -4,7 +4,7 @@ ghost use Rattle.std.specs.Prelude.{◌≤◌, length};
 use script_words::operands::read_bytes;
 
 // How many bytes there are of each.
-#[derive(Drop)]
+#[derive(Clone, Copy)]
 pub struct Messages {
     pub given: usize,
     pub wanted: usize,

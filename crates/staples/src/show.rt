@@ -34,7 +34,7 @@ fn put_verdict(right: bool, out: &mut [u8; 65536], at: usize) -> usize {
 }
 
 // A byte of the memory as it is, and as the case says that it is left.
-#[derive(Drop)]
+#[derive(Clone, Copy)]
 pub struct Left {
     pub address: usize,
     pub value: u8,

@@ -58,7 +58,7 @@ fn show_line(line: &[u8], out: &mut [u8; 65536], at: usize) -> usize {
 }
 
 // Where a line ends, and where the next one begins.
-#[derive(Drop)]
+#[derive(Clone, Copy)]
 struct Line {
     end: usize,
     next: usize,

@@ -24,7 +24,7 @@ use state_block::{
 use tables_state::MOST_TABLES;
 use variables_list::MOST_VARIABLES;
 
-#[derive(Drop)]
+#[derive(Clone, Copy)]
 pub struct Measured {
     pub within: bool,
     pub size: usize,

@@ -4,7 +4,7 @@ ghost use Rattle.document.specs.Variables.{address_width};
 ghost use Rattle.variables_definitions.specs.Parts.{is_there, definition_at, place_behind, moved_behind, variable_of};
 
 // What stands at a place of a part: a definition, or too few bytes.
-#[derive(Drop)]
+#[derive(Clone, Copy)]
 pub enum Definition {
     Found(document::Variable),
     Short,
@@ -49,7 +49,7 @@ fn place_behind(part: &[u8], at: usize, ex: bool) -> usize
     at + 1 + address_width(ex)
 }
 
-#[derive(Drop)]
+#[derive(Clone, Copy)]
 pub struct Reader<'a> {
     pub part: &'a [u8],
     pub at: usize,

@@ -7,7 +7,7 @@ pub const MOST_VARIABLES: usize = 8;
 
 // Definitions behind the count are not looked at.
 #[repr(C)]
-#[derive(Drop)]
+#[derive(Clone, Copy)]
 pub struct Variables {
     pub count: u8,
     pub list: [document::Variable; MOST_VARIABLES],

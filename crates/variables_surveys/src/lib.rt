@@ -9,7 +9,7 @@ use memory_ranges::within;
 use variables_definitions::{Definition, Reader, address_width, variable_of};
 
 // Whether a size is 0, whether each variable ends at or below a limit, and the sum of the sizes.
-#[derive(Drop)]
+#[derive(Clone, Copy)]
 pub struct Surveyed {
     pub zero: bool,
     pub within: bool,
