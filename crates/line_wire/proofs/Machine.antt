@@ -2,7 +2,7 @@
 -- literals up to the next start will make, then it reports exactly what stands in the pairing of all its bytes, each
 -- at its last byte. The receiver of messages and the reader of answers are both such readers.
 use Prim.Native.Nat.{ℕ, zero, suc}
-use mathlib.Core.Path.{◌≡◌, refl, sym, ◌∙◌}
+use mathlib.Core.Path.{◌≡◌, refl, sym, ◌∙◌, subst}
 use mathlib.Core.List.{List, [], ◌∷◌, ◌++◌, append_assoc, append-nil, map, map-append, foldl}
 use mathlib.Core.Bool.{Bool, true, false}
 use borrow.Author.Tests.{eqb-true}
@@ -84,13 +84,15 @@ module _ {S R : Type 0} {whole : List ℕ → List R} {within : S → Type 0} {w
       owed whole owes s (paired_from (waits s) (b ∷ bs)) ≡ reports s b ++ owed whole owes (next s b) (paired_from
       (waits (next s b)) bs)
   owed_byte s b bs ok =
+      let doubled = λ (k : ℕ). owed whole owes s (paired_from (waits s) (k ∷ bs))
+          ≡ reports s k ++ owed whole owes (next s k) (paired_from (waits_behind (waits s) k) bs) in
       rw (reads.pairs s b ok)
       (split (waits s)
       (λ w. split (eqb b 0x2B)
-      (λ plus. rw (w, plus, eqb-true b 0x2B plus) (literal_owed s 0x2B (paired bs) ok w))
+      (λ plus. subst doubled (sym (eqb-true b 0x2B plus)) (rw w (literal_owed s 0x2B (paired bs) ok w)))
       (λ other. rw (w, other) (start_owed s b (paired bs) ok w other)))
       (λ w. split (eqb b 0x2B)
-      (λ plus. rw (w, plus, eqb-true b 0x2B plus) (first_owed s (paired (0x2B ∷ bs)) ok w))
+      (λ plus. subst doubled (sym (eqb-true b 0x2B plus)) (rw w (first_owed s (paired (0x2B ∷ bs)) ok w)))
       (λ other. rw (w, other, paired_literal b bs other) (literal_owed s b (paired bs) ok (w ∙ sym other)))))
 
   reported_owed : (bs : List ℕ) (s : S) → within s →

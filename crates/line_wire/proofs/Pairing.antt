@@ -1,6 +1,6 @@
 -- Laws on the pairing, a byte at a time: the bytes before a place matter only by whether a 0x2B waits there.
 use Prim.Native.Nat.{ℕ}
-use mathlib.Core.Path.{◌≡◌, refl, sym, ap, ◌∙◌}
+use mathlib.Core.Path.{◌≡◌, refl, sym, ap, subst, ◌∙◌}
 use mathlib.Core.List.{List, [], ◌∷◌, ◌++◌, append_assoc, append-nil, map, foldl}
 use mathlib.Core.Bool.{Bool, true, false, cond, not}
 use borrow.Author.Tests.{eqb-true}
@@ -36,7 +36,9 @@ pub paired_byte : (waiting : Bool) (b : ℕ) (bs : List ℕ) →
 paired_byte true b bs = split (eqb b 0x2B) (λ plus. simp plus) (λ other. simp other)
 paired_byte false b bs =
     split (eqb b 0x2B)
-    (λ plus. simp (eqb-true b 0x2B plus))
+    (λ plus.
+      subst (λ (k : ℕ). paired_from false (k ∷ bs) ≡ tokens_at false k ++ paired_from (waits_behind false k) bs)
+      (sym (eqb-true b 0x2B plus)) refl)
     (λ other. simp (other, paired_literal b bs other))
 
 -- ---- whether a 0x2B waits behind bytes

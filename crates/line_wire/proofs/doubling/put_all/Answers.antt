@@ -1,0 +1,44 @@
+-- What is left to put gives the whole: the invariant of a doubled copy.
+use mathlib.Core.Path.{◌≡◌, ap}
+use mathlib.Core.List.{[], ◌∷◌}
+use Prim.Native.Nat.{◌+◌, ◌-◌, ◌<◌, ◌≤◌, ◌%◌}
+use native.Mathlib.Omega.{arith}
+use borrow.Author.Rules.{rules}
+use lib.ListN.{length, get_or, drop, drop_of_length-le}
+use lib.Seq.{sets}
+use Rattle.document.specs.Doubling.{stuffed}
+use Rattle.document.specs.Sum.{total}
+use Rattle.line_wire.specs.declared.doubling.Progress.{Progress}
+use Rattle.line_wire.proofs.Stuffed.{stuffed-drop-length, stuffed_drop_sets, total_drop}
+use Rattle.line_wire.proofs.doubling.put_all.Goals as goal
+
+pub put-progress-requires : goal.put-progress-requires
+put-progress-requires c =
+    let l = c.loop-i in
+    let s = c.args.bytes.now in
+    omega (arith, stuffed-drop-length s l.i (search rules))
+
+pub loop-i-preserved : goal.loop-i-preserved
+loop-i-preserved c =
+    let p = c.put-progress in
+    let l = c.loop-i in
+    let s = c.args.bytes.now in
+    let h : l.i < length s = search rules in
+    let at : p.result.at ≡ l.progress.at + length (stuffed (get_or s l.i 0 ∷ [])) = ap (λ (q : Progress). q.at) p.ensures.progress in
+    let sum : p.result.sum ≡ (l.progress.sum + total (get_or s l.i 0 ∷ [])) % 256 = ap (λ (q : Progress). q.sum) p.ensures.progress in (
+      search rules,
+      search rules,
+      omega arith,
+      omega (arith, stuffed-drop-length s l.i h),
+      omega (arith, total_drop s l.i h),
+      rw (p.ensures.buffer, at, stuffed_drop_sets s l.i h) l.invariant.5,
+    )
+
+pub returns : goal.returns
+returns c =
+    let l = c.loop-i in
+    let f = c.args.from in
+    let none : drop l.i c.args.bytes.now ≡ [] = drop_of_length-le _ c.loop-i-test.false in
+    let at : l.progress.at ≡ f.at + length (stuffed c.args.bytes.now) = omega (arith, rw none at l.invariant.3) in
+    let sum : l.progress.sum ≡ (f.sum + total c.args.bytes.now) % 256 = omega (arith, rw none at l.invariant.4) in
+    record { progress = λ i. record { at = at i; sum = sum i }; buffer = rw none at l.invariant.5 }

@@ -1,0 +1,25 @@
+-- What is left to put gives the whole: the invariant of a doubled copy.
+use mathlib.Core.Path.{◌≡◌, ap}
+use mathlib.Core.List.{[], ◌∷◌}
+use Prim.Native.Nat.{◌+◌, ◌-◌, ◌<◌, ◌≤◌, ◌%◌}
+use native.Mathlib.Omega.{arith}
+use borrow.Author.Rules.{rules}
+use lib.ListN.{length, get_or, drop, drop_of_length-le}
+use lib.Seq.{sets}
+use Rattle.document.specs.Doubling.{stuffed}
+use Rattle.document.specs.Sum.{total}
+use Rattle.line_wire.specs.declared.doubling.Progress.{Progress}
+use Rattle.line_wire.proofs.Stuffed.{stuffed-drop-length, stuffed_drop_sets, total_drop}
+use Rattle.line_wire.proofs.doubling.put_all.Given as goal
+
+abbrev pub invariant-loop-i : goal.invariant-loop-i
+invariant-loop-i l =
+    (l.i ≤ length l.bytes)
+    × (length l.out ≡ length l.initial.out)
+    × (l.progress.sum < 256)
+    × (l.progress.at + length (stuffed (drop l.i l.bytes)) ≡ l.initial.progress.at + length (stuffed l.bytes))
+    × ((l.progress.sum + total (drop l.i l.bytes)) % 256 ≡ (l.initial.progress.sum + total l.bytes) % 256)
+    × (sets l.out l.progress.at (stuffed (drop l.i l.bytes)) ≡ sets l.initial.out l.initial.progress.at (stuffed l.bytes))
+
+abbrev pub decreases-loop-i : goal.decreases-loop-i
+decreases-loop-i l = length l.bytes - l.i
