@@ -6,14 +6,7 @@ use Rattle.document.specs.Plan.{Trigger}
 use Rattle.document.specs.Trigger.{fires, is_beyond}
 use Rattle.document.proofs.Levels.{edge_of_levels}
 use borrow.Author.Rules.{rules}
-use Rattle.recorder_triggers.proofs.edges.comes.Statement.{statement}
-use Rattle.recorder_triggers.proofs.edges.comes.Tie as tie
-
-is-beyond-requires : tie.Need-is-beyond-requires
-is-beyond-requires c κs = search rules
-
-is-beyond-requires-2 : tie.Need-is-beyond-requires-2
-is-beyond-requires-2 c κs = search rules
+use Rattle.recorder_triggers.proofs.edges.comes.Goals as goal
 
 module _ (t : Trigger) (previous this : ℕ) (now : Bool) (e : now ≡ is_beyond t this) where
   -- this set is at or beyond the threshold, and the one before tells
@@ -23,12 +16,9 @@ module _ (t : Trigger) (previous this : ℕ) (now : Bool) (e : now ≡ is_beyond
   not-reached : now ≡ false → false ≡ fires t previous this
   not-reached n = rw (edge_of_levels t previous this, ← e, n) (sym (and-false (not (is_beyond t previous))))
 
-returns : tie.Need-returns
-returns c address =
-    reached _ _ _ _ (c.before.before.is-beyond.ensures address) _ (c.is-beyond2.ensures address) c.before.if1.true
+pub returns-then-is_beyond : goal.returns-then-is_beyond
+returns-then-is_beyond c address =
+    reached _ _ _ _ (c.is_beyond.ensures address) _ (c.is_beyond-then-is_beyond.ensures address) c.if-is_beyond.true
 
-returns-2 : tie.Need-returns-2
-returns-2 c address = not-reached _ _ _ _ (c.before.is-beyond.ensures address) c.if1.false
-
-pub comes-spec : {M : Type 1} → statement M
-comes-spec = tie.close (tie.spec is-beyond-requires is-beyond-requires-2 returns returns-2)
+pub returns : goal.returns
+returns c address = not-reached _ _ _ _ (c.is_beyond.ensures address) c.if-is_beyond.false

@@ -1,0 +1,21 @@
+-- What is left to clear gives the whole.
+use mathlib.Core.Path.{◌≡◌, refl, ◌∙◌}
+use Prim.Native.Nat.{◌+◌, ◌-◌, ◌≤◌}
+use native.Mathlib.Nat.{add-zero, sub-zero}
+use native.Mathlib.Omega.{arith}
+use lib.Seq.{sets}
+use lib.ListN.{length, replicate, length-set}
+use borrow.Author.Rules.{rules}
+use Rattle.bytes_fields.proofs.Ranges.{clear_next}
+use Rattle.bytes_fields.proofs.clear.Goals as goal
+
+pub loop-k-init : goal.loop-k-init
+loop-k-init c = (omega arith, refl, rw (add-zero, sub-zero))
+
+pub loop-k-preserved : goal.loop-k-preserved
+loop-k-preserved c = let a = c.args in let l = c.loop-k in (omega arith, simp length-set l.invariant.1, clear_next l.block a.from a.n l.k (omega arith) ∙ l.invariant.2)
+
+-- SHAPE
+returns : tie.Need-returns invariant-loop decreases-loop
+
+returns c = let z : c.before.before.args.n - c.before.loop.k ≡ 0 = omega arith in rw z at c.before.loop.invariant.2

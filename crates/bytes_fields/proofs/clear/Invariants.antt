@@ -1,0 +1,16 @@
+-- What is left to clear gives the whole.
+use mathlib.Core.Path.{◌≡◌, refl, ◌∙◌}
+use Prim.Native.Nat.{◌+◌, ◌-◌, ◌≤◌}
+use native.Mathlib.Nat.{add-zero, sub-zero}
+use native.Mathlib.Omega.{arith}
+use lib.Seq.{sets}
+use lib.ListN.{length, replicate, length-set}
+use borrow.Author.Rules.{rules}
+use Rattle.bytes_fields.proofs.Ranges.{clear_next}
+use Rattle.bytes_fields.proofs.clear.Given as goal
+
+abbrev pub invariant-loop-k : goal.invariant-loop-k
+invariant-loop-k l = (l.k ≤ l.n) × (length l.block ≡ length l.initial.block) × (sets l.block (l.from + l.k) (replicate (l.n - l.k) 0) ≡ sets l.initial.block l.from (replicate l.n 0))
+
+abbrev pub decreases-loop-k : goal.decreases-loop-k
+decreases-loop-k l = l.n - l.k

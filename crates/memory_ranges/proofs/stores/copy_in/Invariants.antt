@@ -1,0 +1,16 @@
+-- What is left to store gives the whole: one byte a turn.
+use mathlib.Core.Path.{◌≡◌, refl, ◌∙◌}
+use Prim.Native.Nat.{◌+◌, ◌-◌, ◌≤◌}
+use native.Mathlib.Nat.{add-zero}
+use lib.ListN.{length, drop, drop_of_length-le}
+use borrow.Author.Rules.{rules}
+use Rattle.document.specs.Stores.{stored}
+use Rattle.memory_ranges.proofs.Copies.{stored_next}
+use Rattle.memory_ranges.proofs.stores.copy_in.Given as goal
+
+abbrev pub invariant-loop-i : goal.invariant-loop-i
+invariant-loop-i l =
+    (l.i ≤ length l.bytes) × (length l.memory ≡ length l.initial.memory) × (stored l.memory (l.at + l.i) (drop l.i l.bytes) ≡ stored l.initial.memory l.at l.bytes)
+
+abbrev pub decreases-loop-i : goal.decreases-loop-i
+decreases-loop-i l = length l.bytes - l.i

@@ -1,0 +1,15 @@
+-- The sign field picks the reading.
+use mathlib.Core.Path.{ap, ◌∙◌}
+use native.Mathlib.Omega.{arith}
+use mir.Syntax.{w64}
+use mir.Facts.{to_z_pos, to_z-of_z}
+use borrow.Author.Tests.{eq-eqb, ne_eqb}
+use borrow.Author.Rules.{rules}
+use Rattle.document.specs.Values.{twos_complement}
+use Rattle.recorder_triggers.proofs.signed.signed_value.Goals as goal
+
+pub overflow_cast-result : goal.overflow_cast-result
+overflow_cast-result c = record { sfits = omega arith }
+
+pub returns : goal.returns
+returns c = rw (ne_eqb _ _ c.if-sign-eq1.false) (to_z_pos w64 (omega arith))
