@@ -15,7 +15,5 @@ loop-k-init c = (omega arith, refl, rw (add-zero, sub-zero))
 pub loop-k-preserved : goal.loop-k-preserved
 loop-k-preserved c = let a = c.args in let l = c.loop-k in (omega arith, simp length-set l.invariant.1, clear_next l.block a.from a.n l.k (omega arith) ∙ l.invariant.2)
 
--- SHAPE
-returns : tie.Need-returns invariant-loop decreases-loop
-
-returns c = let z : c.before.before.args.n - c.before.loop.k ≡ 0 = omega arith in rw z at c.before.loop.invariant.2
+pub returns : goal.returns
+returns c = let z : c.args.n - c.loop-k.k ≡ 0 = omega arith in rw z at c.loop-k.invariant.2

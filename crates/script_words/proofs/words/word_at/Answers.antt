@@ -9,12 +9,11 @@ use lib.ListN.{length, drop, drop_of_length-le}
 use lib.Seq.{drop-length}
 use borrow.Author.Rules.{rules}
 use Rattle.script_words.specs.Words.{spread, word_start}
-use Rattle.script_words.proofs.words.word_at.Statement.{statement}
-use Rattle.script_words.proofs.words.word_at.Tie as tie
+use Rattle.script_words.proofs.words.word_at.Goals as goal
 
-returns : tie.Need-returns
-returns c =
-    let a = c.before.before.args in
+pub returns-then-from-line : goal.returns-then-from-line
+returns-then-from-line c =
+    let a = c.args in
     let line = a.line.now in
     let clamped : min a.from (length line) ≡ length line = min-eq_right (omega arith) in
     let none : drop a.from line ≡ [] = drop_of_length-le line {i = a.from} (omega arith) in
@@ -27,25 +26,3 @@ returns c =
       ordered = search rules;
       within = search rules;
     }
-
-end-of-requires : tie.Need-end-of-requires
-end-of-requires c κs = search rules
-
-end-of-requires-2 : tie.Need-end-of-requires-2
-end-of-requires-2 c κs = search rules
-
-returns-2 : tie.Need-returns-2
-returns-2 c =
-    let a = c.before.before.before.before.args in
-    let within : a.from ≤ length a.line.now = omega arith in
-    let start : c.before.end_of_lem.result ≡ word_start a.line.now a.from = rw min-eq_left c.before.end_of_lem.ensures.0 in
-    record {
-      behind = rw min-eq_left (omega arith);
-      start = start;
-      end = rw (← start) c.end-of2.ensures.0;
-      ordered = search rules;
-      within = search rules;
-    }
-
-pub word-at-spec : {M : Type 1} → statement M
-word-at-spec = tie.close (tie.spec returns end-of-requires end-of-requires-2 returns-2)

@@ -1,0 +1,14 @@
+-- Row by row: a search from here on finds what a search of the whole table finds.
+use mathlib.Core.Path.{◌≡◌, sym, ◌∙◌}
+use Prim.Native.Nat.{◌-◌, ◌≤◌}
+use native.Mathlib.Omega.{arith}
+use borrow.Author.Rules.{rules}
+use Rattle.document.specs.BaseTypes.{size_of_code}
+use Rattle.tables_base_types.proofs.Search.{found, all_rows, no_row, hit, miss}
+use Rattle.tables_base_types.proofs.size_of.Given as goal
+
+abbrev pub invariant-loop-i : goal.invariant-loop-i
+invariant-loop-i l = (l.i ≤ 14) × (found l.code l.i ≡ size_of_code l.code)
+
+abbrev pub decreases-loop-i : goal.decreases-loop-i
+decreases-loop-i l = 14 - l.i
