@@ -11,23 +11,29 @@ use Rattle.variables_definitions.specs.Parts.{is_there}
 use Rattle.variables_definitions.proofs.Read.{found_at}
 use Rattle.variables_definitions.proofs.reader.definition_at.Goals as goal
 
-there : (c : goal.Else-not-is_there) → let a = c.args in is_there a.ex a.part.now a.at ≡ true
-there c = sym c.is_there.ensures ∙ not-false _ c.if-not-is_there.false
-
-fits : (c : goal.Else-not-is_there) → let a = c.args in a.at + definition_width a.ex ≤ length a.part.now
-fits c = leb-true _ _ (there c)
+pub returns-then-not-is_there : goal.returns-then-not-is_there
+returns-then-not-is_there c = rw (sym c.is_there.ensures ∙ c.if-not-is_there.true)
 
 pub overflow_add-at : goal.overflow_add-at
-overflow_add-at c = record { fits = omega (arith, fits c) }
+overflow_add-at c =
+    let there : let a = c.args in is_there a.ex a.part.now a.at ≡ true = sym c.is_there.ensures ∙ c.if-not-is_there.false in
+    let fits : let a = c.args in a.at + definition_width a.ex ≤ length a.part.now = leb-true _ _ there in
+    record { fits = omega (arith, fits) }
 
 pub number_at-address-requires : goal.number_at-address-requires
-number_at-address-requires c = (search rules, omega (arith, fits c.before, c.address_width.ensures.0))
+number_at-address-requires c =
+    let there : let a = c.args in is_there a.ex a.part.now a.at ≡ true = sym c.is_there.ensures ∙ c.if-not-is_there.false in
+    let fits : let a = c.args in a.at + definition_width a.ex ≤ length a.part.now = leb-true _ _ there in
+    (search rules, omega (arith, fits, c.address_width.ensures.0))
 
 pub bounds-part-at : goal.bounds-part-at
-bounds-part-at c = omega (arith, fits c.before.before.before)
+bounds-part-at c =
+    let there : let a = c.args in is_there a.ex a.part.now a.at ≡ true = sym c.is_there.ensures ∙ c.if-not-is_there.false in
+    let fits : let a = c.args in a.at + definition_width a.ex ≤ length a.part.now = leb-true _ _ there in
+    omega (arith, fits)
 
 pub returns : goal.returns
 returns c =
+    let there : let a = c.args in is_there a.ex a.part.now a.at ≡ true = sym c.is_there.ensures ∙ c.if-not-is_there.false in
     let w = c.address_width in
-    let s = c.before.before.before.before.before.before in
-    found_at s.args.part.now s.args.ex s.args.at w.result c.number_at-address.result w.ensures.0 (there c.before.before.before) c.number_at-address.ensures.value
+    found_at c.args.part.now c.args.ex c.args.at w.result c.number_at-address.result w.ensures.0 there c.number_at-address.ensures.value

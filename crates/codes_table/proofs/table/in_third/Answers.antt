@@ -1,0 +1,13 @@
+-- The quarter is its rule at every command, by one computation.
+use Prim.Native.Nat.{ℕ, ◌+◌}
+use borrow.Author.Rules.{rules}
+use Rattle.document.specs.Kinds.{kind_of}
+use Rattle.document.specs.Services.{service_of}
+use Rattle.codes_rows.specs.Rows.{row_number}
+use Rattle.codes_rows.specs.Rule.{entry_of}
+use Rattle.codes_table.proofs.Entries.{entry_at}
+use Rattle.codes_table.proofs.table.in_third.Goals as goal
+
+pub returns : goal.returns
+unfolding entry_of kind_of service_of
+returns c = entry_at (λ (k : ℕ). row_number (128 + k)) 0 64 c.args.low c.requires

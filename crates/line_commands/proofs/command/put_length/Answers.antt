@@ -1,0 +1,18 @@
+-- The length byte, where the command has one.
+use mathlib.Core.Path.{refl, sym}
+use native.Mathlib.Omega.{arith}
+use borrow.Author.Tests.{lt-ltb, le-ltb}
+use Rattle.line_wire.proofs.Writing.{progressed_none}
+use borrow.Author.Rules.{rules}
+use Rattle.line_commands.proofs.command.put_length.Goals as goal
+
+pub put-requires : goal.put-requires
+put-requires c = rw (lt-ltb _ _ c.if-command-lt-FIRST_FAST.true) at c.requires.1
+
+pub returns-then-command-lt-FIRST_FAST : goal.returns-then-command-lt-FIRST_FAST
+returns-then-command-lt-FIRST_FAST c = rw (lt-ltb _ _ c.if-command-lt-FIRST_FAST.true) c.put.ensures
+
+pub returns : goal.returns
+returns c =
+    rw (le-ltb _ _ c.if-command-lt-FIRST_FAST.false)
+    (record { progress = sym (progressed_none c.args.from (omega arith)); buffer = refl })

@@ -1,0 +1,6 @@
+-- Field by field what the definition says.
+use borrow.Author.Rules.{rules}
+use Rattle.line_reader.proofs.head.Head.open.Goals as goal
+
+pub returns : goal.returns
+returns c = λ body. simp (c.phase_at.ensures, c.data_length.ensures)

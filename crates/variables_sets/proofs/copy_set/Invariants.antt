@@ -1,0 +1,32 @@
+-- What is left to copy gives the whole: one variable a turn; below the place nothing changes.
+use mathlib.Core.Bool.{true}
+use mathlib.Core.Path.{◌≡◌, refl, ◌∙◌}
+use mathlib.Core.List.{List}
+use Prim.Native.Nat.{ℕ, ◌+◌, ◌-◌, ◌*◌, ◌<◌, ◌≤◌}
+use native.Mathlib.Nat.{add-zero}
+use native.Mathlib.Omega.{arith}
+use lib.ListN.{length, take, drop}
+use borrow.Author.Tests.{leb-true}
+use borrow.Author.Rules.{rules}
+use Rattle.document.specs.Areas.{recorded_end, may_be_recorded, bytes_at}
+use Rattle.document.specs.Values.{number}
+use Rattle.document.specs.Stores.{stored}
+use Rattle.document.specs.Variables.{definitions_in, all_may, set_size, values_of}
+use Rattle.memory_ranges.proofs.Copies.{stored_length}
+use Rattle.variables_sets.proofs.Places.{stored_front, size_first, may_first, variable_kept}
+use Rattle.variables_sets.proofs.copy_set.Given as goal
+
+abbrev pub invariant-loop-left : goal.invariant-loop-left
+invariant-loop-left l =
+    (l.left ≤ l.count)
+    × (l.next + 5 * l.left ≡ l.from + 5 * l.count)
+    × (length l.memory ≡ length l.initial.memory)
+    × (take l.at l.memory ≡ take l.at l.initial.memory)
+    × (all_may may_be_recorded (definitions_in true l.left (drop l.next l.block)) ≡ true)
+    × (l.done + set_size (definitions_in true l.left (drop l.next l.block)) ≡ l.size)
+    × (l.end ≡ l.at + l.size)
+    × (stored l.memory (l.at + l.done) (values_of l.initial.memory (definitions_in true l.left (drop l.next l.block)))
+    ≡ stored l.initial.memory l.at (values_of l.initial.memory (definitions_in true l.count (drop l.from l.block))))
+
+abbrev pub decreases-loop-left : goal.decreases-loop-left
+decreases-loop-left l = l.left
