@@ -13,12 +13,10 @@ put_all-behind-requires c =
 
 pub put_sum-requires : goal.put_sum-requires
 put_sum-requires c =
-    let telling : Telling c.args.status c.args.body.now c.args.out.now c.put_all-behind.result c.put_all-behind.last.1.1.0 = put_append _ _ _ [] c.args.body.now _ _ _ c.begin-front.ensures c.put_all-behind.ensures in
-    let s = @Start@ @After-put-all@ in
-    telling_room s.args.status s.args.body.now s.args.out.now c.put_all-behind.result _ telling s.pre.1 (sum_byte_of (c.put_all-behind.result.sum ∷ []) ∷ []) (omega (arith, s.pre.0))
+    let telling : Telling c.args.status c.args.body.now c.args.out.now c.put_all-behind.result c.put_all-behind.new.out = put_append _ _ _ [] c.args.body.now _ _ _ c.begin-front.ensures c.put_all-behind.ensures in
+    telling_room c.args.status c.args.body.now c.args.out.now c.put_all-behind.result _ telling c.requires.1 (sum_byte_of (c.put_all-behind.result.sum ∷ []) ∷ []) (omega (arith, c.requires.0))
 
 pub returns : goal.returns
 returns c =
-    let telling : Telling c.args.status c.args.body.now c.args.out.now c.put_all-behind.result c.put_all-behind.last.1.1.0 = put_append _ _ _ [] c.args.body.now _ _ _ c.begin-front.ensures c.put_all-behind.ensures in
-    let s = @Start@ @After-put-all@ in
-    told_in_parts s.args.status s.args.body.now s.args.out.now c.put_all-behind.result _ telling c.put_sum.result _ c.put_sum.ensures
+    let telling : Telling c.args.status c.args.body.now c.args.out.now c.put_all-behind.result c.put_all-behind.new.out = put_append _ _ _ [] c.args.body.now _ _ _ c.begin-front.ensures c.put_all-behind.ensures in
+    told_in_parts c.args.status c.args.body.now c.args.out.now c.put_all-behind.result _ telling c.put_sum.result _ c.put_sum.ensures

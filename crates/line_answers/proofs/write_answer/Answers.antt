@@ -13,21 +13,3 @@ unfolding answer_refusal answer_written answer_buffer
 returns-then-not-formed c =
     let formed = c.is_formed-formed.ensures in
     record { result = simp (← formed, c.if-not-formed.true); buffer = simp (← formed, c.if-not-formed.true) }
-
-pub returns-then-short : goal.returns-then-short
-unfolding answer_refusal answer_written answer_buffer
-returns-then-short c =
-    let formed : answer_formed (record { status = c.args.status; body = c.args.body.now }) ≡ true = sym c.is_formed-formed.ensures ∙ c.if-not-formed.false in
-    record { result = simp (formed, c.if-short.true); buffer = simp (formed, c.if-short.true) }
-
-pub tell-requires : goal.tell-requires
-tell-requires c =
-    let formed : answer_formed (record { status = c.args.status; body = c.args.body.now }) ≡ true = sym c.is_formed-formed.ensures ∙ c.if-not-formed.false in
-    (formed_few (record { status = c.args.status; body = c.args.body.now }) formed, ltb-false _ _ c.if-short.false)
-
-pub returns : goal.returns
-unfolding answer_refusal answer_written answer_buffer
-returns c =
-    let formed : answer_formed (record { status = c.args.status; body = c.args.body.now }) ≡ true = sym c.is_formed-formed.ensures ∙ c.if-not-formed.false in
-    let room = c.if-short.false in
-    record { result = simp (formed, room, c.tell.ensures.length); buffer = simp (formed, room) c.tell.ensures.buffer }

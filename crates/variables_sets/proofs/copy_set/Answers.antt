@@ -67,14 +67,14 @@ overflow_add-done c = record { fits = omega (arith, more @After-usize-of-u8@) }
 pub loop-left-preserved : goal.loop-left-preserved
 loop-left-preserved c =
     let s = begun @After-usize-of-u8@ in
-    let l = (turn @After-usize-of-u8@).before.loop in
+    let l = (turn c.loop-left in
     let v = c.copy_variable in
     let bytes = bytes_at l.memory (address @After-usize-of-u8@) (width @After-usize-of-u8@) in (
       omega arith,
       omega arith,
       stored_length l.memory v.new.0 bytes (s.args.at + l.done) v.ensures ∙ l.inv.2,
       stored_front l.memory v.new.0 bytes s.args.at (s.args.at + l.done) (omega arith) v.ensures ∙ l.inv.3,
-      (may @After-usize-of-u8@).1,
+      (may c.1,
       more @After-usize-of-u8@,
       refl,
       variable_kept s.args.block.now l.next l.left (width @After-usize-of-u8@) (address @After-usize-of-u8@) (some @After-usize-of-u8@) c.usize_of_u8-width.ensures.0 (defined @After-usize-of-u8@) s.args.memory.now l.memory v.new.0 s.args.at l.done (omega (arith, below @After-usize-of-u8@)) (omega (arith, below @After-usize-of-u8@)) l.inv.3 v.ensures ∙ l.inv.7,
