@@ -18,6 +18,11 @@ use Rattle.variables_sets.proofs.copy_set.Goals as goal
 
 -- ---- a turn that has read its definition
 
+pub loop-left-init : goal.loop-left-init
+loop-left-init c =
+    let pre = c.requires in
+    (omega arith, refl, refl, refl, pre.recordable.may, omega arith, refl, rw add-zero)
+
 pub copy_variable-requires : goal.copy_variable-requires
 copy_variable-requires c =
     let some : 0 < c.loop-left.left = omega arith in
