@@ -1,5 +1,4 @@
 -- The bytes are the document's, by computation.
-use borrow.Author.Rules.{rules}
 use Rattle.document.specs.Commands.{served}
 use Rattle.serve_answers.proofs.describe.Goals as goal
 

@@ -1,7 +1,6 @@
 -- Front, one word behind the other, sum byte.
 use mathlib.Core.List.{[], ◌∷◌, ◌++◌}
 use native.Mathlib.Omega.{arith}
-use borrow.Author.Rules.{rules}
 use Rattle.document.specs.Numbers.{done}
 use Rattle.document.specs.Sum.{sum_byte_of}
 use Rattle.document.specs.Values.{little_endian}
