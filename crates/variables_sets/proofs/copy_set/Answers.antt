@@ -18,66 +18,45 @@ use Rattle.variables_sets.proofs.copy_set.Goals as goal
 
 -- ---- a turn that has read its definition
 
-module _ (w : tie.After-usize-of-u8 invariant-loop decreases-loop) where
-  abbrev turn : tie.In-loop invariant-loop decreases-loop
-  turn = w.before.before.before.before
-
-  abbrev begun : tie.Start invariant-loop decreases-loop
-  begun = turn.before.before.before.before
-
-  abbrev block : List ℕ
-  block = begun.args.block.now
-
-  abbrev address : ℕ
-  address = w.before.before.usize-of-u32.result
-
-  abbrev width : ℕ
-  width = w.usize-of-u8.result
-
-  some : 0 < turn.before.loop.left
-  some = omega arith
-
-  defined : address ≡ number (bytes_at block (turn.before.loop.next + 1) 4)
-  defined = w.before.before.usize-of-u32.ensures.0 ∙ w.before.before.before.long-at.ensures
-
-  may : (may_be_recorded address width ≡ true)
-      × (all_may may_be_recorded (definitions_in true (turn.before.loop.left - 1) (drop (turn.before.loop.next + 5) block)) ≡ true)
-  may =
-      may_first block turn.before.loop.next turn.before.loop.left width address some w.usize-of-u8.ensures.0 defined may_be_recorded turn.before.loop.inv.4
-
-  below : address + width ≤ recorded_end
-  below = leb-true _ _ may.0
-
-  more : turn.before.loop.done + width + set_size (definitions_in true (turn.before.loop.left - 1) (drop (turn.before.loop.next + 5) block)) ≡ begun.args.size
-  more =
-      omega (arith, size_first block turn.before.loop.next turn.before.loop.left width address some w.usize-of-u8.ensures.0 defined, turn.before.loop.inv.5)
-
 pub loop-left-init : goal.loop-left-init
 loop-left-init c =
     let pre = c.requires in
-    (omega arith, refl, refl, refl, pre.0.may, omega arith, refl, rw add-zero)
+    (omega arith, refl, refl, refl, pre.recordable.may, omega arith, refl, rw add-zero)
 
 pub copy_variable-requires : goal.copy_variable-requires
 copy_variable-requires c =
-    (omega (arith, below @After-usize-of-u8@), omega (arith, more @After-usize-of-u8@), omega arith)
+    let some : 0 < c.loop-left.left = omega arith in
+    let defined : (c.usize_of_u32-address.result) ≡ number (bytes_at (c.args.block.now) (c.loop-left.next + 1) 4) = c.usize_of_u32-address.ensures.0 ∙ c.long_at.ensures in
+    let may : (may_be_recorded (c.usize_of_u32-address.result) (c.usize_of_u8-width.result) ≡ true) × (all_may may_be_recorded (definitions_in true (c.loop-left.left - 1) (drop (c.loop-left.next + 5) (c.args.block.now))) ≡ true) = may_first (c.args.block.now) c.loop-left.next c.loop-left.left (c.usize_of_u8-width.result) (c.usize_of_u32-address.result) some c.usize_of_u8-width.ensures.0 defined may_be_recorded c.loop-left.invariant.4 in
+    let below : (c.usize_of_u32-address.result) + (c.usize_of_u8-width.result) ≤ recorded_end = leb-true _ _ may.0 in
+    let more : c.loop-left.done + (c.usize_of_u8-width.result) + set_size (definitions_in true (c.loop-left.left - 1) (drop (c.loop-left.next + 5) (c.args.block.now))) ≡ c.args.size = omega (arith, size_first (c.args.block.now) c.loop-left.next c.loop-left.left (c.usize_of_u8-width.result) (c.usize_of_u32-address.result) some c.usize_of_u8-width.ensures.0 defined, c.loop-left.invariant.5) in
+    (omega (arith, below), omega (arith, more), omega arith)
 
 pub overflow_add-done : goal.overflow_add-done
-overflow_add-done c = record { fits = omega (arith, more @After-usize-of-u8@) }
+overflow_add-done c =
+    let some : 0 < c.loop-left.left = omega arith in
+    let defined : (c.usize_of_u32-address.result) ≡ number (bytes_at (c.args.block.now) (c.loop-left.next + 1) 4) = c.usize_of_u32-address.ensures.0 ∙ c.long_at.ensures in
+    let more : c.loop-left.done + (c.usize_of_u8-width.result) + set_size (definitions_in true (c.loop-left.left - 1) (drop (c.loop-left.next + 5) (c.args.block.now))) ≡ c.args.size = omega (arith, size_first (c.args.block.now) c.loop-left.next c.loop-left.left (c.usize_of_u8-width.result) (c.usize_of_u32-address.result) some c.usize_of_u8-width.ensures.0 defined, c.loop-left.invariant.5) in
+    record { fits = omega (arith, more) }
 
 pub loop-left-preserved : goal.loop-left-preserved
 loop-left-preserved c =
-    let s = begun @After-usize-of-u8@ in
-    let l = (turn c.loop-left in
+    let some : 0 < c.loop-left.left = omega arith in
+    let defined : (c.usize_of_u32-address.result) ≡ number (bytes_at (c.args.block.now) (c.loop-left.next + 1) 4) = c.usize_of_u32-address.ensures.0 ∙ c.long_at.ensures in
+    let may : (may_be_recorded (c.usize_of_u32-address.result) (c.usize_of_u8-width.result) ≡ true) × (all_may may_be_recorded (definitions_in true (c.loop-left.left - 1) (drop (c.loop-left.next + 5) (c.args.block.now))) ≡ true) = may_first (c.args.block.now) c.loop-left.next c.loop-left.left (c.usize_of_u8-width.result) (c.usize_of_u32-address.result) some c.usize_of_u8-width.ensures.0 defined may_be_recorded c.loop-left.invariant.4 in
+    let below : (c.usize_of_u32-address.result) + (c.usize_of_u8-width.result) ≤ recorded_end = leb-true _ _ may.0 in
+    let more : c.loop-left.done + (c.usize_of_u8-width.result) + set_size (definitions_in true (c.loop-left.left - 1) (drop (c.loop-left.next + 5) (c.args.block.now))) ≡ c.args.size = omega (arith, size_first (c.args.block.now) c.loop-left.next c.loop-left.left (c.usize_of_u8-width.result) (c.usize_of_u32-address.result) some c.usize_of_u8-width.ensures.0 defined, c.loop-left.invariant.5) in
+    let l = c.loop-left in
     let v = c.copy_variable in
-    let bytes = bytes_at l.memory (address @After-usize-of-u8@) (width @After-usize-of-u8@) in (
+    let bytes = bytes_at l.memory (c.usize_of_u32-address.result) (c.usize_of_u8-width.result) in (
       omega arith,
       omega arith,
-      stored_length l.memory v.new.0 bytes (s.args.at + l.done) v.ensures ∙ l.inv.2,
-      stored_front l.memory v.new.0 bytes s.args.at (s.args.at + l.done) (omega arith) v.ensures ∙ l.inv.3,
-      (may c.1,
-      more @After-usize-of-u8@,
+      stored_length l.memory v.new.memory bytes (c.args.at + l.done) v.ensures ∙ l.invariant.2,
+      stored_front l.memory v.new.memory bytes c.args.at (c.args.at + l.done) (omega arith) v.ensures ∙ l.invariant.3,
+      may.1,
+      more,
       refl,
-      variable_kept s.args.block.now l.next l.left (width @After-usize-of-u8@) (address @After-usize-of-u8@) (some @After-usize-of-u8@) c.usize_of_u8-width.ensures.0 (defined @After-usize-of-u8@) s.args.memory.now l.memory v.new.0 s.args.at l.done (omega (arith, below @After-usize-of-u8@)) (omega (arith, below @After-usize-of-u8@)) l.inv.3 v.ensures ∙ l.inv.7,
+      variable_kept c.args.block.now l.next l.left (c.usize_of_u8-width.result) (c.usize_of_u32-address.result) some c.usize_of_u8-width.ensures.0 defined c.args.memory.now l.memory v.new.memory c.args.at l.done (omega (arith, below)) (omega (arith, below)) l.invariant.3 v.ensures ∙ l.invariant.7,
     )
 
 pub returns : goal.returns

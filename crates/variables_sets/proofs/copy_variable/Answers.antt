@@ -11,11 +11,12 @@ use Rattle.document.specs.Areas.{bytes_at}
 use Rattle.variables_sets.proofs.Places.{part_set, byte_kept}
 use Rattle.variables_sets.proofs.copy_variable.Goals as goal
 
-pub loop-i-init : goal.loop-i-init
-loop-i-init c = (search rules, refl, refl, rw add-zero)
-
-pub returns : goal.returns
-returns c =
+pub loop-i-preserved : goal.loop-i-preserved
+loop-i-preserved c =
     let a = c.args in
-    let h : length (bytes_at a.memory.now a.from a.size) ≤ c.loop-i.i = rw length-take (omega arith) in
-    rw (drop_of_length-le _ h) at c.loop-i.invariant.3
+    let l = c.loop-i in
+    let k = c.keep in
+    let e : take a.at l.memory ++ (k.new.place ++ drop (a.end - a.at) (drop a.at l.memory)) ≡ set l.memory (a.at + (a.done + l.i)) (get_or l.memory (a.from + l.i) 0) =
+    rw k.ensures (part_set l.memory a.at (a.end - a.at) (a.done + l.i) _ (omega arith)) in
+    let g = byte_kept a.memory.now l.memory _ a.at a.done a.from a.size l.i _ (search rules) (omega arith) (omega arith) e refl l.invariant.2 in
+    (search rules, g.0 ∙ l.invariant.1, g.1, g.2 ∙ l.invariant.3)

@@ -20,3 +20,13 @@ returns-then-mode-eq-FALLING c address =
     let mode = c.args.mode in
     rw (ne_eqb mode 1 c.if-mode-eq-RISING.false, eq-eqb mode 2 c.if-mode-eq-FALLING.true)
     (at_most_handed _ _ _ _ (record { sfits = now.type_inv }) (record { sfits = edge.type_inv }) now.ensures edge.ensures)
+
+pub returns-then-mode-eq-NO_TRIGGER : goal.returns-then-mode-eq-NO_TRIGGER
+unfolding is_beyond
+returns-then-mode-eq-NO_TRIGGER c address = rw c.if-mode-eq-NO_TRIGGER.true
+
+pub returns : goal.returns
+unfolding is_beyond
+returns c address =
+    let mode = c.args.mode in
+    rw (ne_eqb mode 1 c.if-mode-eq-RISING.false, ne_eqb mode 2 c.if-mode-eq-FALLING.false)
