@@ -35,3 +35,11 @@ returns c =
     let measure = c.measure-recorded in
     let if3 = c.if-not-recorded in
     let w = ap (λ (m : Measured). m.within) (sym measure.ensures.0) ∙ not-false _ if3.false in (λ i. leb ((c.usize_of_u16.ensures.0 ∙ c.word_at.ensures) i * measure.result.size) 4096) ∙ size_decides args.block.now _ wide.result wide.ensures.0 if1.false if2.false measure.result.size w (ap (λ (m : Measured). m.size) measure.ensures.0 ∙ rw w refl)
+
+pub returns-then-not-recorded : goal.returns-then-not-recorded
+returns-then-not-recorded c =
+    let args = c.args in
+    let wide = c.usize_of_u8-count in
+    let if1 = c.if-count-eq0 in
+    let if2 = c.if-count-gt-MOST_VARIABLES in
+    outside_recorded args.block.now _ wide.result wide.ensures.0 if1.false if2.false (ap (λ (m : Measured). m.within) (sym c.measure-recorded.ensures.0) ∙ not-true _ c.if-not-recorded.true)
