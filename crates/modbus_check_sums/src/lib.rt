@@ -1,4 +1,6 @@
 // The check sum of the second port's frames, a byte at a time by a table.
+#![tactic(auto)]
+
 mod table;
 
 ghost use Rattle.std.specs.Prelude.{◌≡◌, ◌%◌, ◌<◌};

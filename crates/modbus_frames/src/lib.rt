@@ -1,4 +1,6 @@
 // What a frame of the second port says: whether it gets silence, which function it asks for, and with which exception it is refused.
+#![tactic(auto)]
+
 mod addresses;
 mod exceptions;
 mod fields;

@@ -1,4 +1,6 @@
 // A list of tables over the memory, checked before it is registered.
+#![tactic(auto)]
+
 mod entries;
 mod pairs;
 mod places;
