@@ -1,4 +1,6 @@
 // The one way to write an answer: straight into the lent buffer, so that no second copy of it is held.
+#![tactic(auto)]
+
 ghost use Rattle.std.specs.Prelude.{◌≡◌, [], ◌≤◌, length};
 ghost use Rattle.document.specs.Numbers.{most_data, answer_room};
 ghost use Rattle.document.specs.AnswerWriter.{answer_formed};

@@ -1,15 +1,15 @@
 -- What every byte leaves of a reader: idle where it finished an answer, right or wrong, and room for as many data as before.
-use mathlib.Core.Path.{◌≡◌, refl, sym, ap, ◌∙◌}
-use mathlib.Core.Bool.{Bool, true, false, cond}
+use mathlib.Core.Path.{◌≡◌, refl, ap, ◌∙◌}
+use mathlib.Core.Bool.{Bool, true, false}
 use mathlib.Core.List.{List, [], ◌∷◌, foldl}
-use Prim.Native.Nat.{ℕ, ◌+◌, ◌%◌}
+use Prim.Native.Nat.{ℕ}
 use lib.Dec.{eqb}
 use lib.ListN.{length, length-set}
 use Rattle.document.specs.Numbers.{most_data}
 use Rattle.document.specs.AnswerReader.{Brought}
 use Rattle.document.specs.AnswerReader.Brought.{nothing, answer, wrong}
 use Rattle.document.proofs.Cases.{split, neither}
-use Rattle.line_reader.specs.Reader.{AnswerReader, Step, idle, in_data, at_sum, fresh, literal, stepped, reader_after}
+use Rattle.line_reader.specs.Reader.{AnswerReader, idle, in_data, at_sum, fresh, literal, stepped, reader_after}
 
 -- whether something was brought
 abbrev pub is_whole : Brought → Bool

@@ -1,7 +1,6 @@
 -- The two bytes in front, and nothing of the data.
 use mathlib.Core.Path.{refl, sym}
 use native.Mathlib.Omega.{arith}
-use borrow.Author.Rules.{rules}
 use lib.ListN.{length-set}
 use Rattle.line_wire.specs.Put.{front}
 use Rattle.line_wire.proofs.Writing.{progressed_none}

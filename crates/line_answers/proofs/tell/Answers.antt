@@ -1,7 +1,6 @@
 -- An answer is told front, data, sum byte; with few data it is short enough for the room.
 use mathlib.Core.List.{[], ◌∷◌}
 use native.Mathlib.Omega.{arith}
-use borrow.Author.Rules.{rules}
 use Rattle.document.specs.Sum.{sum_byte_of}
 use Rattle.line_wire.specs.Told.{Telling}
 use Rattle.line_wire.proofs.Writing.{put_append, telling_room, told_in_parts}

@@ -3,7 +3,6 @@ use mathlib.Core.Path.{refl, sym}
 use native.Mathlib.Omega.{arith}
 use borrow.Author.Tests.{lt-ltb, le-ltb}
 use Rattle.line_wire.proofs.Writing.{progressed_none}
-use borrow.Author.Rules.{rules}
 use Rattle.line_commands.proofs.command.put_length.Goals as goal
 
 pub put-requires : goal.put-requires

@@ -5,7 +5,7 @@ use mathlib.Core.Bool.{true}
 use mathlib.Core.List.{List, [], ◌∷◌}
 use Prim.Native.Nat.{ℕ, ◌+◌, ◌≤◌}
 use native.Mathlib.Omega.{arith}
-use borrow.Author.Tests.{ltb-false, not-false}
+use borrow.Author.Tests.{ltb-false}
 use lib.ListN.{length, length-set}
 use lib.Seq.{sets}
 use Rattle.document.specs.Doubling.{stuffed}
@@ -17,7 +17,6 @@ use Rattle.line_wire.specs.Put.{front}
 use Rattle.line_wire.proofs.Writing.{put_append, written_length, written_buffer}
 use Rattle.line_measure.proofs.Parts.{between, command_framed, command_length, behind_sum}
 use Rattle.line_commands.proofs.Commands.{formed_short, command_taken, command_written_lem, command_buffer_lem}
-use borrow.Author.Rules.{rules}
 use Rattle.line_commands.proofs.command.write_command.Goals as goal
 
 pub returns-then-not-formed : goal.returns-then-not-formed
@@ -31,8 +30,7 @@ returns-then-not-formed c =
 pub is_short-short-requires : goal.is_short-short-requires
 is_short-short-requires c =
     let formed : well_formed (summed c.args.command c.args.body.now) ≡ true = sym c.is_formed-formed.ensures ∙ c.if-not-formed.false in
-    let few : length c.args.body.now ≤ 255 = let a = c.args in
-    formed_short a.command a.body.now formed in
+    let few : length c.args.body.now ≤ 255 = formed_short c.args.command c.args.body.now formed in
     few
 
 pub returns-then-short : goal.returns-then-short
@@ -46,39 +44,38 @@ returns-then-short c =
 pub bounds-out-0 : goal.bounds-out-0
 bounds-out-0 c =
     let room : length (command_on_wire c.args.command c.args.body.now) ≤ length c.args.out.now = ltb-false (length c.args.out.now) _ (sym c.is_short-short.ensures ∙ c.if-short.false) in
-    let parts : 2 + length (stuffed (length_part c.args.command c.args.body.now)) + length (stuffed c.args.body.now) + length (stuffed (sum_byte_of c.args.command ∷ between c.args.command c.args.body.now) ∷ [])) ≤ length c.args.out.now = omega (arith, room, command_length c.args.command c.args.body.now) in
+    let parts : 2 + length (stuffed (length_part c.args.command c.args.body.now)) + length (stuffed c.args.body.now) + length (stuffed (sum_byte_of (c.args.command ∷ between c.args.command c.args.body.now) ∷ [])) ≤ length c.args.out.now = omega (arith, room, command_length c.args.command c.args.body.now) in
     omega (arith, parts)
 
 pub bounds-out-1 : goal.bounds-out-1
 bounds-out-1 c =
     let room : length (command_on_wire c.args.command c.args.body.now) ≤ length c.args.out.now = ltb-false (length c.args.out.now) _ (sym c.is_short-short.ensures ∙ c.if-short.false) in
-    let parts : 2 + length (stuffed (length_part c.args.command c.args.body.now)) + length (stuffed c.args.body.now) + length (stuffed (sum_byte_of c.args.command ∷ between c.args.command c.args.body.now) ∷ [])) ≤ length c.args.out.now = omega (arith, room, command_length c.args.command c.args.body.now) in
+    let parts : 2 + length (stuffed (length_part c.args.command c.args.body.now)) + length (stuffed c.args.body.now) + length (stuffed (sum_byte_of (c.args.command ∷ between c.args.command c.args.body.now) ∷ [])) ≤ length c.args.out.now = omega (arith, room, command_length c.args.command c.args.body.now) in
     simp length-set (omega (arith, parts))
 
 pub put_length-before-requires : goal.put_length-before-requires
 put_length-before-requires c =
     let formed : well_formed (summed c.args.command c.args.body.now) ≡ true = sym c.is_formed-formed.ensures ∙ c.if-not-formed.false in
-    let few : length c.args.body.now ≤ 255 = let a = c.args in
-    formed_short a.command a.body.now formed in
+    let few : length c.args.body.now ≤ 255 = formed_short c.args.command c.args.body.now formed in
     let room : length (command_on_wire c.args.command c.args.body.now) ≤ length c.args.out.now = ltb-false (length c.args.out.now) _ (sym c.is_short-short.ensures ∙ c.if-short.false) in
-    let parts : 2 + length (stuffed (length_part c.args.command c.args.body.now)) + length (stuffed c.args.body.now) + length (stuffed (sum_byte_of c.args.command ∷ between c.args.command c.args.body.now) ∷ [])) ≤ length c.args.out.now = omega (arith, room, command_length c.args.command c.args.body.now) in
+    let parts : 2 + length (stuffed (length_part c.args.command c.args.body.now)) + length (stuffed c.args.body.now) + length (stuffed (sum_byte_of (c.args.command ∷ between c.args.command c.args.body.now) ∷ [])) ≤ length c.args.out.now = omega (arith, room, command_length c.args.command c.args.body.now) in
     (few, simp length-set (omega (arith, parts)))
 
 pub put_all-behind-requires : goal.put_all-behind-requires
 put_all-behind-requires c =
     let room : length (command_on_wire c.args.command c.args.body.now) ≤ length c.args.out.now = ltb-false (length c.args.out.now) _ (sym c.is_short-short.ensures ∙ c.if-short.false) in
-    let parts : 2 + length (stuffed (length_part c.args.command c.args.body.now)) + length (stuffed c.args.body.now) + length (stuffed (sum_byte_of c.args.command ∷ between c.args.command c.args.body.now) ∷ [])) ≤ length c.args.out.now = omega (arith, room, command_length c.args.command c.args.body.now) in
+    let parts : 2 + length (stuffed (length_part c.args.command c.args.body.now)) + length (stuffed c.args.body.now) + length (stuffed (sum_byte_of (c.args.command ∷ between c.args.command c.args.body.now) ∷ [])) ≤ length c.args.out.now = omega (arith, room, command_length c.args.command c.args.body.now) in
     let a = c.args in
-    let kept : length c.put_length-before.new.1.1.1.0 ≡ length a.out.now = c.put_length-before.auto.1.1.1.0 ∙ simp length-set in
+    let kept : length c.put_length-before.new.out ≡ length a.out.now = c.put_length-before.auto.out ∙ simp length-set in
     let at : c.put_length-before.result.at ≡ 2 + length (stuffed (length_part a.command a.body.now)) = ap (λ (q : Progress). q.at) c.put_length-before.ensures.progress in
     omega (arith, parts)
 
 pub put_sum-end-requires : goal.put_sum-end-requires
 put_sum-end-requires c =
     let room : length (command_on_wire c.args.command c.args.body.now) ≤ length c.args.out.now = ltb-false (length c.args.out.now) _ (sym c.is_short-short.ensures ∙ c.if-short.false) in
-    let parts : 2 + length (stuffed (length_part c.args.command c.args.body.now)) + length (stuffed c.args.body.now) + length (stuffed (sum_byte_of c.args.command ∷ between c.args.command c.args.body.now) ∷ [])) ≤ length c.args.out.now = omega (arith, room, command_length c.args.command c.args.body.now) in
+    let parts : 2 + length (stuffed (length_part c.args.command c.args.body.now)) + length (stuffed c.args.body.now) + length (stuffed (sum_byte_of (c.args.command ∷ between c.args.command c.args.body.now) ∷ [])) ≤ length c.args.out.now = omega (arith, room, command_length c.args.command c.args.body.now) in
     let a = c.args in
-    let kept : length c.put_all-behind.new.1.1.0 ≡ length a.out.now = c.put_all-behind.auto.1.1.0 ∙ c.put_length-before.auto.1.1.1.0 ∙ simp length-set in
+    let kept : length c.put_all-behind.new.out ≡ length a.out.now = c.put_all-behind.auto.out ∙ c.put_length-before.auto.out ∙ simp length-set in
     let before : c.put_length-before.result.at ≡ 2 + length (stuffed (length_part a.command a.body.now)) = ap (λ (t : Progress). t.at) c.put_length-before.ensures.progress in
     let behind : c.put_all-behind.result.at ≡ c.put_length-before.result.at + length (stuffed a.body.now) = ap (λ (t : Progress). t.at) c.put_all-behind.ensures.progress in
     rw
@@ -87,7 +84,7 @@ put_sum-end-requires c =
 
 pub shape_of-out : goal.shape_of-out
 shape_of-out c =
-    c.put_sum-end.auto.1.0 ∙ c.put_all-behind.auto.1.1.0 ∙ c.put_length-before.auto.1.1.1.0 ∙ simp length-set
+    c.put_sum-end.auto.out ∙ c.put_all-behind.auto.out ∙ c.put_length-before.auto.out ∙ simp length-set
 
 pub returns : goal.returns
 returns c =
@@ -96,9 +93,9 @@ returns c =
     let r = c.put_sum-end in
     let a = c.args in
     let ls = between a.command a.body.now in
-    let put = put_append (front a.command) c.put_length-before.result c.put_all-behind.result (length_part a.command a.body.now) a.body.now _ c.put_length-before.new.1.1.1.0 c.put_all-behind.new.1.1.0 c.put_length-before.ensures c.put_all-behind.ensures in
-    let length-is = written_length a.command ls a.out.now c.put_all-behind.new.1.1.0 r.new.1.0 c.put_all-behind.result r.result put r.ensures in
-    let buffer_is = written_buffer a.command ls a.out.now c.put_all-behind.new.1.1.0 r.new.1.0 c.put_all-behind.result r.result put r.ensures in
+    let put = put_append (front a.command) c.put_length-before.result c.put_all-behind.result (length_part a.command a.body.now) a.body.now _ c.put_length-before.new.out c.put_all-behind.new.out c.put_length-before.ensures c.put_all-behind.ensures in
+    let length-is = written_length a.command ls a.out.now c.put_all-behind.new.out r.new.out c.put_all-behind.result r.result put r.ensures in
+    let buffer_is = written_buffer a.command ls a.out.now c.put_all-behind.new.out r.new.out c.put_all-behind.result r.result put r.ensures in
     let taken_is = command_taken a.command a.body.now a.out.now formed room in
     let written_is = command_written_lem a.command a.body.now a.out.now formed room in
     let left_is = command_buffer_lem a.command a.body.now a.out.now formed room in

@@ -1,6 +1,4 @@
 -- The sum decides.
-use native.Mathlib.Omega.{arith}
-use borrow.Author.Rules.{rules}
 use Rattle.line_reader.proofs.head.Head.finish.Goals as goal
 
 pub returns-then-right : goal.returns-then-right

@@ -2,7 +2,6 @@
 use mathlib.Core.Path.{ap, ◌∙◌}
 use Prim.Native.Nat.{ℕ}
 use borrow.Author.Tests.{lt-leb, le-leb}
-use borrow.Author.Rules.{rules}
 use Rattle.line_reader.specs.Reader.{sound, sound_at}
 use Rattle.line_reader.proofs.head.Head.is_sound.Goals as goal
 

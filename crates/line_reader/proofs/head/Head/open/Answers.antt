@@ -1,5 +1,4 @@
 -- Field by field what the definition says.
-use borrow.Author.Rules.{rules}
 use Rattle.line_reader.proofs.head.Head.open.Goals as goal
 
 pub returns : goal.returns

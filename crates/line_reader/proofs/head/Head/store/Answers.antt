@@ -1,6 +1,5 @@
 -- Field by field what the definition says; the place is one of 64.
 use native.Mathlib.Omega.{arith}
-use borrow.Author.Rules.{rules}
 use Rattle.line_reader.proofs.head.Head.store.Goals as goal
 
 pub returns : goal.returns
