@@ -1,6 +1,5 @@
 -- Too short, too long an expectation, or begun.
-use borrow.Author.Rules.{rules}
-use Rattle.call_reader.proofs.Readings.{begin_short, begin_refused, begun}
+use Rattle.call_reader.proofs.Readings.{begin_short, begin_refused}
 use Rattle.call_reader.proofs.calls.begin.Goals as goal
 
 pub returns-then-reader-lt-READER_LENGTH : goal.returns-then-reader-lt-READER_LENGTH

@@ -1,8 +1,6 @@
 -- The length, the bounds, the room, in turn.
 use mathlib.Core.List.{[]}
 use mathlib.Core.Path.{sym, ap, ◌∙◌}
-use borrow.Author.Tests.{not-true, not-false}
-use borrow.Author.Rules.{rules}
 use Rattle.document.specs.Areas.{bytes_at}
 use Rattle.line_reader.proofs.Heads.{sound_head}
 use Rattle.line_reader.specs.Reader as host

@@ -4,7 +4,6 @@ use mathlib.Core.Path.{ap, ◌∙◌}
 use Prim.Native.Nat.{ℕ}
 use lib.ListN.{replicate}
 use lib.Seq.{sets}
-use borrow.Author.Rules.{rules}
 use Rattle.call_reader.specs.Layout.{encoded_reader}
 use Rattle.call_reader.proofs.head.begin_reader.Goals as goal
 

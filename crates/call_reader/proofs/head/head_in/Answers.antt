@@ -1,6 +1,5 @@
 -- Each field as it was read.
 use mathlib.Core.Path.{refl}
-use borrow.Author.Rules.{rules}
 use Rattle.call_reader.specs.Layout.{decoded_reader}
 use Rattle.call_reader.proofs.head.head_in.Goals as goal
 
