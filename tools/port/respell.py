@@ -82,7 +82,7 @@ def renamed(root):
     return table, fields
 
 
-def turn_text(text, table, fields):
+def turn_text(text, table, fields, aliases=()):
     out, last = [], 0
     for m in WORD.finditer(text):
         word = m.group(0)
@@ -92,7 +92,7 @@ def turn_text(text, table, fields):
         before = text[m.start() - 1] if m.start() else " "
         if before == "." and "-" in word and word not in fields:
             path = re.search(r"[^\s(){}]*$", text[: m.start()]).group(0)
-            if not path.startswith("Rattle."):
+            if not path.startswith("Rattle.") and path[:-1] not in aliases:
                 continue
         out += [text[last : m.start()], new]
         last = m.end()
@@ -104,15 +104,15 @@ def turn_quoted(text, table, fields):
     return re.sub(r"`[^`\n]+`", lambda m: turn_text(m.group(0), table, fields), text)
 
 
-def turn_line(line, comment, table, fields):
+def turn_line(line, comment, table, fields, aliases):
     cut = line.find(comment) if comment else -1
     while cut > 0 and comment == "--" and not line[:cut].isspace() and line[cut - 1] != " ":
         cut = line.find(comment, cut + 1)
     if cut < 0:
-        return turn_text(line, table, fields)
+        return turn_text(line, table, fields, aliases)
     only_camel = {k: v for k, v in table.items() if "-" not in k}
     code, said = line[:cut], line[cut:]
-    return turn_text(code, table, fields) + turn_text(turn_quoted(said, table, fields), only_camel, fields)
+    return turn_text(code, table, fields, aliases) + turn_text(turn_quoted(said, table, fields), only_camel, fields)
 
 
 def turn(root):
@@ -126,10 +126,11 @@ def turn(root):
         is_crate = inside.startswith("crates/")
         if is_crate and comment:
             lines = open(path, encoding="utf-8").read().split("\n")
+            aliases = {m.group(1) for x in lines if (m := re.search(r"\buse \S+ as (\S+)$", x))}
             if comment == "#":
-                new = [turn_line(x, "#" if x.startswith("#") else None, table, fields) for x in lines]
+                new = [turn_line(x, "#" if x.startswith("#") else None, table, fields, aliases) for x in lines]
             else:
-                new = [turn_line(x, comment, table, fields) for x in lines]
+                new = [turn_line(x, comment, table, fields, aliases) for x in lines]
             new = "\n".join(new)
         elif inside == "README.md" or (inside.startswith("docs/") and inside.endswith(".md")):
             new = turn_quoted(open(path, encoding="utf-8").read(), table, fields)

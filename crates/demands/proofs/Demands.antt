@@ -140,10 +140,10 @@ demand_1_handed_out = handed_out_bounded
 
 -- "show that two outcomes allowed by one promise are equal"
 pub one_outcome : (l : Lent) (c : Call) (o k : Outcome) → Promised l c o → Promised l c k → o ≡ k
-one_outcome = settled.one-outcome
+one_outcome = settled.one_outcome
 
 pub demand_1_check : (block : List ℕ) (r : ℕ) → Checked block r → CheckRefused block r
-demand_1_check = wire.check-refused
+demand_1_check = wire.check_refused
 
 -- "Bytes of it behind the answer keep their values; without an answer, all do.": and 256 bytes are room for every answer
 pub demand_1_modbus_behind : (l : Lent) (station : ℕ) (bytes : List ℕ) (o : Outcome) → Promised l (Call.frame station bytes) o
@@ -153,22 +153,22 @@ demand_1_modbus_behind l station bytes o p = modbus_behind l o station bytes p
 -- both ends of the line: the answer writer, the command writer, the answer reader
 pub demand_1_answer : (a : Answer) (before : List ℕ) (r : Written) (after : List ℕ) → AnswerWritten a before r after
     → WriteRefused (answer_refusal a before) before r after
-demand_1_answer = both_ends.answer-refused
+demand_1_answer = both_ends.answer_refused
 
 pub demand_1_command : (command : ℕ) (body before : List ℕ) (r : Written) (after : List ℕ) → CommandWritten command body before r after
     → WriteRefused (command_refusal command body before) before r after
-demand_1_command = both_ends.command-refused
+demand_1_command = both_ends.command_refused
 
 pub demand_1_begin : (block : List ℕ) (expected r : ℕ) (after : List ℕ) → BeginDone block expected r after → BeginRefused block expected r after
-demand_1_begin = both_ends.begin-refused
+demand_1_begin = both_ends.begin_refused
 
 pub demand_1_read : (block : List ℕ) (b : ℕ) (buffer : List ℕ) (r : ReadByte) (after told : List ℕ) → ReadDone block b buffer r after told
     → ReadRefused block b buffer r after told
-demand_1_read = both_ends.read-refused
+demand_1_read = both_ends.read_refused
 
 -- on the wire
 pub demand_1_wire : (g : Gate) (m : Message) → WireRefused g m
-demand_1_wire = wire.wire-refused
+demand_1_wire = wire.wire_refused
 
 -- a refused call along a run consumes nothing: block, memory, answers of both ports and commands are as before
 pub demand_1_refused : (h next : Board) → Refuses h next → next ≡ h
@@ -260,17 +260,17 @@ module _ (block memory : List ℕ) (tables : List Table) (after : List ℕ) (lon
     -- "State, memory and answers equal those of giving the same bytes singly.": the bytes that it takes, each given by a call of its
     -- own, come to the same board
     pub block_singly : Singly h (came (took_of call.made.outcome.left) bytes) next
-    block_singly = blocks.block-singly h reached there bytes all next call
+    block_singly = blocks.block_singly h reached there bytes all next call
 
     -- "It takes bytes while 132 bytes of room are left, and no longer, and reports bytes taken and bytes written.": as the definition
     -- has it, and every byte of the lent buffer is settled
     pub demand_2_block : BlockAsDefined (after_all (since (gate tables memory)) first) bytes call.made.buffer call.made.outcome.left next
-    demand_2_block = blocks.block-means h reached there bytes all next call
+    demand_2_block = blocks.block_means h reached there bytes all next call
 
     -- it takes all of them, unless the room that is left is too short for another answer
     pub block_takes_all : answer_room ≤ length call.made.buffer - wrote_of call.made.outcome.left → took_of call.made.outcome.left ≡ length bytes
     block_takes_all enough =
-        let stood = blocks.block-means h reached there bytes all next call in
+        let stood = blocks.block_means h reached there bytes all next call in
         stood.taken ∙ block_stops bytes reached (length call.made.buffer) (subst (λ (n : ℕ). answer_room ≤ length call.made.buffer - n) stood.written enough)
 
   -- ---- Modbus on the second port (2026-07): demands 2 and 3 read the memory as both ports left it, since a frame is one of the things
@@ -427,7 +427,7 @@ module _ (block memory : List ℕ) (tables : List Table) (after : List ℕ) (lon
         → AllUndisturbed reached (hs ++ aside tick ∷ fs)
         → TraceKept p last (length (sets_taken p (memories_left h.memory (events reached (hs ++ aside tick ∷ fs))))) (set_of p mid.memory)
     trace_kept run-now has triggers few fs last later then quiet =
-        trace.set-kept h reached there p just hs mid more on fs last later then quiet run-now has triggers few
+        trace.set_kept h reached there p just hs mid more on fs last later then quiet run-now has triggers few
 
     module _ (quiet : AllUnstarted reached hs) where
       -- "The start index is 0 until 'samples' sets are taken, then the place that would be written next."
@@ -439,34 +439,34 @@ module _ (block memory : List ℕ) (tables : List Table) (after : List ℕ) (lon
           → finished_by (bytes_of first ++ bytes_of hs) b ≡ m ∷ rest → m.command ≡ cond ex 0xC9 0xC4 → refusal (gate_in mid) m ≡ done
           → OnlySaid (query_answer (address_width ex) (index_after p.samples (length (sets_taken p (memories_left h.memory (events reached hs)))))) mid last
       start_index_told ex b last small step m rest finished =
-          trace.index-told h reached there p just hs mid more on quiet ex b last small step m rest (ap (λ (l : List ℕ). finished_by (l ++ bytes_of hs) b) reached_bytes ∙ finished)
+          trace.index_told h reached there p just hs mid more on quiet ex b last small step m rest (ap (λ (l : List ℕ). finished_by (l ++ bytes_of hs) b) reached_bytes ∙ finished)
 
       -- with mode 0 it runs until a stop
       pub recorder_mode_0 : p.trigger.mode ≡ 0 → Unstopped (events reached hs) → RunsOn p mid true
-      recorder_mode_0 = trace.mode-0-on h reached there p just hs mid more on quiet
+      recorder_mode_0 = trace.mode_0_on h reached there p just hs mid more on quiet
 
   -- a coil at 0x8000 when the recorder starts, a rising trigger of 2 bytes: the trigger comes at the first set where the sign is 0 and
   -- the threshold not above it; with sign 1 and a threshold that is not below 0 it does not
   module _ (p : Plan) (just : (gate_in h).recorder ≡ planned p started) (reads : trigger_value p.trigger h.memory ≡ 0x8000) (last : Board) (step : Step h (aside tick) last) where
     pub saturated_fires : RisingWord p.trigger 0 → p.trigger.threshold ≤ 0x8000 → Watches p last (triggered p.post_trigger)
-    saturated_fires = trace.saturated-comes h reached there p just last step reads
+    saturated_fires = trace.saturated_comes h reached there p just last step reads
 
     pub saturated_signed : RisingWord p.trigger 1 → p.trigger.threshold < 0x8000 → Watches p last (previous 0x8000)
-    saturated_signed = trace.saturated-waits h reached there p just last step reads
+    saturated_signed = trace.saturated_waits h reached there p just last step reads
 
   -- a stopped recorder's trace stays, whatever either port brings
   pub stopped_stays : (p : Plan) (run-now : DocumentRun) → (gate_in h).recorder ≡ planned p run-now → run-now.running ≡ false → (hs : List Happening) (last : Board)
       → AreBytes hs → Run h hs last → AllUndisturbed reached hs → TraceStays h last
-  stopped_stays = trace.trace-stays h reached there
+  stopped_stays = trace.trace_stays h reached there
 
   -- a tick that takes no set, since the recorder waits or is stopped or there is none, leaves every byte of the memory
   pub tick_takes_nothing : (last : Board) → Step h (aside tick) last → takes_set (gate_in h).recorder ≡ false → last.memory ≡ h.memory
-  tick_takes_nothing = trace.memory-stays h reached there
+  tick_takes_nothing = trace.memory_stays h reached there
 
   -- "A recorder prepared and not started since" (2026-06): it is that after whatever happens
   module _ (setup : List ℕ) (has : (gate_in h).recorder ≡ recorder_prepared false setup) (hs : List Happening) (mid : Board) (more : AreBytes hs) (on : Run h hs mid) (quiet : AllUnstarted reached hs) where
     pub prepared_stays : (gate_in mid).recorder ≡ recorder_prepared false setup
-    prepared_stays = trace.prepared-then h reached there setup has hs mid more on quiet
+    prepared_stays = trace.prepared_then h reached there setup has hs mid more on quiet
 
     module _ (b : ℕ) (last : Board) (small : b < 256) (step : Step mid (byte b) last) (m : Message) (rest : List Message)
         (finished : finished_by (bytes_of first ++ bytes_of hs) b ≡ m ∷ rest) (so_far : unrefused_so_far m ≡ true) where
@@ -475,10 +475,10 @@ module _ (block memory : List ℕ) (tables : List Table) (after : List ℕ) (lon
 
       -- it "answers 0x02 to 0xC3 and start index 0 to 0xC4"
       pub prepared_status_lem : m.command ≡ 0xC3 → OnlySaid (status_answer false) mid last
-      prepared_status_lem = trace.prepared-stopped h reached there setup has hs mid more on quiet b last small step m rest finished_mid so_far
+      prepared_status_lem = trace.prepared_stopped h reached there setup has hs mid more on quiet b last small step m rest finished_mid so_far
 
       pub prepared_index : (ex : Bool) → m.command ≡ cond ex 0xC9 0xC4 → OnlySaid (query_answer (address_width ex) 0) mid last
-      prepared_index = trace.prepared-at-0 h reached there setup has hs mid more on quiet b last small step m rest finished_mid so_far
+      prepared_index = trace.prepared_at_0 h reached there setup has hs mid more on quiet b last small step m rest finished_mid so_far
 
   -- "then the result": from its report on 0xC6 answers it, whatever happens, until another 0x10 is accepted
   module _ (result : ℕ) (reported : Board) (report : Step h (aside (reports result)) reported) (hs : List Happening) (before : Board) (more : AreBytes hs) where
@@ -532,7 +532,7 @@ module _ (tables : List Table) (memory memory' : List ℕ) (hs ks : List Happeni
 
 -- ".. with a right sum ..": of a message whose sum is wrong the definition carries nothing out, it says 0x82 and leaves the gate
 pub demand_3_sum : (g : Gate) (m : Message) → sum_right m ≡ false → answered g m ≡ says g sum_wrong []
-demand_3_sum = wire.sum-refused
+demand_3_sum = wire.sum_refused_lem
 
 -- an accepted start, by a setup or by 0xC1, leaves a plan at its start: the premise above
 pub recorder_starts : (g : Gate) (m : Message) → is_start g m ≡ true → Begins g m
@@ -542,12 +542,12 @@ recorder_starts = start_begins
 -- says of it behind the bytes taken, and an answer whose sum is wrong leaves the reader idle
 pub reader_run : (block : List ℕ) (n r : ℕ) (begun : List ℕ) → BeginDone block n r begun → r ≡ taken → (bs last : List ℕ) → Readings begun bs last
     → (b : ℕ) (next : List ℕ) (call : ByRead last b next) → most_data ≤ length call.buffer → Reads n bs b call.buffer call.result next call.told
-reader_run = readings.readings-give
+reader_run = readings.readings_give
 
 -- "6 a finished answer whose sum is wrong": since a reading began, a call says 6 exactly then
 pub reader_sum_exactly : (n : ℕ) (bs last : List ℕ) → ReadSince n bs last → (b : ℕ) (next : List ℕ) (call : ByRead last b next)
     → SixExactly n bs b call.buffer call.result
-reader_sum_exactly n bs last since = readings.six-exactly since.lent n since.number since.begun since.promised since.fine bs last since.run
+reader_sum_exactly n bs last since = readings.six_exactly since.lent n since.number since.begun since.promised since.fine bs last since.run
 
 -- ---- "Bytes behind the command, or all when nothing is new, keep their values.": refused or not (2026-01)
 pub collect_behind : (l : Lent) (o : Outcome) → Promised l Call.collect o → BehindKept most_data l.buffer (length_of o.left) o.left.buffer

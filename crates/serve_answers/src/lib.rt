@@ -1,4 +1,6 @@
 // The answers that need no more than a status or bytes that stand in one place, and those that ask nothing of the gate.
+#![tactic(auto)]
+
 mod words;
 
 ghost use Rattle.std.specs.Prelude.{List, [], ℕ, ◌≤◌, length};

@@ -1,4 +1,6 @@
 // The fields of a read or a write, as they stand in the message's data.
+#![tactic(auto)]
+
 ghost use Rattle.std.specs.Prelude.{◌≡◌, ℕ, ◌+◌, ◌-◌, ◌*◌, ◌≤◌, ◌<◌, length};
 ghost use Rattle.document.specs.Areas.{bytes_at};
 ghost use Rattle.document.specs.Values.{number};

@@ -1,4 +1,6 @@
 // Reads: 1, 2 or 4 bytes at an address, a block, or the length of a string.
+#![tactic(auto)]
+
 mod measuring;
 
 ghost use Rattle.std.specs.Prelude.{◌≡◌, ◌≤◌, length};

@@ -68,7 +68,7 @@ value_fits r m all =
 module _ (ex : Bool) (body : List ℕ) (all : AllBytes body) where
   pub scope_set_up_lem : (s : Scope) → ScopeWithin s → ScopeWithin (scope.set_up_next s ex body)
   scope_set_up_lem s w =
-      record { sound = scope-accepted.set-up-sound ex body s w.sound; fits = scope_fit s ex body all w.fits }
+      record { sound = scope-accepted.set_up_sound ex body s w.sound; fits = scope_fit s ex body all w.fits }
 
   pub recorder_prepared_lem : (running : Bool) → prepare_status running ex body ≡ done → RecorderWithin (prepared_state ex body)
   recorder_prepared_lem running taken =
@@ -78,10 +78,10 @@ module _ (ex : Bool) (body : List ℕ) (all : AllBytes body) where
       }
 
 pub recorder_started_lem : (r : RecorderState) → RecorderWithin r → RecorderWithin (started_state r)
-recorder_started_lem r w = record { sound = recorder-keeps.started-sound r w.sound; fits = started_fit r w.fits }
+recorder_started_lem r w = record { sound = recorder-keeps.started_sound r w.sound; fits = started_fit r w.fits }
 
 pub recorder_halted_lem : (r : RecorderState) → RecorderWithin r → RecorderWithin (halted_state r)
-recorder_halted_lem r w = record { sound = recorder-keeps.halted-sound r w.sound; fits = halted_fit r w.fits }
+recorder_halted_lem r w = record { sound = recorder-keeps.halted_sound r w.sound; fits = halted_fit r w.fits }
 
 -- "the two in a row"
 pub recorder_both : (ex : Bool) (body : List ℕ) → AllBytes body → (r : RecorderState) → RecorderWithin r → RecorderWithin (both_next r ex body)
@@ -147,7 +147,7 @@ within_registered registered memory listed good =
     record {
       link_part = record { receiver = reset_sound; command = omega arith; size = refl; body = all_zeros 64 };
       scope_part = record { sound = new-scope; fits = kept_fit [] tt };
-      recorder_part = record { sound = recorder-answers.new-sound; fits = no_recorder_fit };
+      recorder_part = record { sound = recorder-answers.new_sound; fits = no_recorder_fit };
       application_part = record { sound = fresh_sound; size = refl; bytes = all_zeros 64 };
       tables_part = listed;
       memory_part = good;

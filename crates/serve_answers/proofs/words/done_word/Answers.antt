@@ -1,0 +1,23 @@
+-- Front, the word, sum byte.
+use mathlib.Core.List.{[], ◌∷◌}
+use native.Mathlib.Omega.{arith}
+use Rattle.document.specs.Numbers.{done}
+use Rattle.document.specs.Sum.{sum_byte_of}
+use Rattle.document.specs.Values.{little_endian}
+use Rattle.line_wire.specs.Told.{Telling}
+use Rattle.line_wire.proofs.Writing.{put_append, telling_room, word_room, told_in_parts}
+use Rattle.serve_answers.proofs.words.done_word.Goals as goal
+
+pub put_word-behind-requires : goal.put_word-behind-requires
+put_word-behind-requires c =
+    word_room done [] c.args.out.now c.begin-front.result _ c.begin-front.ensures c.requires (omega arith)
+
+pub put_sum-requires : goal.put_sum-requires
+put_sum-requires c =
+    let telling-1 : Telling done (little_endian 2 c.args.word) c.args.out.now c.put_word-behind.result c.put_word-behind.new.out = put_append _ _ _ [] (little_endian 2 c.args.word) _ _ _ c.begin-front.ensures c.put_word-behind.ensures in
+    telling_room done _ c.args.out.now _ _ telling-1 c.requires (sum_byte_of (c.put_word-behind.result.sum ∷ []) ∷ []) (omega arith)
+
+pub returns : goal.returns
+returns c =
+    let telling-1 : Telling done (little_endian 2 c.args.word) c.args.out.now c.put_word-behind.result c.put_word-behind.new.out = put_append _ _ _ [] (little_endian 2 c.args.word) _ _ _ c.begin-front.ensures c.put_word-behind.ensures in
+    told_in_parts done _ c.args.out.now _ _ telling-1 c.put_sum.result _ c.put_sum.ensures
