@@ -23,13 +23,13 @@ use Rattle.call_modbus.proofs.Responses.{answer_short}
 
 -- what is lent is right where nothing is refused, and the station is one
 pub record Right (station : ℕ) (memory out : List ℕ) : Type 0 where
-  pub memory_length : length memory ≡ memory_end
+  pub memory-length : length memory ≡ memory_end
   pub room : modbus_room ≤ length out
   pub first : 0 < station
   pub last : station < 256
 
-pub lent_right : (station : ℕ) (memory out : List ℕ) → modbus_refusal station memory out ≡ taken → Right station memory out
-lent_right station memory out none =
+pub lent-right : (station : ℕ) (memory out : List ℕ) → modbus_refusal station memory out ≡ taken → Right station memory out
+lent-right station memory out none =
     split (eqb (length memory) memory_end)
     (λ whole.
     split (ltb (length out) modbus_room) (λ short. let z : ⊥ = omega (arith, rw (whole, short) at none) in absurd z)
@@ -38,7 +38,7 @@ lent_right station memory out none =
     (λ own.
     let bounds = both (leb 1 station) (leb station 247) own in
     record {
-      memory_length = eqb-true (length memory) memory_end whole;
+      memory-length = eqb-true (length memory) memory_end whole;
       room = ltb-false (length out) modbus_room room;
       first = leb-true 1 station bounds.0;
       last = omega (arith, leb-true station 247 bounds.1);
