@@ -1,4 +1,6 @@
 // The second port: a whole frame, and the answer to it.
+#![tactic(auto)]
+
 mod sealing;
 
 ghost use Rattle.std.specs.Prelude.{◌≡◌, ◌<◌, ◌≤◌, length};

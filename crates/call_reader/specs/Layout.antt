@@ -1,5 +1,5 @@
 -- The answer reader as a block of bytes: every block is a reader, and every reader a block. docs/STATE.md has the table of places.
-use Rattle.std.specs.Prelude.{List, [], ◌∷◌, ◌++◌, ℕ, ◌+◌, get_or}
+use Rattle.std.specs.Prelude.{List, [], ◌∷◌, ℕ, ◌+◌, get_or}
 use Rattle.document.specs.Numbers.{most_data}
 use Rattle.document.specs.Areas.{bytes_at}
 use Rattle.line_reader.specs.declared.head.Head.{Head}

@@ -3,9 +3,9 @@
 use Rattle.std.specs.Prelude.{◌≡◌, cond, not, List, ℕ, eqb, leb, length}
 use Rattle.std.proofs.lemmas.List.Edits.{sets}
 use Rattle.document.specs.Numbers.{taken, state_refused, sum_refused}
-use Rattle.document.specs.AnswerReader.{Brought, begin_refusal, read_room_refusal, read_refusal, read_buffer}
+use Rattle.document.specs.AnswerReader.{Brought, begin_refusal, read_room_refusal, read_buffer}
 use Rattle.document.specs.AnswerReader.Brought.{nothing, answer, wrong}
-use Rattle.line_reader.specs.Reader.{AnswerReader, Step, sound, fresh, stepped}
+use Rattle.line_reader.specs.Reader.{Step, sound, fresh, stepped}
 use Rattle.call_reader.specs.Layout.{reader_length, decoded_reader, encoded_reader}
 use Rattle.call_reader.specs.declared.calls.ReadByte.{ReadByte}
 

@@ -1,4 +1,6 @@
 // The answer reader over its block of lent bytes: a reading begins, and a byte of the line.
+#![tactic(auto)]
+
 mod calls;
 mod head;
 mod places;

@@ -1,4 +1,6 @@
 // The functions of the second port: what each does to the memory, and what it answers.
+#![tactic(auto)]
+
 mod carrying;
 mod telling;
 

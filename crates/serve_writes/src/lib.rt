@@ -1,4 +1,6 @@
 // Writes, plain and masked. Payload and mask are handed on as parts of the message's data.
+#![tactic(auto)]
+
 ghost use Rattle.std.specs.Prelude.{◌≡◌, ◌+◌, ◌≤◌, length};
 ghost use Rattle.document.specs.Areas.{memory_end};
 ghost use Rattle.document.specs.Stores.{mask_stored};

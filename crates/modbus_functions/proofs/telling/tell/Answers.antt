@@ -1,0 +1,69 @@
+-- Function by function; without an exception the fields are there, and the registers inside the memory.
+use Prim.Native.Nat.{◌≤◌}
+use native.Mathlib.Omega.{arith}
+use lib.ListN.{length}
+use Rattle.document.specs.declared.Function.TheVariants.{ReadRegisters}
+use Rattle.modbus_frames.proofs.WrongValues.{reading_right_lem}
+use Rattle.modbus_frames.proofs.Order.{accepted, accepted_long}
+use Rattle.modbus_functions.proofs.Carried.{none_as}
+use Rattle.modbus_functions.proofs.Told.{front_told, told_as, reads_inside}
+use Rattle.modbus_functions.proofs.telling.tell.Goals as goal
+
+pub tell_front-requires : goal.tell_front-requires
+tell_front-requires c =
+    let long : 8 ≤ length c.args.frame.now = accepted_long c.args.function c.args.frame.now c.args.memory.now c.requires.0 in
+    (omega (arith, long), omega (arith, c.requires.2))
+
+pub tell_front-requires-in-WriteRegisters : goal.tell_front-requires-in-WriteRegisters
+tell_front-requires-in-WriteRegisters c =
+    let long : 8 ≤ length c.args.frame.now = accepted_long c.args.function c.args.frame.now c.args.memory.now c.requires.0 in
+    (omega (arith, long), omega (arith, c.requires.2))
+
+pub tell_front-requires-in-MaskRegister : goal.tell_front-requires-in-MaskRegister
+tell_front-requires-in-MaskRegister c =
+    let long : 8 ≤ length c.args.frame.now = accepted_long c.args.function c.args.frame.now c.args.memory.now c.requires.0 in
+    (omega (arith, long), omega (arith, c.requires.2))
+
+pub tell_front-requires-in-Other : goal.tell_front-requires-in-Other
+tell_front-requires-in-Other c =
+    let long : 8 ≤ length c.args.frame.now = accepted_long c.args.function c.args.frame.now c.args.memory.now c.requires.0 in
+    (omega (arith, long), omega (arith, c.requires.2))
+
+pub tell_registers-requires-clause-in_bounds : goal.tell_registers-requires-clause-in_bounds
+tell_registers-requires-clause-in_bounds c =
+    let frame = c.args.frame.now in
+    let memory = c.args.memory.now in
+    let none = none_as c.in-ReadRegisters.is frame memory c.requires.0 in
+    let right = reading_right_lem frame (accepted ReadRegisters frame memory none).value in
+    (omega (arith, right.0), right.1, c.requires.2)
+
+pub tell_registers-requires-clause-frame_in_bounds : goal.tell_registers-requires-clause-frame_in_bounds
+tell_registers-requires-clause-frame_in_bounds c =
+    let frame = c.args.frame.now in
+    let memory = c.args.memory.now in
+    let none = none_as c.in-ReadRegisters.is frame memory c.requires.0 in
+    omega (arith, reads_inside frame memory none, c.requires.1)
+
+pub returns-in-WriteRegister : goal.returns-in-WriteRegister
+returns-in-WriteRegister c =
+    let long : 8 ≤ length c.args.frame.now = accepted_long c.args.function c.args.frame.now c.args.memory.now c.requires.0 in
+    let a = c.args in
+    told_as c.in-WriteRegister.is a.frame.now a.memory.now a.out.now _ _ (front_told 4 a.frame.now a.out.now _ _ (omega (arith, long)) c.tell_front.ensures)
+
+pub returns-in-WriteRegisters : goal.returns-in-WriteRegisters
+returns-in-WriteRegisters c =
+    let long : 8 ≤ length c.args.frame.now = accepted_long c.args.function c.args.frame.now c.args.memory.now c.requires.0 in
+    let a = c.args in
+    told_as c.in-WriteRegisters.is a.frame.now a.memory.now a.out.now _ _ (front_told 4 a.frame.now a.out.now _ _ (omega (arith, long)) c.tell_front-in-WriteRegisters.ensures)
+
+pub returns-in-MaskRegister : goal.returns-in-MaskRegister
+returns-in-MaskRegister c =
+    let long : 8 ≤ length c.args.frame.now = accepted_long c.args.function c.args.frame.now c.args.memory.now c.requires.0 in
+    let a = c.args in
+    told_as c.in-MaskRegister.is a.frame.now a.memory.now a.out.now _ _ (front_told 6 a.frame.now a.out.now _ _ (omega (arith, long)) c.tell_front-in-MaskRegister.ensures)
+
+pub returns-in-Other : goal.returns-in-Other
+returns-in-Other c =
+    let long : 8 ≤ length c.args.frame.now = accepted_long c.args.function c.args.frame.now c.args.memory.now c.requires.0 in
+    let a = c.args in
+    told_as c.in-Other.is a.frame.now a.memory.now a.out.now _ _ (front_told 0 a.frame.now a.out.now _ _ (omega (arith, long)) c.tell_front-in-Other.ensures)
