@@ -1,0 +1,18 @@
+-- What is left to read gives the whole.
+use mathlib.Core.Bool.{true}
+use mathlib.Core.Path.{◌≡◌, refl, ◌∙◌}
+use Prim.Native.Nat.{◌+◌, ◌-◌, ◌*◌, ◌≤◌}
+use native.Mathlib.Omega.{arith}
+use lib.Seq.{sets}
+use lib.ListN.{length, drop, length-set}
+use borrow.Author.Rules.{rules}
+use Rattle.document.specs.Variables.{definitions_in}
+use Rattle.state_block.specs.Layout.{decoded_definitions}
+use Rattle.state_block.proofs.Definitions.{definitions_read}
+use Rattle.state_block.proofs.reading.definitions_at.Given as goal
+
+abbrev pub invariant-loop-k : goal.invariant-loop-k
+invariant-loop-k l = (l.k ≤ 8) × (length l.list ≡ 8) × (l.at ≡ l.from + 5 * l.k) × (sets l.list l.k (definitions_in true (8 - l.k) (drop l.at l.block)) ≡ decoded_definitions l.block l.from)
+
+abbrev pub decreases-loop-k : goal.decreases-loop-k
+decreases-loop-k l = 8 - l.k
