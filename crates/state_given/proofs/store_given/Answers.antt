@@ -20,25 +20,26 @@ use Rattle.state_setups.proofs.Joined.{prepared_put}
 use Rattle.state_given.proofs.store_given.Goals as goal
 
 pub read_plan-plan-requires : goal.read_plan-plan-requires
-read_plan-plan-requires c = behind @Start@ (head_width false) refl
+read_plan-plan-requires c =
+    let facts : Accepted false c.args.setup.now = accepted false c.args.setup.now c.requires.1 in
+    omega (arith, facts.right)
 
 pub slice_bounds-give_variables-count : goal.slice_bounds-give_variables-count
-slice_bounds-give_variables-count c = behind @Start@ c.head_width-from.result c.head_width-from.ensures.0
+slice_bounds-give_variables-count c =
+    let facts : Accepted false c.args.setup.now = accepted false c.args.setup.now c.requires.1 in
+    omega (arith, facts.right, c.head_width-from.ensures.0)
 
 pub slice_bounds-give_variables-start : goal.slice_bounds-give_variables-start
-slice_bounds-give_variables-start c = behind @Start@ c.head_width-from.result c.head_width-from.ensures.0
+slice_bounds-give_variables-start c =
+    let facts : Accepted false c.args.setup.now = accepted false c.args.setup.now c.requires.1 in
+    omega (arith, facts.right, c.head_width-from.ensures.0)
 
 pub give_variables-requires : goal.give_variables-requires
 give_variables-requires c =
     let facts : Accepted false (c.args.setup.now) = accepted false (c.args.setup.now) c.requires.1 in
     let few : count_in (variables_part false (c.args.setup.now)) ≤ 8 = (count_right (count_in (variables_part false (c.args.setup.now))) facts.count).1 in
-    let whole : length_given false (variables_part false (c.args.setup.now)) ≤ length (variables_part false (c.args.setup.now)) = rw length-drop (omega (arith, facts.right))
-module _ (from : ℕ) (e : from ≡ head_width false) where
-  behind : from ≤ length (c.args.setup.now)
-  behind = omega (arith, facts.right, e)
-  rest : take (length (c.args.setup.now) - from) (drop from (c.args.setup.now)) ≡ variables_part false (c.args.setup.now)
-  rest = tail_part false (c.args.setup.now) from e in
-    let all = rest @Start@ c.head_width-from.result c.head_width-from.ensures.0 in
+    let whole : length_given false (variables_part false (c.args.setup.now)) ≤ length (variables_part false (c.args.setup.now)) = rw length-drop (omega (arith, facts.right)) in
+    let all = tail_part false c.args.setup.now c.head_width-from.result c.head_width-from.ensures.0 in
     (rw all few, rw all whole, omega (arith, c.store_numbers.auto.block, c.requires.0))
 
 pub returns : goal.returns
@@ -47,7 +48,7 @@ returns c =
     c.prepare_run.ensures
     ∙ ap (λ (l : List ℕ). sets l run_place (encoded_run (prepared_state false (c.args.setup.now)).run))
     (c.give_variables.ensures
-    ∙ ap (λ (q : List ℕ). sets c.store_numbers.new.block recorded_place (encoded_variables (kept (variables_in false q)))) (rest @Start@ c.head_width-from.result c.head_width-from.ensures.0)
+    ∙ ap (λ (q : List ℕ). sets c.store_numbers.new.block recorded_place (encoded_variables (kept (variables_in false q)))) (tail_part false c.args.setup.now c.head_width-from.result c.head_width-from.ensures.0)
     ∙ ap (λ (l : List ℕ). sets l recorded_place (encoded_variables (kept (recorded_in false (c.args.setup.now)))))
     (c.store_numbers.ensures
     ∙ ap (λ (p : Plan). sets (set block recorder_place 1) plan_place (encoded_numbers p)) c.read_plan-plan.ensures.0))
