@@ -1,9 +1,7 @@
 -- Each return is a case of the definition.
 use mathlib.Core.Path.{◌≡◌, sym, ap, ◌∙◌}
-use mathlib.Core.List.{List}
 use Prim.Native.Nat.{ℕ, ◌+◌}
 use native.Mathlib.Omega.{arith}
-use borrow.Author.Rules.{rules}
 use lib.ListN.{get_or}
 use Rattle.document.specs.Variables.{set_size}
 use Rattle.variables_list.specs.State.{variables_of}

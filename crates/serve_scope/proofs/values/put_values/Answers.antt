@@ -2,9 +2,8 @@
 use mathlib.Core.Path.{◌≡◌, refl, sym, ap, subst, ◌∙◌}
 use mathlib.Core.Bool.{true}
 use mathlib.Core.List.{List, ◌++◌}
-use Prim.Native.Nat.{ℕ, ◌+◌, ◌-◌, ◌*◌, ◌<◌, ◌≤◌}
+use Prim.Native.Nat.{ℕ, ◌+◌, ◌-◌, ◌<◌, ◌≤◌}
 use native.Mathlib.Omega.{arith}
-use borrow.Author.Rules.{rules}
 use lib.ListN.{length, get_or, take, drop, length-append}
 use lib.Seq.{sets}
 use Rattle.document.specs.Areas.{memory_end, may_be_read, bytes_at}
@@ -16,9 +15,7 @@ use Rattle.line_wire.specs.declared.doubling.Progress.{Progress}
 use Rattle.line_wire.specs.Put.{progressed, Put}
 use Rattle.line_wire.proofs.Stuffed.{stuffed_append}
 use Rattle.line_wire.proofs.Writing.{progressed_none}
-use Rattle.variables_list.specs.State.{variables_of}
 use Rattle.state_block.specs.Places.{scope_place}
-use Rattle.state_block.specs.Layout.{decoded_scope}
 use Rattle.serve_scope.proofs.Walked.{left_at, few, all_left, all_may_lem, may_first, values_first, put_progress, put_buffer}
 use Rattle.serve_scope.proofs.values.put_values.Goals as goal
 
@@ -70,6 +67,7 @@ returns c =
     let l = c.loop-left in
     let none : l.left ≡ 0 = omega arith in
     record { progress = sym (progressed_none l.progress l.invariant.3) ∙ rw none at l.invariant.5; buffer = rw none at l.invariant.6 }
+
 pub loop-left-preserved : goal.loop-left-preserved
 loop-left-preserved c =
     let some : 0 < (c.loop-left.left) = omega arith in
@@ -90,4 +88,3 @@ loop-left-preserved c =
       put_progress l.progress c.put_all-progress.result here rest _ _ done ∙ ap (progressed l.progress) (sym values) ∙ l.invariant.5,
       put_buffer l.progress c.put_all-progress.result here rest _ _ done ∙ ap (λ (bs : List ℕ). sets l.out l.progress.at (stuffed bs)) (sym values) ∙ l.invariant.6,
     )
-
