@@ -1,4 +1,6 @@
 // A state begun, and looked at: reset, check, and the numbers with which the calls that take a state refuse.
+#![tactic(auto)]
+
 ghost use Rattle.std.specs.Prelude.{◌≡◌};
 ghost use Rattle.document.specs.Calls.{byte_refusal, tick_refusal};
 ghost use Rattle.call_checks.specs.Promises.{block_sound, ResetDone, Checked, collect_number, report_number};

@@ -1,4 +1,6 @@
 // The gate registers its tables: a reset with a list that was looked at over the memory.
+#![tactic(auto)]
+
 ghost use Rattle.std.specs.Prelude.{◌≡◌, ◌≤◌, length};
 ghost use Rattle.std.proofs.lemmas.List.Edits.{sets};
 ghost use Rattle.tables_state.specs.State.{list_length, registered_list};

@@ -18,10 +18,6 @@ use Rattle.state_block.proofs.Stored.{same_instruments, head_stored}
 use borrow.Author.Rules.{rules}
 use Rattle.application_block.proofs.collect.Goals as goal
 
--- HELPER
-small : (k : tie.After-slice-known2) (i : ℕ) → get_or (begun k).args.state.now i 0 < 256
-small k i = (k.before.slice-known.given i).fits
-
 pub returns-then-state-ne-WAITING : goal.returns-then-state-ne-WAITING
 unfolding decoded_application
 returns-then-state-ne-WAITING c =
@@ -34,24 +30,12 @@ returns-then-state-ne-WAITING c =
           sym
           (ap (λ (d : Command). sets block scope_place (encoded_instruments (with_application (decoded_instruments block) d)))
           (collected_none (decoded_application c.args.state.now) c.if-state-ne-WAITING.true)
-          ∙ same_instruments block c.requires.0 (small @After-slice-known2@));
+          ∙ same_instruments block c.requires.0 (λ i. (c.slice_known-1.given i).fits));
       buffer_told = sym (ap (sets buffer 0) none-new);
     }
 
--- HELPER
--- what is copied out is what is new
-copied-new : (u : tie.After-usize-of-u8)
-    → new_command (application_of (command u.before.before.before.before))
-    ≡ bytes_at (begun u.before.before.before.before).args.state.now command_place u.usize-of-u8.result
-unfolding decoded_application
-copied-new u =
-    let k = u.before.before.before.before in
-    new_waits (command k) (waits u)
-    ∙ ap (λ (n : ℕ). take n (bytes_at (begun k).args.state.now command_place most_data)) (sym (counted u))
-    ∙ take-take u.usize-of-u8.result most_data (drop command_place (begun k).args.state.now) (few u)
-
 pub slice_bounds-copy_in-end : goal.slice_bounds-copy_in-end
-unfolding decoded_application decoded_application
+unfolding decoded_application
 slice_bounds-copy_in-end c =
     let waits : (decoded_application c.args.state.now).phase ≡ is_waiting = c.if-state-ne-WAITING.false in
     let counted : c.usize_of_u8-count.result ≡ (decoded_application c.args.state.now).count = c.usize_of_u8-count.ensures.0 in
@@ -59,7 +43,7 @@ slice_bounds-copy_in-end c =
     search (rules, few)
 
 pub copy_in-requires : goal.copy_in-requires
-unfolding decoded_application decoded_application
+unfolding decoded_application
 copy_in-requires c =
     let waits : (decoded_application c.args.state.now).phase ≡ is_waiting = c.if-state-ne-WAITING.false in
     let counted : c.usize_of_u8-count.result ≡ (decoded_application c.args.state.now).count = c.usize_of_u8-count.ensures.0 in
@@ -67,25 +51,30 @@ copy_in-requires c =
     omega (arith, length-take c.usize_of_u8-count.result (drop command_place c.args.state.now), few, c.requires.2)
 
 pub returns : goal.returns
-unfolding encoded_application decoded_application decoded_application
+unfolding encoded_application decoded_application
 returns c =
     let waits : (decoded_application c.args.state.now).phase ≡ is_waiting = c.if-state-ne-WAITING.false in
     let counted : c.usize_of_u8-count.result ≡ (decoded_application c.args.state.now).count = c.usize_of_u8-count.ensures.0 in
     let few : c.usize_of_u8-count.result ≤ most_data = omega (arith, counted, waiting_few (decoded_application c.args.state.now) c.requires.1 waits) in
     let block = c.args.state.now in
+    -- what is copied out is what is new
+    let copied_new : new_command (application_of (decoded_application block)) ≡ bytes_at block command_place c.usize_of_u8-count.result =
+        new_waits (decoded_application block) waits
+        ∙ ap (λ (n : ℕ). take n (bytes_at block command_place most_data)) (sym counted)
+        ∙ take-take c.usize_of_u8-count.result most_data (drop command_place block) few in
     let count : ℕ = c.usize_of_u8-count.result in
     let length_back : command_place + count - command_place ≡ count = omega arith in
     record {
       result =
           sym
-          (ap length (copied-new @After-slice-known4@)
+          (ap length copied_new
           ∙ bytes_length block command_place count (omega (arith, c.requires.0, few)));
       state =
           c.put_byte.ensures
-          ∙ head_stored block c.requires.0 (small @After-slice-known@) 0 is_collected (collected_command (decoded_application c.args.state.now)) (omega arith)
+          ∙ head_stored block c.requires.0 (λ i. (c.slice_known-1.given i).fits) 0 is_collected (collected_command (decoded_application c.args.state.now)) (omega arith)
           (ap encoded_application (sym (collected_some (decoded_application c.args.state.now) waits)));
       buffer_told =
           c.copy_in.ensures
           ∙ ap (λ (n : ℕ). sets c.args.out.now 0 (bytes_at block command_place n)) length_back
-          ∙ ap (sets c.args.out.now 0) (sym (copied-new @After-slice-known4@));
+          ∙ ap (sets c.args.out.now 0) (sym copied_new);
     }
