@@ -1,4 +1,6 @@
 // The fields of a block of bytes: numbers lowest byte first, at a width that is known, read and written without a loop.
+#![tactic(auto)]
+
 ghost use Rattle.std.specs.Prelude.{◌≡◌, true, [], ◌∷◌, ◌+◌, ◌≤◌, ◌<◌, length, set, replicate};
 ghost use Rattle.std.proofs.lemmas.List.Edits.{sets};
 ghost use Rattle.document.specs.Areas.{bytes_at};

@@ -1,4 +1,6 @@
 // Numbers widened: a cast that loses nothing, with the bound that the narrower type gave.
+#![tactic(auto)]
+
 ghost use Rattle.std.specs.Prelude.{◌≡◌, ◌<◌};
 
 pub fn usize_of_u8(x: u8) -> usize

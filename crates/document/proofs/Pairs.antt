@@ -1,7 +1,6 @@
 -- The order of the refusals, by every pair of them that can apply together.
 use mathlib.Core.Path.{◌≡◌, refl}
-use mathlib.Core.List.{List, map}
-use Prim.Native.Nat.{ℕ}
+use mathlib.Core.List.{map}
 use Rattle.document.specs.Hex.{hex}
 use Rattle.document.specs.Services.{service_of}
 use Rattle.document.specs.Kinds.{kind_of}

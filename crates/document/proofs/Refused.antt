@@ -8,7 +8,7 @@ use lib.Dec.{eqb, ltb}
 use Rattle.document.specs.Numbers.{done}
 use Rattle.document.specs.Message.{Message, sum_right}
 use Rattle.document.specs.Services.{service_of}
-use Rattle.document.specs.Gate.{Gate, Outcome, says}
+use Rattle.document.specs.Gate.{Gate}
 use Rattle.document.specs.Refusals.{refusal}
 use Rattle.document.specs.Commands.{served, answered}
 

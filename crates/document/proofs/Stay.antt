@@ -1,6 +1,6 @@
 -- The rows for what stays hold of the definitions, over a short memory.
 use mathlib.Core.Path.{◌≡◌, refl}
-use mathlib.Core.List.{List, map}
+use mathlib.Core.List.{map}
 use lib.ListN.{replicate}
 use Rattle.document.specs.Services.{service_of}
 use Rattle.document.specs.Message.{heard, finished_by}

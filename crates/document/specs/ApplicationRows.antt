@@ -1,7 +1,7 @@
 -- Rows for the application commands (2026-01): sent, collected, reported, and asked for.
-use Rattle.std.specs.Prelude.{true, false, List, [], ◌∷◌, ◌++◌, ℕ, replicate}
+use Rattle.std.specs.Prelude.{true, false, List, [], ◌∷◌, ◌++◌, replicate}
 use Rattle.document.specs.Hex.{hex}
-use Rattle.document.specs.Application.{Application, new_command, collect_refusal, collect_buffer, report_refusal}
+use Rattle.document.specs.Application.{Application, collect_refusal, collect_buffer, report_refusal}
 use Rattle.document.specs.Application.Application.{none, waiting, collected, ended}
 use Rattle.document.specs.Rows.{Row, Step, asks, sends, collecting, reporting}
 use Rattle.document.specs.CallRows.{Line, line, lent}

@@ -2,7 +2,7 @@
 -- quick where it wants the first 96 bytes alone. crates/document_worked has every row over the whole memory.
 use Rattle.std.specs.Prelude.{Bool, false, cond, not, ◌&&◌, ◌||◌, List, [], ◌∷◌, ℕ, replicate, get_or, eqb}
 use Rattle.document.specs.Numbers.{is_in}
-use Rattle.document.specs.Rows.{Row, Step, said_by, step_by_step_over}
+use Rattle.document.specs.Rows.{Row, said_by, step_by_step_over}
 
 abbrev short_memory : List ℕ
 short_memory = replicate 96 0

@@ -1,5 +1,5 @@
 -- Rows for the answer reader, byte by byte: what each byte brings that brings something.
-use Rattle.std.specs.Prelude.{List, [], ◌∷◌, ◌++◌, ℕ, suc, replicate, length}
+use Rattle.std.specs.Prelude.{List, [], ◌∷◌, ◌++◌, ℕ, replicate, length}
 use Prim.Native.String.{String}
 use Rattle.document.specs.Hex.{hex}
 use Rattle.document.specs.AnswerReader.{Brought, begin_refusal, read_room_refusal, read_refusal, read_buffer, brought}

@@ -6,7 +6,7 @@ use Rattle.document.specs.Message.{Message, heard}
 use Rattle.document.specs.Refusals.{Refusal, table}
 use Rattle.document.specs.Gate.{Gate, fresh}
 use Rattle.document.specs.Happenings.{from_reset}
-use Rattle.document.specs.Rows.{zeros, Row, Step, hears, asks, framed, wire, after_steps}
+use Rattle.document.specs.Rows.{zeros, Row, hears, asks, framed, wire, after_steps}
 
 -- a message after some steps, and all refusals that apply to it, in the table's order
 pub record Faulty : Type 0 where

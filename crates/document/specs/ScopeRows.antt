@@ -1,5 +1,5 @@
 -- Rows for the scope: 0x08, 0x0A and 0xC5.
-use Rattle.std.specs.Prelude.{List, [], ◌∷◌, ◌++◌, replicate}
+use Rattle.std.specs.Prelude.{List, [], ◌∷◌, replicate}
 use Rattle.document.specs.Hex.{hex}
 use Rattle.document.specs.Rows.{Row, asks, sends, puts}
 

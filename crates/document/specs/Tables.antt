@@ -1,6 +1,6 @@
 -- Request 2026-03, names instead of addresses: tables of entries, each with a name, a type, an address and a size, which the gate
 -- registers at reset.
-use Rattle.std.specs.Prelude.{Bool, true, false, cond, not, ◌&&◌, ◌||◌, List, [], ◌∷◌, ◌++◌, ℕ, zero, suc, ◌+◌, ◌*◌, ◌/◌, ◌%◌, length, replicate, eqb, ltb, leb}
+use Rattle.std.specs.Prelude.{Bool, true, cond, not, ◌&&◌, ◌||◌, List, [], ◌∷◌, ◌++◌, ℕ, zero, suc, ◌+◌, ◌*◌, ◌/◌, ◌%◌, length, replicate, eqb, ltb, leb}
 use Rattle.document.specs.Numbers.{taken, memory_refused, list_refused}
 use Rattle.document.specs.Areas.{variables_end, calibration_end, memory_end, bytes_at}
 use Rattle.document.specs.Values.{number, little_endian}

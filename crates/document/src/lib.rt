@@ -1,5 +1,6 @@
 // What the definitions and the code share: a variable's definition, what the list of commands says of one, and the second port's
 // functions.
+#![tactic(auto)]
 
 // One definition: `size` bytes from `address` on.
 #[repr(C)]

@@ -17,7 +17,7 @@ use Rattle.document.specs.Strings.{before_zero, has_zero}
 use Rattle.document.specs.CheckSum.{shifted, shifts, stepped, check_sum}
 use Rattle.document.specs.Frames.{is_silenced}
 use Rattle.document.specs.Modbus.{exception_to, modbus_memory}
-use Rattle.document.specs.Rows.{zeros, Row, said_by, byte_by_byte, step_by_step}
+use Rattle.document.specs.Rows.{zeros, said_by, byte_by_byte, step_by_step}
 use Rattle.document.specs.LineRows.{line_rows, long_line_rows}
 use Rattle.document.specs.ReadRows.{read_rows}
 use Rattle.document.specs.WriteRows.{write_rows}

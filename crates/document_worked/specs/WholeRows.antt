@@ -1,5 +1,5 @@
 -- Rows that want a whole memory, and rows that are long: of the calls and the writers, and the scope.
-use Rattle.std.specs.Prelude.{true, List, [], ◌∷◌, ◌++◌, ℕ, replicate}
+use Rattle.std.specs.Prelude.{true, List, [], ◌∷◌, ◌++◌, replicate}
 use Rattle.document.specs.Hex.{hex}
 use Rattle.document.specs.Calls.{tick_refusal, byte_refusal}
 use Rattle.document.specs.Rows.{Row, asks, puts}

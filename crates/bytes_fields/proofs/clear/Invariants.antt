@@ -1,12 +1,8 @@
 -- What is left to clear gives the whole.
-use mathlib.Core.Path.{◌≡◌, refl, ◌∙◌}
+use mathlib.Core.Path.{◌≡◌}
 use Prim.Native.Nat.{◌+◌, ◌-◌, ◌≤◌}
-use native.Mathlib.Nat.{add-zero, sub-zero}
-use native.Mathlib.Omega.{arith}
 use lib.Seq.{sets}
-use lib.ListN.{length, replicate, length-set}
-use borrow.Author.Rules.{rules}
-use Rattle.bytes_fields.proofs.Ranges.{clear_next}
+use lib.ListN.{length, replicate}
 use Rattle.bytes_fields.proofs.clear.Given as goal
 
 abbrev pub invariant-loop-k : goal.invariant-loop-k

@@ -1,6 +1,5 @@
 -- Four bytes, each worth 256 of the one before it.
 use native.Mathlib.Omega.{arith}
-use borrow.Author.Rules.{rules}
 use Rattle.bytes_fields.proofs.Numbers.{number_four}
 use Rattle.bytes_fields.proofs.long_at.Goals as goal
 

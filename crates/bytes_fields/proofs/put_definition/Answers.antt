@@ -4,7 +4,6 @@ use Prim.Native.Nat.{ℕ, suc, ◌+◌}
 use native.Mathlib.Omega.{arith}
 use lib.ListN.{set, length-set}
 use lib.Seq.{sets}
-use borrow.Author.Rules.{rules}
 use Rattle.document.specs.Values.{little_endian}
 use Rattle.bytes_fields.proofs.put_definition.Goals as goal
 

@@ -2,7 +2,6 @@
 use mathlib.Core.Path.{refl}
 use native.Mathlib.Omega.{arith}
 use lib.ListN.{length-set}
-use borrow.Author.Rules.{rules}
 use Rattle.bytes_fields.proofs.put_head.Goals as goal
 
 pub bounds-block-1 : goal.bounds-block-1

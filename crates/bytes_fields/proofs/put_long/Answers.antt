@@ -2,7 +2,6 @@
 use Prim.Native.Nat.{◌/◌, ◌%◌}
 use native.Mathlib.Omega.{arith}
 use lib.ListN.{length-set}
-use borrow.Author.Rules.{rules}
 use Rattle.bytes_fields.proofs.Ranges.{four_set}
 use Rattle.bytes_fields.proofs.put_long.Goals as goal
 

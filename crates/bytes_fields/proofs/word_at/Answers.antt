@@ -1,6 +1,5 @@
 -- Two bytes, the second worth 256 of the first.
 use native.Mathlib.Omega.{arith}
-use borrow.Author.Rules.{rules}
 use Rattle.bytes_fields.proofs.Numbers.{number_two}
 use Rattle.bytes_fields.proofs.word_at.Goals as goal
 
