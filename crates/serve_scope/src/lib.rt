@@ -1,4 +1,6 @@
 // The scope's reading, in the block that holds the state.
+#![tactic(auto)]
+
 mod reading;
 mod values;
 
