@@ -4,7 +4,6 @@ use Prim.Native.Nat.{ℕ, ◌*◌}
 use native.Mathlib.Omega.{arith}
 use lib.ListN.{length, drop}
 use borrow.Author.Tests.{eqb-true}
-use borrow.Author.Rules.{rules}
 use Rattle.document.specs.Variables.{definition_width, definitions_in, length_given}
 use Rattle.variables_surveys.specs.Survey.{surveyed}
 use Rattle.variables_surveys.proofs.survey.Goals as goal
