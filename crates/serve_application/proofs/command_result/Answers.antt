@@ -2,7 +2,6 @@
 use mathlib.Core.Path.{ap, ◌∙◌}
 use mathlib.Core.List.{[], ◌∷◌}
 use Prim.Native.Nat.{ℕ}
-use borrow.Author.Rules.{rules}
 use Rattle.document.specs.Numbers.{done}
 use Rattle.line_wire.proofs.Writing.{told_as}
 use Rattle.state_parts.specs.State.{gate_of}

@@ -1,6 +1,5 @@
 -- By the phase.
 use mathlib.Core.Path.{sym, ◌∙◌}
-use borrow.Author.Rules.{rules}
 use Rattle.application_state.specs.State.{application_of}
 use Rattle.state_block.specs.Layout.{decoded_application}
 use Rattle.serve_application.proofs.Sending.{no_result, no_command_lem, result_in}
