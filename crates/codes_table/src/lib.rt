@@ -1,5 +1,7 @@
 // The numbers of the protocol: what is known of each of the 256 commands, the statuses, the numbers with which calls refuse, and the
 // limits of a message and its answer.
+#![tactic(auto)]
+
 mod calls;
 mod limits;
 mod reading;

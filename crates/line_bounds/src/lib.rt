@@ -1,4 +1,6 @@
 // The bounds of a receiver's state: one check, made where a state comes in.
+#![tactic(auto)]
+
 ghost use Rattle.std.specs.Prelude.{◌≡◌};
 ghost use Rattle.line_receiver.specs.Bounds.{length_right, inside_sound, sound};
 

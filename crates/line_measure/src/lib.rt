@@ -1,4 +1,6 @@
 // How long a message is on the wire, before a byte of it is written.
+#![tactic(auto)]
+
 ghost use Rattle.std.specs.Prelude.{◌≡◌, [], ◌∷◌, ◌≤◌, ◌<◌, length, ltb};
 ghost use Rattle.document.specs.Message.{length_part};
 ghost use Rattle.document.specs.CommandWriter.{command_on_wire};

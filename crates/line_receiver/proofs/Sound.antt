@@ -5,7 +5,6 @@ use mathlib.Core.Bool.{Bool, true, false, cond, not, ◌&&◌, ◌||◌}
 use native.Mathlib.Omega.{arith}
 use borrow.Author.Tests.{ltb-true, ltb-false, eqb-true, not-true, eq-eqb, lt-ltb}
 use lib.Dec.{ltb, leb, eqb}
-use Rattle.document.specs.Numbers as numbers
 use Rattle.document.specs.Kinds.{has_length_byte, fast_length}
 use Rattle.document.proofs.Cases.{split, and_left, and_right}
 use Rattle.line_receiver.specs.declared.Receiver.{Receiver}

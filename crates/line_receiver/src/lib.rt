@@ -1,5 +1,7 @@
 // The receiver: bytes to whole messages, one byte a call. It is the small head alone; the 64-byte body stands beside
 // it with the caller, and each event says what to do with it.
+#![tactic(auto)]
+
 mod step;
 
 // The phases: outside a message, or which literal comes next.

@@ -1,6 +1,6 @@
 -- Nothing by half: a byte that finds something ends a start and stuffed literals, all of them its own; and a byte that
 -- finds a message ends exactly that message on the wire.
-use Prim.Native.Nat.{ℕ, ◌+◌}
+use Prim.Native.Nat.{ℕ}
 use mathlib.Core.Path.{◌≡◌, refl, sym, ◌∙◌, ap}
 use mathlib.Core.List.{List, [], ◌∷◌, ◌++◌, append_assoc, append-nil, foldl, foldl-append, nil≢cons, head-eq_of_cons-eq, tail-eq_of_cons-eq}
 use mathlib.Core.Bool.{Bool, true, false}

@@ -85,7 +85,7 @@ module _ {S R : Type 0} {whole : List ℕ → List R} {within : S → Type 0} {w
       (waits (next s b)) bs)
   owed_byte s b bs ok =
       let doubled = λ (k : ℕ). owed whole owes s (paired_from (waits s) (k ∷ bs))
-          ≡ reports s k ++ owed whole owes (next s k) (paired_from (waits_behind (waits s) k) bs) in
+      ≡ reports s k ++ owed whole owes (next s k) (paired_from (waits_behind (waits s) k) bs) in
       rw (reads.pairs s b ok)
       (split (waits s)
       (λ w. split (eqb b 0x2B)

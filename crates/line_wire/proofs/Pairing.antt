@@ -37,8 +37,8 @@ paired_byte true b bs = split (eqb b 0x2B) (λ plus. simp plus) (λ other. simp 
 paired_byte false b bs =
     split (eqb b 0x2B)
     (λ plus.
-      subst (λ (k : ℕ). paired_from false (k ∷ bs) ≡ tokens_at false k ++ paired_from (waits_behind false k) bs)
-      (sym (eqb-true b 0x2B plus)) refl)
+    subst (λ (k : ℕ). paired_from false (k ∷ bs) ≡ tokens_at false k ++ paired_from (waits_behind false k) bs)
+    (sym (eqb-true b 0x2B plus)) refl)
     (λ other. simp (other, paired_literal b bs other))
 
 -- ---- whether a 0x2B waits behind bytes

@@ -1,4 +1,6 @@
 // The line: the sum, and doubling, whatever any command means; crates/line_answers writes answers with them.
+#![tactic(auto)]
+
 pub mod doubling;
 pub mod sum;
 

@@ -2,7 +2,7 @@
 use mathlib.Core.Path.{◌≡◌, refl, sym, ap}
 use mathlib.Core.Bool.{Bool, true, false}
 use mathlib.Core.List.{List, [], ◌∷◌}
-use Prim.Native.Nat.{ℕ, zero, suc, ◌+◌, ◌*◌, ◌/◌, ◌%◌, ◌<◌, ◌≤◌, min}
+use Prim.Native.Nat.{ℕ, zero, suc, ◌+◌, ◌*◌, ◌/◌, ◌<◌, ◌≤◌, min}
 use native.Mathlib.Nat.{add-suc}
 use native.Mathlib.Numerals.{add-one}
 use native.Mathlib.Omega.{arith}
@@ -13,7 +13,7 @@ use borrow.Author.Tests.{leb-true, leb-false}
 use Rattle.document.specs.Areas.{bytes_at}
 use Rattle.document.specs.Stores.{stored, masked, masked_bytes, mask_stored}
 use Rattle.document.specs.Values.{little_endian}
-use Rattle.memory_masks.proofs.Masks.{masked_bytes_lem, masked_below}
+use Rattle.memory_masks.proofs.Masks.{masked_bytes_lem}
 
 -- ---- bytes
 

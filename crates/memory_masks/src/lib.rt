@@ -1,4 +1,6 @@
 // Masked stores, by and, or and complement: of bytes, and of a word. Who asks has seen that the range may be written.
+#![tactic(auto)]
+
 mod bytes;
 mod words;
 

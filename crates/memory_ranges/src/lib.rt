@@ -1,4 +1,6 @@
 // The 16,384 bytes that are lent at each call: ranges, the numbers they hold, plain stores.
+#![tactic(auto)]
+
 mod ranges;
 mod stores;
 mod values;

@@ -1,4 +1,6 @@
 // Strings in memory: a zero ends them, or memory's end.
+#![tactic(auto)]
+
 ghost use Rattle.std.specs.Prelude.{◌≡◌, ◌+◌, ◌≤◌, length};
 ghost use Rattle.document.specs.Strings.{string_length};
 

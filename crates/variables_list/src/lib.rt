@@ -1,4 +1,6 @@
 // Variables that a setup named: up to eight sizes and addresses, and how many may be named.
+#![tactic(auto)]
+
 mod questions;
 
 pub use questions::is_count_wrong;

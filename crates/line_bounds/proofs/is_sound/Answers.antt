@@ -1,7 +1,6 @@
 -- The tests of the bounds in their order.
 use borrow.Author.Tests.{le-leb, lt-leb, eq-eqb, ne_eqb}
 use Rattle.line_receiver.specs.Bounds.{sound}
-use borrow.Author.Rules.{rules}
 use Rattle.line_bounds.proofs.is_sound.Goals as goal
 
 pub returns-then-receiver-gt1 : goal.returns-then-receiver-gt1

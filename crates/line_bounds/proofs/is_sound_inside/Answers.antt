@@ -1,7 +1,6 @@
 -- The tests of each phase inside a message.
 use mathlib.Core.Path.{sym, ◌∙◌}
 use borrow.Author.Tests.{lt-ltb, le-ltb, eq-eqb, ne_eqb}
-use borrow.Author.Rules.{rules}
 use Rattle.line_bounds.proofs.is_sound_inside.Goals as goal
 
 pub returns-then-length_right : goal.returns-then-length_right

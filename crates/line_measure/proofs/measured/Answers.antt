@@ -1,7 +1,6 @@
 -- One byte, or two where it is 0x2B.
 use native.Mathlib.Nat.{add-zero}
 use borrow.Author.Tests.{ne_eqb}
-use borrow.Author.Rules.{rules}
 use Rattle.line_measure.proofs.measured.Goals as goal
 
 pub returns-then-byte-eq-PLUS : goal.returns-then-byte-eq-PLUS

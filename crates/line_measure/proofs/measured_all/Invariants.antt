@@ -1,16 +1,8 @@
 -- What is left to measure gives the whole.
-use mathlib.Core.Path.{◌≡◌, sym, ap, ◌∙◌}
-use mathlib.Core.List.{[], ◌∷◌}
-use Prim.Native.Nat.{◌+◌, ◌*◌, ◌-◌, ◌<◌, ◌≤◌, ◌%◌}
-use native.Mathlib.Omega.{arith}
-use borrow.Author.Rules.{rules}
-use lib.ListN.{length, get_or, drop, drop_of_length-le}
-use Rattle.document.specs.Doubling.{stuffed}
-use Rattle.document.specs.Sum.{total}
-use Rattle.line_wire.specs.declared.doubling.Progress.{Progress}
+use mathlib.Core.Path.{◌≡◌}
+use Prim.Native.Nat.{◌+◌, ◌*◌, ◌-◌, ◌<◌, ◌≤◌}
+use lib.ListN.{length, drop}
 use Rattle.line_wire.specs.Put.{progressed}
-use Rattle.line_wire.proofs.Stuffed.{stuffed_one}
-use Rattle.line_wire.proofs.Writing.{progressed_none, progressed_drop}
 use Rattle.line_measure.proofs.measured_all.Given as goal
 
 abbrev pub invariant-loop-i : goal.invariant-loop-i

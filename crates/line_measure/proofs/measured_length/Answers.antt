@@ -3,7 +3,6 @@ use mathlib.Core.Path.{sym}
 use native.Mathlib.Omega.{arith}
 use borrow.Author.Tests.{lt-ltb, le-ltb}
 use Rattle.line_wire.proofs.Writing.{progressed_none}
-use borrow.Author.Rules.{rules}
 use Rattle.line_measure.proofs.measured_length.Goals as goal
 
 pub returns-then-command-lt-FIRST_FAST : goal.returns-then-command-lt-FIRST_FAST

@@ -8,7 +8,6 @@ use Rattle.document.specs.Message.{length_part}
 use Rattle.line_wire.specs.declared.doubling.Progress.{Progress}
 use Rattle.line_wire.proofs.Stuffed.{stuffed_length}
 use Rattle.line_measure.proofs.Parts.{length_part_short, measured_command}
-use borrow.Author.Rules.{rules}
 use Rattle.line_measure.proofs.wire_length.Goals as goal
 
 pub measured_all-behind-requires : goal.measured_all-behind-requires

@@ -1,11 +1,7 @@
 -- No byte passed is a zero; the search stops at one, or at memory's end, where a zero is read too.
-use mathlib.Core.Logic.{⊎_elim}
 use Prim.Native.Nat.{◌-◌, ◌≤◌}
-use native.Mathlib.Omega.{arith}
-use lib.ListN.{length, get_or-eq_default}
-use borrow.Author.Rules.{rules}
-use borrow.Author.Tests.{eqb-true, eqb-false}
-use Rattle.memory_strings.proofs.Search.{NoneUpTo, none_up_to_next, found}
+use lib.ListN.{length}
+use Rattle.memory_strings.proofs.Search.{NoneUpTo}
 use Rattle.memory_strings.proofs.string_length.Given as goal
 
 abbrev pub invariant-loop-end : goal.invariant-loop-end

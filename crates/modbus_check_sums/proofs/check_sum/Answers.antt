@@ -23,7 +23,7 @@ unfolding shifts shifted
 loop-i-preserved c =
     let l = c.loop-i in
     let s = c.args.bytes.now in
-    let entry = stepped_entry l.register (get_or s l.i 0) c.low_byte-low.result (omega (arith, c.shared_slice_known-in-loop-i-1.given l.i)) c.low_byte-low.ensures.0 in
+    let entry = stepped_entry l.register (get_or s l.i 0) c.low_byte-low.result (search rules) c.low_byte-low.ensures.0 in
     (search rules, onward s l.i l.register _ c.loop-i-test.true entry ∙ l.invariant.1)
 
 pub returns : goal.returns

@@ -5,5 +5,4 @@ use Rattle.call_modbus.proofs.sealing.sum_of_front.Goals as goal
 
 pub slice_bounds-check_sum-end : goal.slice_bounds-check_sum-end
 slice_bounds-check_sum-end c =
-    let s = c.before.before in
-    sym (length-take-le s.args.front s.args.out.now s.requires)
+    sym (length-take-le c.args.front c.args.out.now c.requires)

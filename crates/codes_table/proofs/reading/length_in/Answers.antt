@@ -1,5 +1,4 @@
 -- The length's column, read off the entry.
-use borrow.Author.Rules.{rules}
 use borrow.Author.Tests.{ne_eqb}
 use Rattle.codes_table.proofs.reading.length_in.Goals as goal
 

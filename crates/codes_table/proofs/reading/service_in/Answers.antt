@@ -1,7 +1,6 @@
 -- Below the lowest kind that is served nothing else of an entry is looked at.
 use Prim.Native.Nat.{◌/◌, ◌%◌}
 use lib.Dec.{eqb}
-use borrow.Author.Rules.{rules}
 use borrow.Author.Tests.{lt-ltb, le-ltb}
 use Rattle.codes_table.proofs.reading.service_in.Goals as goal
 

@@ -1,7 +1,6 @@
 -- What the entry of a command says is the rule's.
 use mathlib.Core.Path.{ap, ◌∙◌}
 use native.Mathlib.Omega.{arith}
-use borrow.Author.Rules.{rules}
 use Rattle.codes_table.specs.Table.{length_in}
 use Rattle.codes_table.proofs.Commands.{length_at}
 use Rattle.codes_table.proofs.table.data_length.Goals as goal

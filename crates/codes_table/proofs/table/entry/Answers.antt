@@ -1,7 +1,6 @@
 -- The row of a command's number is its entry.
 use mathlib.Core.Path.{ap, ◌∙◌}
 use native.Mathlib.Omega.{arith}
-use borrow.Author.Rules.{rules}
 use Rattle.codes_rows.specs.Rows.{row_at}
 use Rattle.codes_table.proofs.Commands.{row_at_lem}
 use Rattle.codes_table.proofs.table.entry.Goals as goal

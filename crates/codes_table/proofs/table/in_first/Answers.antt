@@ -1,5 +1,4 @@
 -- The quarter is its rule at every command, by one computation.
-use borrow.Author.Rules.{rules}
 use Rattle.document.specs.Kinds.{kind_of}
 use Rattle.document.specs.Services.{service_of}
 use Rattle.codes_rows.specs.Rows.{row_number}

@@ -1,6 +1,5 @@
 -- The quarter is its rule at every command, by one computation.
 use Prim.Native.Nat.{ℕ, ◌+◌}
-use borrow.Author.Rules.{rules}
 use Rattle.document.specs.Kinds.{kind_of}
 use Rattle.document.specs.Services.{service_of}
 use Rattle.codes_rows.specs.Rows.{row_number}

@@ -1,7 +1,6 @@
 -- What the entry of a command says is the rule's.
 use mathlib.Core.Path.{ap, ◌∙◌}
 use native.Mathlib.Omega.{arith}
-use borrow.Author.Rules.{rules}
 use Rattle.codes_table.specs.Table.{service_in}
 use Rattle.codes_table.proofs.Commands.{service_at}
 use Rattle.codes_table.proofs.table.service_of.Goals as goal

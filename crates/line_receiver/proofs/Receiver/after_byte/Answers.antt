@@ -2,7 +2,6 @@
 use mathlib.Core.Path.{sym, ◌∙◌}
 use borrow.Author.Tests.{eq-eqb, ne_eqb}
 use Rattle.line_receiver.specs.Step.{after_byte}
-use borrow.Author.Rules.{rules}
 use Rattle.line_receiver.proofs.Receiver.after_byte.Goals as goal
 
 pub returns-then-plus-self : goal.returns-then-plus-self

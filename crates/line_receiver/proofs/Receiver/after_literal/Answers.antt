@@ -1,6 +1,5 @@
 -- One branch for each phase.
 use borrow.Author.Tests.{eq-eqb, ne_eqb}
-use borrow.Author.Rules.{rules}
 use Rattle.line_receiver.proofs.Receiver.after_literal.Goals as goal
 
 pub returns-then-self-eq-DATA_NEXT : goal.returns-then-self-eq-DATA_NEXT

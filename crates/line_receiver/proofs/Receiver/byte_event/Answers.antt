@@ -2,7 +2,6 @@
 use mathlib.Core.Path.{sym, ◌∙◌}
 use borrow.Author.Tests.{eq-eqb, ne_eqb}
 use Rattle.line_receiver.specs.Step.{byte_event}
-use borrow.Author.Rules.{rules}
 use Rattle.line_receiver.proofs.Receiver.byte_event.Goals as goal
 
 pub returns-then-plus_of-self : goal.returns-then-plus_of-self

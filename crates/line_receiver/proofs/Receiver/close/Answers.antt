@@ -1,5 +1,4 @@
 -- The sum byte is added and the message is over.
-use borrow.Author.Rules.{rules}
 use Rattle.line_receiver.proofs.Receiver.close.Goals as goal
 
 pub returns : goal.returns

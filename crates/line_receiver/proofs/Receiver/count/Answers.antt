@@ -1,5 +1,4 @@
 -- A data byte is added and counted.
-use borrow.Author.Rules.{rules}
 use Rattle.line_receiver.proofs.Receiver.count.Goals as goal
 
 pub returns : goal.returns

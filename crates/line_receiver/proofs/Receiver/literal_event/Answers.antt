@@ -1,6 +1,5 @@
 -- One branch for each phase that has an event, and the 64th place told from those behind it.
 use borrow.Author.Tests.{lt-ltb, le-ltb, eq-eqb, ne_eqb}
-use borrow.Author.Rules.{rules}
 use Rattle.line_receiver.proofs.Receiver.literal_event.Goals as goal
 
 pub returns-then-at-lt-MOST_DATA_BYTE : goal.returns-then-at-lt-MOST_DATA_BYTE

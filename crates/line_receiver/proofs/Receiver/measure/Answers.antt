@@ -1,5 +1,4 @@
 -- The length byte is added and says how many data bytes come.
-use borrow.Author.Rules.{rules}
 use Rattle.line_receiver.proofs.Receiver.measure.Goals as goal
 
 pub returns : goal.returns

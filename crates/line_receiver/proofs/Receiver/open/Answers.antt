@@ -1,6 +1,5 @@
 -- The two kinds of command, told by 0xC0.
 use borrow.Author.Tests.{lt-ltb, le-ltb}
-use borrow.Author.Rules.{rules}
 use Rattle.line_receiver.proofs.Receiver.open.Goals as goal
 
 pub returns-then-command-lt-FIRST_FAST : goal.returns-then-command-lt-FIRST_FAST

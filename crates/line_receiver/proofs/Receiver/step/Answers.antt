@@ -1,6 +1,5 @@
 -- The next state and the event, each by its own contract.
 use Rattle.line_receiver.specs.Step.{stepped}
-use borrow.Author.Rules.{rules}
 use Rattle.line_receiver.proofs.Receiver.step.Goals as goal
 
 pub returns : goal.returns

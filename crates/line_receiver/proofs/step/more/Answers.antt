@@ -1,6 +1,5 @@
 -- One more where one is to come.
 use borrow.Author.Tests.{lt-ltb, le-ltb}
-use borrow.Author.Rules.{rules}
 use Rattle.line_receiver.proofs.step.more.Goals as goal
 
 pub returns-then-have-length : goal.returns-then-have-length

@@ -1,11 +1,10 @@
 -- What is left to put gives the whole: the invariant of a doubled copy.
 use mathlib.Core.Path.{◌≡◌, ap}
 use mathlib.Core.List.{[], ◌∷◌}
-use Prim.Native.Nat.{◌+◌, ◌-◌, ◌<◌, ◌≤◌, ◌%◌}
+use Prim.Native.Nat.{◌+◌, ◌<◌, ◌%◌}
 use native.Mathlib.Omega.{arith}
 use borrow.Author.Rules.{rules}
 use lib.ListN.{length, get_or, drop, drop_of_length-le}
-use lib.Seq.{sets}
 use Rattle.document.specs.Doubling.{stuffed}
 use Rattle.document.specs.Sum.{total}
 use Rattle.line_wire.specs.declared.doubling.Progress.{Progress}

@@ -1,15 +1,10 @@
 -- What is left to put gives the whole: the invariant of a doubled copy.
-use mathlib.Core.Path.{◌≡◌, ap}
-use mathlib.Core.List.{[], ◌∷◌}
+use mathlib.Core.Path.{◌≡◌}
 use Prim.Native.Nat.{◌+◌, ◌-◌, ◌<◌, ◌≤◌, ◌%◌}
-use native.Mathlib.Omega.{arith}
-use borrow.Author.Rules.{rules}
-use lib.ListN.{length, get_or, drop, drop_of_length-le}
+use lib.ListN.{length, drop}
 use lib.Seq.{sets}
 use Rattle.document.specs.Doubling.{stuffed}
 use Rattle.document.specs.Sum.{total}
-use Rattle.line_wire.specs.declared.doubling.Progress.{Progress}
-use Rattle.line_wire.proofs.Stuffed.{stuffed-drop-length, stuffed_drop_sets, total_drop}
 use Rattle.line_wire.proofs.doubling.put_all.Given as goal
 
 abbrev pub invariant-loop-i : goal.invariant-loop-i

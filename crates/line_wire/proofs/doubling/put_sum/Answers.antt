@@ -1,6 +1,5 @@
 -- The sum byte is put like any other byte.
 use mathlib.Core.Path.{ap}
-use borrow.Author.Rules.{rules}
 use Rattle.line_wire.specs.declared.doubling.Progress.{Progress}
 use Rattle.line_wire.proofs.doubling.put_sum.Goals as goal
 

@@ -1,12 +1,7 @@
 -- One byte behind the other.
-use mathlib.Core.Path.{◌≡◌, ap}
 use mathlib.Core.List.{[], ◌∷◌}
-use Prim.Native.Nat.{◌+◌, ◌/◌, ◌%◌}
+use Prim.Native.Nat.{◌/◌, ◌%◌}
 use native.Mathlib.Omega.{arith}
-use borrow.Author.Rules.{rules}
-use lib.ListN.{length}
-use Rattle.document.specs.Doubling.{stuffed}
-use Rattle.line_wire.specs.declared.doubling.Progress.{Progress}
 use Rattle.line_wire.proofs.Stuffed.{stuffed_one}
 use Rattle.line_wire.proofs.Writing.{put_append}
 use Rattle.line_wire.proofs.doubling.put_word.Goals as goal

@@ -1,11 +1,8 @@
 -- What is left to store gives the whole: one byte a turn, until values or masks end.
-use mathlib.Core.Path.{◌≡◌, refl, ◌∙◌}
-use Prim.Native.Nat.{◌+◌, ◌-◌, ◌≤◌}
+use mathlib.Core.Path.{refl, ◌∙◌}
 use native.Mathlib.Omega.{arith}
 use native.Mathlib.Nat.{add-zero}
-use lib.ListN.{length, drop}
 use borrow.Author.Rules.{rules}
-use Rattle.document.specs.Stores.{mask_stored}
 use Rattle.memory_masks.proofs.Turns.{mask_stored_next, mask_stored_ended}
 use Rattle.memory_masks.proofs.bytes.store_masked.Goals as goal
 

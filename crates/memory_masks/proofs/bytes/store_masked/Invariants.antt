@@ -1,12 +1,8 @@
 -- What is left to store gives the whole: one byte a turn, until values or masks end.
-use mathlib.Core.Path.{◌≡◌, refl, ◌∙◌}
+use mathlib.Core.Path.{◌≡◌}
 use Prim.Native.Nat.{◌+◌, ◌-◌, ◌≤◌}
-use native.Mathlib.Omega.{arith}
-use native.Mathlib.Nat.{add-zero}
 use lib.ListN.{length, drop}
-use borrow.Author.Rules.{rules}
 use Rattle.document.specs.Stores.{mask_stored}
-use Rattle.memory_masks.proofs.Turns.{mask_stored_next, mask_stored_ended}
 use Rattle.memory_masks.proofs.bytes.store_masked.Given as goal
 
 abbrev pub invariant-loop-i : goal.invariant-loop-i

@@ -1,5 +1,5 @@
 -- The word is masked as its two bytes are.
-use mathlib.Core.Path.{◌≡◌, sym, ap, ◌∙◌}
+use mathlib.Core.Path.{sym, ap, ◌∙◌}
 use Prim.Native.Nat.{ℕ}
 use lib.Seq.{sets}
 use Rattle.document.specs.Values.{little_endian}

@@ -1,5 +1,4 @@
 -- The range is tested against the end of the variables.
-use borrow.Author.Rules.{rules}
 use Rattle.document.specs.Permission.{may_be_written}
 use Rattle.memory_ranges.proofs.ranges.may_be_written.Goals as goal
 

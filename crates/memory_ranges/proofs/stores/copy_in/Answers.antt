@@ -1,10 +1,8 @@
 -- What is left to store gives the whole: one byte a turn.
-use mathlib.Core.Path.{◌≡◌, refl, ◌∙◌}
-use Prim.Native.Nat.{◌+◌, ◌-◌, ◌≤◌}
+use mathlib.Core.Path.{refl, ◌∙◌}
 use native.Mathlib.Nat.{add-zero}
-use lib.ListN.{length, drop, drop_of_length-le}
+use lib.ListN.{drop_of_length-le}
 use borrow.Author.Rules.{rules}
-use Rattle.document.specs.Stores.{stored}
 use Rattle.memory_ranges.proofs.Copies.{stored_next}
 use Rattle.memory_ranges.proofs.stores.copy_in.Goals as goal
 

@@ -1,11 +1,8 @@
 -- What is left to store gives the whole: one byte a turn.
-use mathlib.Core.Path.{◌≡◌, refl, ◌∙◌}
+use mathlib.Core.Path.{◌≡◌}
 use Prim.Native.Nat.{◌+◌, ◌-◌, ◌≤◌}
-use native.Mathlib.Nat.{add-zero}
-use lib.ListN.{length, drop, drop_of_length-le}
-use borrow.Author.Rules.{rules}
+use lib.ListN.{length, drop}
 use Rattle.document.specs.Stores.{stored}
-use Rattle.memory_ranges.proofs.Copies.{stored_next}
 use Rattle.memory_ranges.proofs.stores.copy_in.Given as goal
 
 abbrev pub invariant-loop-i : goal.invariant-loop-i

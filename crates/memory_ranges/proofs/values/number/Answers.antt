@@ -1,10 +1,10 @@
 -- From the highest byte down: the number so far is that of the bytes passed, and below the power of their count.
 use mathlib.Core.Path.{◌≡◌, sym, ap}
-use Prim.Native.Nat.{◌-◌, ◌^◌, ◌<◌, ◌≤◌}
+use Prim.Native.Nat.{◌-◌}
 use native.Mathlib.Nat.{sub_self, sub-zero, pow-zero}
 use native.Mathlib.Omega.{arith}
 use lib.Seq.{drop-length}
-use lib.ListN.{length, drop}
+use lib.ListN.{length}
 use borrow.Author.Rules.{rules}
 use Rattle.document.specs.Values.{number}
 use Rattle.memory_ranges.proofs.Widths.{bytes_bits, fewer_bytes, byte_more, byte_more_below}

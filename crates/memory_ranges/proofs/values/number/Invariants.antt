@@ -1,13 +1,8 @@
 -- From the highest byte down: the number so far is that of the bytes passed, and below the power of their count.
-use mathlib.Core.Path.{◌≡◌, sym, ap}
+use mathlib.Core.Path.{◌≡◌}
 use Prim.Native.Nat.{◌-◌, ◌^◌, ◌<◌, ◌≤◌}
-use native.Mathlib.Nat.{sub_self, sub-zero, pow-zero}
-use native.Mathlib.Omega.{arith}
-use lib.Seq.{drop-length}
 use lib.ListN.{length, drop}
-use borrow.Author.Rules.{rules}
 use Rattle.document.specs.Values.{number}
-use Rattle.memory_ranges.proofs.Widths.{bytes_bits, fewer_bytes, byte_more, byte_more_below}
 use Rattle.memory_ranges.proofs.values.number.Given as goal
 
 abbrev pub invariant-loop-i : goal.invariant-loop-i

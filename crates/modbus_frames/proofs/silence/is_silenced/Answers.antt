@@ -1,4 +1,5 @@
 -- Reason by reason; the check sum over the whole frame leaves 0 where it is right.
+use borrow.Author.Rules.{rules}
 use Rattle.document.proofs.Bytes.{all_of_bytes}
 use Rattle.modbus_frames.proofs.Silenced.{too_short, too_long, elsewhere, no_function, by_check_sum}
 use Rattle.modbus_frames.proofs.silence.is_silenced.Goals as goal
@@ -26,6 +27,6 @@ returns-then-frame-gt-LAST_FUNCTION c =
 pub returns : goal.returns
 returns c =
     by_check_sum c.args.station c.args.frame.now
-    (all_of_bytes c.args.frame.now (λ i. (c.shared_slice_known-1.given i).fits))
+    (all_of_bytes c.args.frame.now (search rules))
     c.requires c.if-frame-lt-SHORTEST.false c.if-frame-gt-LONGEST.false c.if-frame-station.false c.if-frame-gt-LAST_FUNCTION.false
     c.check_sum.result c.check_sum.ensures

@@ -6,15 +6,12 @@ use Rattle.modbus_functions.proofs.telling.tell_front.Goals as goal
 
 pub slice_bounds-copy_in-end : goal.slice_bounds-copy_in-end
 slice_bounds-copy_in-end c =
-    let s = c.before.before.before.before in
-    sym (length-take-le s.args.front s.args.frame.now s.requires.0)
+    sym (length-take-le c.args.front c.args.frame.now c.requires.0)
 
 pub copy_in-requires : goal.copy_in-requires
 copy_in-requires c =
-    let s = c.before.before.before.before in
-    omega (arith, length-take-le s.args.front s.args.frame.now s.requires.0, s.requires.1)
+    omega (arith, length-take-le c.args.front c.args.frame.now c.requires.0, c.requires.1)
 
 pub returns : goal.returns
 returns c =
-    let s = c.before.before.before.before.before.before.before in
-    record { length = sym (length-take-le s.args.front s.args.frame.now s.requires.0); buffer = c.copy_in.ensures }
+    record { length = sym (length-take-le c.args.front c.args.frame.now c.requires.0); buffer = c.copy_in.ensures }

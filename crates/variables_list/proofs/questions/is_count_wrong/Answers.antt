@@ -1,6 +1,5 @@
 -- A count other than 0 is wrong just where it is above eight.
 use borrow.Author.Tests.{eq-eqb, ne_eqb}
-use borrow.Author.Rules.{rules}
 use Rattle.variables_list.proofs.questions.is_count_wrong.Goals as goal
 
 pub returns-then-count-eq0 : goal.returns-then-count-eq0
