@@ -1,4 +1,6 @@
 // The application command over the line: 0x10 and 0xC6.
+#![tactic(auto)]
+
 ghost use Rattle.std.specs.Prelude.{◌≡◌, List, ℕ, ◌≤◌, length};
 ghost use Rattle.document.specs.Numbers.{answer_room};
 ghost use Rattle.document.specs.Application.{result_byte};

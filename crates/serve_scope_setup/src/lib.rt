@@ -1,4 +1,6 @@
 // The scope's setup, in the block that holds the state: 0x08 and 0x0A.
+#![tactic(auto)]
+
 ghost use Rattle.std.specs.Prelude.{List, ℕ, ◌≤◌, length};
 ghost use Rattle.document.specs.Commands.{served};
 ghost use Rattle.document.specs.declared.Operation.TheVariants.{SetUpScope};

@@ -1,4 +1,6 @@
 // The registered tables over the line: 0x11.
+#![tactic(auto)]
+
 ghost use Rattle.std.specs.Prelude.{◌≡◌, ◌&&◌, List, ℕ, ◌≤◌, ltb, length};
 ghost use Rattle.document.specs.Numbers.{answer_room, done};
 ghost use Rattle.document.specs.Tables.{most_tables, table_answer};
