@@ -3,8 +3,7 @@ ghost use Rattle.call_modbus.specs.Promises.{ModbusDone};
 
 use line_wire::Written;
 
-#[unsafe(no_mangle)]
-pub extern "C" fn log_gate_modbus(
+pub fn log_gate_modbus(
     station: u16,
     frame: &[u8],
     memory: &mut [u8],
