@@ -19,12 +19,7 @@ pub fn log_gate_check(state: &[u8]) -> u8
     call_checks::check(state)
 }
 
-pub fn log_gate_byte(
-    state: &mut [u8],
-    byte: u8,
-    memory: &mut [u8],
-    answer: &mut [u8],
-) -> Taken
+pub fn log_gate_byte(state: &mut [u8], byte: u8, memory: &mut [u8], answer: &mut [u8]) -> Taken
     ensures { ByteTaken state.old byte memory.old answer.old result state.new memory.new answer.new }
 {
     call_byte::byte(state, byte, memory, answer)

@@ -33,12 +33,7 @@ fn show_written<W: Write>(
 }
 
 // The size, the address, and so many bytes of 0x11, as the command writer writes them.
-fn show_write<W: Write>(
-    size: u8,
-    expected: &[u8],
-    last: u8,
-    out: &mut Output<W>,
-) -> io::Result<()>
+fn show_write<W: Write>(size: u8, expected: &[u8], last: u8, out: &mut Output<W>) -> io::Result<()>
     requires { size ≤ 62 }
 {
     let mut body = [0x11u8; 65];
