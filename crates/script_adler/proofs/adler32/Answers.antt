@@ -1,16 +1,9 @@
 -- What is left of the bytes gives the whole: the invariant of the two sums.
 use mathlib.Core.Path.{◌≡◌}
 use mathlib.Core.List.{[]}
-<<<<<<< HEAD
-use Prim.Native.Nat.{◌-◌, ◌<◌, ◌≤◌}
-use borrow.Author.Rules.{rules}
-use lib.ListN.{length, drop, drop_of_length-le}
-use Rattle.script_adler.specs.Adler.{adler_from, adler32}
-=======
 use borrow.Author.Rules.{rules}
 use lib.ListN.{drop, drop_of_length-le}
 use Rattle.script_adler.specs.Adler.{adler_from}
->>>>>>> fc9d092a764cfe3cec6b8952604ef1b84cb88ff0
 use Rattle.script_adler.proofs.Sums.{adler_next}
 use Rattle.script_adler.proofs.adler32.Goals as goal
 
