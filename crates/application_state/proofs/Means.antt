@@ -1,5 +1,5 @@
 -- What is stored stands for what the document says of it.
-use mathlib.Core.Path.{◌≡◌, refl, sym, ap, ◌∙◌}
+use mathlib.Core.Path.{◌≡◌, refl, ap, ◌∙◌}
 use mathlib.Core.Bool.{Bool, true, false, cond, not}
 use mathlib.Core.List.{List, []}
 use Prim.Native.Nat.{ℕ, ◌≤◌}
@@ -10,9 +10,9 @@ use lib.ListN.{length, take, drop, length-take}
 use lib.Seq.{take-append_seam}
 use Rattle.document.specs.Numbers.{most_data}
 use Rattle.document.specs.Application.{after_collect, after_report, new_command, is_pending, is_collected as collectedNow}
-use Rattle.document.specs.Application.Application.{none, waiting, collected, ended}
+use Rattle.document.specs.Application.Application.{none, waiting}
 use Rattle.document.proofs.Cases.{split, neither, and_right}
-use Rattle.application_state.specs.State.{is_none, is_waiting, is_collected, is_ended, Command, application_of, no_command, sound, sent_command, collected_command, ended_command}
+use Rattle.application_state.specs.State.{is_none, is_waiting, is_collected, Command, application_of, no_command, sound, sent_command, collected_command, ended_command}
 
 pub fresh_means : application_of no_command ≡ none
 fresh_means = refl

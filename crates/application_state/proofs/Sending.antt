@@ -1,14 +1,13 @@
 -- A 0x10, accepted or refused, and what is then stored.
-use mathlib.Core.Path.{◌≡◌, refl, sym, ◌∙◌}
-use mathlib.Core.Bool.{Bool, true, false, ◌||◌}
-use mathlib.Core.List.{List, []}
+use mathlib.Core.Path.{◌≡◌, refl}
+use mathlib.Core.List.{List}
 use Prim.Native.Nat.{ℕ}
 use native.Mathlib.Omega.{arith}
 use borrow.Author.Tests.{eqb-false}
 use lib.Dec.{eqb}
 use lib.ListN.{length}
 use Rattle.document.specs.Numbers.{done}
-use Rattle.document.specs.Application.{Application, is_pending}
+use Rattle.document.specs.Application.{is_pending}
 use Rattle.document.specs.Application.Application.{waiting}
 use Rattle.document.specs.Refusals.{first_of, send_lines}
 use Rattle.document.specs.Gate.{Gate}

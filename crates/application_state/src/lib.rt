@@ -1,4 +1,5 @@
 // The application command in the target's state: which of four phases it is in. Its bytes stand in the block, behind these.
+#![tactic(auto)]
 
 // Before any command.
 pub const NONE: u8 = 0;

@@ -1,4 +1,6 @@
 // What a recorder's setup fixes: the plan, and the bounds of its trigger.
+#![tactic(auto)]
+
 mod bounds;
 mod plan;
 

@@ -1,4 +1,6 @@
 // A recorder's setup: the plan in its data part, and the first refusal that applies.
+#![tactic(auto)]
+
 mod fields;
 mod refusals;
 

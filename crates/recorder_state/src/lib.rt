@@ -1,4 +1,6 @@
 // The recorder between its ticks: preparing, start, stop, status and start index.
+#![tactic(auto)]
+
 mod calls;
 mod preparing;
 mod state;

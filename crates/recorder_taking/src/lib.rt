@@ -1,4 +1,6 @@
 // What a tick takes of the memory when a set is due, and where it goes.
+#![tactic(auto)]
+
 ghost use Rattle.std.specs.Prelude.{◌≡◌, true, ◌+◌, ◌*◌, ◌^◌, ◌≤◌, ◌<◌, length};
 ghost use Rattle.document.specs.Areas.{buffer_begin, memory_end};
 ghost use Rattle.document.specs.Variables.{set_size};

@@ -1,4 +1,6 @@
 // The scope: up to eight variables that one short command reads together.
+#![tactic(auto)]
+
 mod setup;
 
 pub use setup::set_up_status;

@@ -1,3 +1,5 @@
+#![tactic(auto)]
+
 // The registered tables in the target's state: how many there are, and an address and a size of 2 bytes for each.
 pub const MOST_TABLES: u8 = 16;
 

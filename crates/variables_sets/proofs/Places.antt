@@ -1,13 +1,12 @@
 -- A set into its place: turns of the copy, which reads below the place and writes in it.
-use mathlib.Core.Path.{◌≡◌, refl, sym, ap, ◌∙◌}
+use mathlib.Core.Path.{◌≡◌, sym, ap, ◌∙◌}
 use mathlib.Core.Bool.{Bool, true}
-use mathlib.Core.List.{List, [], ◌∷◌, ◌++◌}
-use Prim.Native.Nat.{ℕ, suc, zero, ◌+◌, ◌-◌, ◌<◌, ◌≤◌}
-use native.Mathlib.Nat.{zero-add, suc-add}
+use mathlib.Core.List.{List, ◌∷◌, ◌++◌}
+use Prim.Native.Nat.{ℕ, ◌+◌, ◌-◌, ◌<◌, ◌≤◌}
 use native.Mathlib.Numerals.{add-one}
 use native.Mathlib.Omega.{arith}
 use lib.ListN.{length, get_or, set, take, drop, length-set, take-append-drop}
-use lib.Seq.{drop-cons, drop-set-add, drop-set-lt, get_or-drop, get_or-take, take-nil, take-set-le, take-set-lt, take-take}
+use lib.Seq.{drop-cons, drop-set-add, drop-set-lt, get_or-drop, get_or-take, take-set-le, take-set-lt}
 use Rattle.document.specs.Areas.{bytes_at}
 use Rattle.document.specs.Values.{number}
 use Rattle.document.specs.Stores.{stored}

@@ -1,5 +1,7 @@
 // A set: the bytes of the recorded variables, copied in their order into a place of the ring. Their definitions are read where
 // they lie in a block, one by one.
+#![tactic(auto)]
+
 ghost use Rattle.std.specs.Prelude.{◌≡◌, true, ◌+◌, ◌*◌, ◌≤◌, ◌<◌, length, set};
 ghost use Rattle.document.specs.Areas.{buffer_begin, bytes_at};
 ghost use Rattle.document.specs.Stores.{stored};

@@ -1,4 +1,6 @@
 // What a part's definitions come to, in one pass over the bytes where they stand.
+#![tactic(auto)]
+
 ghost use Rattle.std.specs.Prelude.{◌≡◌, true, ◌+◌, ◌*◌, ◌≤◌, length, drop};
 ghost use Rattle.document.specs.Variables.{definition_width, definitions_in, count_in, variables_in};
 ghost use Rattle.variables_definitions.specs.Parts.{variable_of, is_whole};

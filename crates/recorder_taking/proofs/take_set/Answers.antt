@@ -1,13 +1,8 @@
 -- The place begins so many sizes of a set behind the buffer's begin, and ends within the memory.
 use mathlib.Core.Bool.{true}
-use mathlib.Core.List.{List}
 use mathlib.Core.Path.{◌≡◌}
-use Prim.Native.Nat.{◌+◌, ◌*◌, ◌≤◌}
-use native.Mathlib.Omega.{arith}
+use Prim.Native.Nat.{◌*◌}
 use lib.ListN.{drop}
-use borrow.Author.Rules.{rules}
-use Rattle.document.specs.declared.Variable.{Variable}
-use Rattle.document.specs.Areas.{buffer_begin, memory_end}
 use Rattle.document.specs.Variables.{definitions_in, set_size}
 use Rattle.recorder_taking.proofs.take_set.Goals as goal
 

@@ -6,7 +6,6 @@ use Rattle.document.specs.Areas.{recorded_end, bytes_at}
 use Rattle.document.specs.Values.{number}
 use Rattle.recorder_plans.proofs.Granted.{plan_bounds}
 use native.Mathlib.Omega.{arith}
-use borrow.Author.Rules.{rules}
 use Rattle.recorder_taking.proofs.trigger_value.Goals as goal
 
 pub number_at-requires : goal.number_at-requires

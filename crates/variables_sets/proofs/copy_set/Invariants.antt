@@ -1,19 +1,11 @@
 -- What is left to copy gives the whole: one variable a turn; below the place nothing changes.
 use mathlib.Core.Bool.{true}
-use mathlib.Core.Path.{◌≡◌, refl, ◌∙◌}
-use mathlib.Core.List.{List}
-use Prim.Native.Nat.{ℕ, ◌+◌, ◌-◌, ◌*◌, ◌<◌, ◌≤◌}
-use native.Mathlib.Nat.{add-zero}
-use native.Mathlib.Omega.{arith}
+use mathlib.Core.Path.{◌≡◌}
+use Prim.Native.Nat.{◌+◌, ◌*◌, ◌≤◌}
 use lib.ListN.{length, take, drop}
-use borrow.Author.Tests.{leb-true}
-use borrow.Author.Rules.{rules}
-use Rattle.document.specs.Areas.{recorded_end, may_be_recorded, bytes_at}
-use Rattle.document.specs.Values.{number}
+use Rattle.document.specs.Areas.{may_be_recorded}
 use Rattle.document.specs.Stores.{stored}
 use Rattle.document.specs.Variables.{definitions_in, all_may, set_size, values_of}
-use Rattle.memory_ranges.proofs.Copies.{stored_length}
-use Rattle.variables_sets.proofs.Places.{stored_front, size_first, may_first, variable_kept}
 use Rattle.variables_sets.proofs.copy_set.Given as goal
 
 abbrev pub invariant-loop-left : goal.invariant-loop-left

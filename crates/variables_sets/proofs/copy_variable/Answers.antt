@@ -1,13 +1,10 @@
 -- What is left to copy gives the whole: one byte a turn, read below the place.
 use mathlib.Core.List.{◌++◌}
 use mathlib.Core.Path.{◌≡◌, refl, ◌∙◌}
-use Prim.Native.Nat.{◌+◌, ◌-◌, ◌≤◌}
-use native.Mathlib.Nat.{add-zero}
+use Prim.Native.Nat.{◌+◌, ◌-◌}
 use native.Mathlib.Omega.{arith}
-use lib.ListN.{length, get_or, set, take, drop, length-take, drop_of_length-le}
+use lib.ListN.{get_or, set, take, drop}
 use borrow.Author.Rules.{rules}
-use Rattle.document.specs.Stores.{stored}
-use Rattle.document.specs.Areas.{bytes_at}
 use Rattle.variables_sets.proofs.Places.{part_set, byte_kept}
 use Rattle.variables_sets.proofs.copy_variable.Goals as goal
 

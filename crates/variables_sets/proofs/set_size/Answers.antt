@@ -1,13 +1,9 @@
 -- The sum so far and the sizes still to come make the whole.
-use mathlib.Core.Bool.{true}
 use mathlib.Core.Path.{◌≡◌, refl}
-use Prim.Native.Nat.{◌+◌, ◌-◌, ◌*◌, ◌≤◌}
+use Prim.Native.Nat.{◌+◌}
 use native.Mathlib.Omega.{arith}
-use lib.ListN.{drop}
-use borrow.Author.Rules.{rules}
 use Rattle.document.specs.Areas.{bytes_at}
 use Rattle.document.specs.Values.{number}
-use Rattle.document.specs.Variables.{definitions_in, set_size}
 use Rattle.variables_sets.proofs.Places.{size_first}
 use Rattle.variables_sets.proofs.set_size.Goals as goal
 

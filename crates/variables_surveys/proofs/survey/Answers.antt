@@ -4,7 +4,6 @@ use Prim.Native.Nat.{ℕ, ◌*◌}
 use native.Mathlib.Omega.{arith}
 use lib.ListN.{length, drop}
 use borrow.Author.Tests.{eqb-true}
-use borrow.Author.Rules.{rules}
 use Rattle.document.specs.Variables.{definition_width, definitions_in, length_given}
 use Rattle.variables_surveys.specs.Survey.{surveyed}
 use Rattle.variables_surveys.proofs.survey.Goals as goal
@@ -16,16 +15,14 @@ bounds-part-0 c =
 
 pub survey_all-requires : goal.survey_all-requires
 survey_all-requires c =
-    let right : length c.args.part.now ≡ length_given c.args.ex c.args.part.now = eqb-true _ _ c.requires.0 in
-    (
+    let right : length c.args.part.now ≡ length_given c.args.ex c.args.part.now = eqb-true _ _ c.requires.0 in (
       omega (arith, c.requires.1),
       omega (arith, right, ap (λ (n : ℕ). n * definition_width c.args.ex) c.usize_of_u8.ensures.0),
     )
 
 pub returns : goal.returns
-returns c =
-    (
-      c.survey_all.ensures.0
-          ∙ ap (λ (n : ℕ). surveyed c.args.limit (definitions_in c.args.ex n (drop 1 c.args.part.now))) c.usize_of_u8.ensures.0,
-      c.survey_all.ensures.1,
-    )
+returns c = (
+  c.survey_all.ensures.0
+      ∙ ap (λ (n : ℕ). surveyed c.args.limit (definitions_in c.args.ex n (drop 1 c.args.part.now))) c.usize_of_u8.ensures.0,
+  c.survey_all.ensures.1,
+)

@@ -1,6 +1,5 @@
 -- The definition that is read is looked at, and is the first of those that were left.
 use Rattle.std.proofs.Common.{◌≡◌, ◌∙◌, ◌+◌, ◌-◌, ◌<◌, ℕ, List, sym, ap, arith, drop}
-use Rattle.document.specs.declared.Variable.{Variable}
 use Rattle.document.specs.Variables.{definitions_in}
 use Rattle.variables_definitions.specs.declared.reader.Definition.{Definition}
 use Rattle.variables_definitions.specs.declared.reader.Reader.{Reader}

@@ -1,5 +1,4 @@
 -- The comparison is made at a width that holds both.
-use borrow.Author.Rules.{rules}
 use Rattle.recorder_plans.proofs.bounds.does_fit.Goals as goal
 
 pub returns : goal.returns

@@ -1,6 +1,5 @@
 -- Without a trigger no size, else one of three.
 use borrow.Author.Tests.{eq-eqb, ne_eqb}
-use borrow.Author.Rules.{rules}
 use Rattle.recorder_plans.proofs.bounds.is_size_sound.Goals as goal
 
 pub returns-then-mode-eq0 : goal.returns-then-mode-eq0

@@ -1,9 +1,5 @@
 -- Test by test; a size that passes is at most 4, which the last one leans on.
-use mathlib.Core.Path.{sym, ◌∙◌}
-use borrow.Author.Tests.{le-leb, lt-leb, not-true, not-false}
-use Rattle.recorder_plans.proofs.Granted.{size_bounds}
-use native.Mathlib.Omega.{arith}
-use borrow.Author.Rules.{rules}
+use borrow.Author.Tests.{lt-leb}
 use Rattle.recorder_plans.proofs.bounds.is_trigger_sound.Goals as goal
 
 pub returns-then-mode-gt2 : goal.returns-then-mode-gt2

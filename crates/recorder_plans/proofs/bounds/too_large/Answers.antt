@@ -5,7 +5,6 @@ use native.Mathlib.Nat.{one-mul}
 use lib.Dec.{lit<}
 use lib.Pow.{shl_exact}
 use native.Mathlib.Omega.{arith}
-use borrow.Author.Rules.{rules}
 use Rattle.recorder_plans.proofs.bounds.too_large.Goals as goal
 
 pub returns : goal.returns

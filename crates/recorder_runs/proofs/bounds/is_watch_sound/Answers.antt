@@ -1,6 +1,5 @@
 -- By the watch, and within it test by test.
 use borrow.Author.Tests.{eq-eqb, ne_eqb, le-leb, lt-leb}
-use borrow.Author.Rules.{rules}
 use Rattle.recorder_runs.proofs.bounds.is_watch_sound.Goals as goal
 
 pub returns-then-watch-eq-UNPRIMED : goal.returns-then-watch-eq-UNPRIMED

@@ -9,18 +9,16 @@ use Rattle.document.specs.Plan.{no_trigger, plan_in}
 use Rattle.variables_list.specs.State.{kept}
 use Rattle.recorder_setups.proofs.Heads.{trigger_fields, trigger_none, trigger_some, plan_kept_lem}
 use native.Mathlib.Omega.{arith}
-use borrow.Author.Rules.{rules}
 use Rattle.recorder_setups.proofs.fields.read_plan.Goals as goal
 
 pub returns-then-mode-eq0 : goal.returns-then-mode-eq0
 unfolding plan_in
-returns-then-mode-eq0 c =
-    (
-      plan_kept_lem (plan_in c.args.ex c.args.body.now) no_trigger (kept []) _ _ _ 0 0 0 0 0
-          c.word_at.ensures c.word_at-2.ensures c.word_at-3.ensures
-          (trigger_none c.args.ex c.args.body.now c.if-mode-eq0.true) refl refl refl refl refl,
-      λ h. omega arith,
-    )
+returns-then-mode-eq0 c = (
+  plan_kept_lem (plan_in c.args.ex c.args.body.now) no_trigger (kept []) _ _ _ 0 0 0 0 0
+      c.word_at.ensures c.word_at-2.ensures c.word_at-3.ensures
+      (trigger_none c.args.ex c.args.body.now c.if-mode-eq0.true) refl refl refl refl refl,
+  λ h. omega arith,
+)
 
 pub returns : goal.returns
 unfolding plan_in

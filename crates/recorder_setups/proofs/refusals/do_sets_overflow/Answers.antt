@@ -1,7 +1,6 @@
 -- A product of two numbers that are small enough for it.
 use native.Mathlib.Nat.{mul-le-mul}
 use native.Mathlib.Omega.{arith}
-use borrow.Author.Rules.{rules}
 use Rattle.recorder_setups.proofs.refusals.do_sets_overflow.Goals as goal
 
 pub overflow_mul-result : goal.overflow_mul-result

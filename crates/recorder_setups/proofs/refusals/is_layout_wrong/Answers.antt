@@ -6,7 +6,6 @@ use native.Mathlib.Omega.{arith}
 use lib.Dec.{eqb}
 use lib.ListN.{length, get_or}
 use borrow.Author.Tests.{eqb-true, lt-ltb, le-ltb, ne_eqb, not-false}
-use borrow.Author.Rules.{rules}
 use Rattle.document.specs.Variables.{length_given}
 use Rattle.document.specs.Plan.{head_width, variables_part}
 use Rattle.recorder_setups.proofs.refusals.is_layout_wrong.Goals as goal

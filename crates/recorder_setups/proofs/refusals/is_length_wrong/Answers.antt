@@ -5,7 +5,6 @@ use Prim.Native.Nat.{◌+◌}
 use native.Mathlib.Omega.{arith}
 use lib.ListN.{length}
 use borrow.Author.Tests.{ne_eqb}
-use borrow.Author.Rules.{rules}
 use Rattle.document.specs.Variables.{length_given}
 use Rattle.document.specs.Plan.{head_width, variables_part}
 use Rattle.variables_definitions.specs.Parts.{is_whole}

@@ -4,7 +4,6 @@ use mathlib.Core.Bool.{not, ◌&&◌}
 use Prim.Native.Nat.{ℕ, ◌+◌}
 use lib.Dec.{eqb}
 use lib.ListN.{get_or}
-use borrow.Author.Rules.{rules}
 use Rattle.document.specs.Areas.{bytes_at, may_be_recorded}
 use Rattle.document.specs.Values.{number}
 use Rattle.recorder_setups.proofs.refusals.is_range_wrong.Goals as goal

@@ -6,7 +6,6 @@ use Prim.Native.Nat.{ℕ, ◌+◌, ◌*◌}
 use lib.Dec.{eqb, ltb}
 use lib.ListN.{get_or}
 use borrow.Author.Tests.{ne_eqb}
-use borrow.Author.Rules.{rules}
 use Rattle.document.specs.Numbers.{is_in}
 use Rattle.document.specs.Plan.{samples_field}
 use Rattle.recorder_setups.proofs.refusals.is_size_wrong.Goals as goal

@@ -2,7 +2,6 @@
 use mathlib.Core.Path.{ap}
 use mathlib.Core.Bool.{not}
 use borrow.Author.Tests.{ne_eqb}
-use borrow.Author.Rules.{rules}
 use Rattle.recorder_setups.proofs.refusals.is_trigger_size_wrong.Goals as goal
 
 pub returns-then-mode-eq0 : goal.returns-then-mode-eq0

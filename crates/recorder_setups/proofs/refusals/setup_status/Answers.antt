@@ -1,12 +1,11 @@
 -- The lines of the table in turn.
 use mathlib.Core.Path.{◌≡◌, sym, ap, ◌∙◌}
-use mathlib.Core.Bool.{Bool, false}
+use mathlib.Core.Bool.{false}
 use mathlib.Core.List.{List}
 use Prim.Native.Nat.{ℕ, ◌+◌, ◌-◌, ◌≤◌}
 use native.Mathlib.Omega.{arith}
 use lib.ListN.{length, take, drop}
 use borrow.Author.Tests.{eq-eqb}
-use borrow.Author.Rules.{rules}
 use Rattle.document.specs.Areas.{recorded_end}
 use Rattle.document.specs.Variables.{length_given, count_in, count_wrong, variables_in}
 use Rattle.document.specs.Plan.{head_width, variables_part, recorded_in, recorder_layout_wrong, recorder_size_wrong, recorder_range_wrong}

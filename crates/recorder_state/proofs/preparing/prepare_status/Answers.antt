@@ -1,6 +1,5 @@
 -- What runs is busy; else the data part decides.
 use mathlib.Core.Path.{refl}
-use borrow.Author.Rules.{rules}
 use Rattle.recorder_state.specs.Preparing.{prepare_status}
 use Rattle.recorder_state.proofs.preparing.prepare_status.Goals as goal
 

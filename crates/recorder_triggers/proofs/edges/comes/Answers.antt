@@ -5,7 +5,6 @@ use Prim.Native.Nat.{ℕ}
 use Rattle.document.specs.Plan.{Trigger}
 use Rattle.document.specs.Trigger.{fires, is_beyond}
 use Rattle.document.proofs.Levels.{edge_of_levels}
-use borrow.Author.Rules.{rules}
 use Rattle.recorder_triggers.proofs.edges.comes.Goals as goal
 
 module _ (t : Trigger) (previous this : ℕ) (now : Bool) (e : now ≡ is_beyond t this) where

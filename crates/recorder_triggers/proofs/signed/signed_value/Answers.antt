@@ -1,11 +1,8 @@
 -- The sign field picks the reading.
-use mathlib.Core.Path.{ap, ◌∙◌}
 use native.Mathlib.Omega.{arith}
 use mir.Syntax.{w64}
-use mir.Facts.{to_z_pos, to_z-of_z}
-use borrow.Author.Tests.{eq-eqb, ne_eqb}
-use borrow.Author.Rules.{rules}
-use Rattle.document.specs.Values.{twos_complement}
+use mir.Facts.{to_z_pos}
+use borrow.Author.Tests.{ne_eqb}
 use Rattle.recorder_triggers.proofs.signed.signed_value.Goals as goal
 
 pub overflow_cast-result : goal.overflow_cast-result

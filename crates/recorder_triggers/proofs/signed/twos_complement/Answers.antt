@@ -1,6 +1,5 @@
 -- Below the half the number stands for itself, from it on for what is missing to the whole; the laws hold at every width.
 use native.Mathlib.Omega.{arith}
-use borrow.Author.Rules.{rules}
 use Rattle.recorder_triggers.proofs.Halves.{halves, top_clear, top_set_fits, top_set}
 use Rattle.recorder_triggers.proofs.signed.twos_complement.Goals as goal
 

@@ -1,12 +1,9 @@
 -- Each answer follows from the tests that led to it.
 use mathlib.Core.Path.{◌≡◌, sym, ap, ◌∙◌}
 use mathlib.Core.Bool.{true, false}
-use mathlib.Core.List.{List}
-use Prim.Native.Nat.{ℕ}
 use native.Mathlib.Omega.{arith}
 use lib.ListN.{length}
 use borrow.Author.Tests.{eqb-true, not-true, not-false}
-use borrow.Author.Rules.{rules}
 use Rattle.document.specs.Areas.{may_be_read}
 use Rattle.document.specs.Variables.{count_in, count_wrong, variables_in, length_given, any_size_zero, all_may}
 use Rattle.variables_list.proofs.Wrong.{count_right}

@@ -3,7 +3,6 @@ use Prim.Native.Nat.{◌+◌}
 use native.Mathlib.Omega.{arith}
 use lib.ListN.{length}
 use borrow.Author.Tests.{lt-leb}
-use borrow.Author.Rules.{rules}
 use Rattle.document.specs.Variables.{definition_width}
 use Rattle.variables_definitions.proofs.Read.{there_by_test}
 use Rattle.variables_definitions.proofs.reader.is_there.Goals as goal

@@ -4,8 +4,7 @@ use mathlib.Core.Bool.{true}
 use Prim.Native.Nat.{◌+◌, ◌≤◌}
 use native.Mathlib.Omega.{arith}
 use lib.ListN.{length}
-use borrow.Author.Tests.{leb-true, not-true, not-false}
-use borrow.Author.Rules.{rules}
+use borrow.Author.Tests.{leb-true}
 use Rattle.document.specs.Variables.{definition_width}
 use Rattle.variables_definitions.specs.Parts.{is_there}
 use Rattle.variables_definitions.proofs.reader.place_behind.Goals as goal

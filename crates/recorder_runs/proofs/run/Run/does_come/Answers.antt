@@ -1,14 +1,8 @@
 -- The first set for itself, a later one beside the set before it.
-use mathlib.Core.Path.{◌≡◌, ap, ◌∙◌}
-use Prim.Native.Nat.{ℕ}
+use mathlib.Core.Path.{◌≡◌}
 use native.Mathlib.Omega.{arith}
-use Rattle.document.specs.Plan.{Trigger}
-use Rattle.document.specs.Trigger.{fires, is_beyond}
-use Rattle.recorder_plans.specs.State.{trigger_of}
 use Rattle.recorder_plans.proofs.Granted.{plan_bounds}
 use Rattle.recorder_runs.proofs.Granted.{previous_fits, awaits}
-use Rattle.recorder_runs.proofs.Watches.{first_comes, later_comes}
-use borrow.Author.Rules.{rules}
 use Rattle.recorder_runs.proofs.run.Run.does_come.Goals as goal
 
 pub is_beyond-requires : goal.is_beyond-requires

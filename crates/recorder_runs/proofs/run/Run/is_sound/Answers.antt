@@ -1,9 +1,7 @@
 -- Flags, counts and the watch in turn.
 use mathlib.Core.Path.{◌≡◌, refl, sym, ◌∙◌}
-use mathlib.Core.Bool.{true, false}
-use borrow.Author.Tests.{not-true, not-false}
-use borrow.Author.Rules.{rules}
-use Rattle.recorder_runs.specs.Bounds.{flags_sound, counts_sound}
+use mathlib.Core.Bool.{true}
+use Rattle.recorder_runs.specs.Bounds.{flags_sound}
 use Rattle.recorder_runs.proofs.run.Run.is_sound.Goals as goal
 
 pub returns-then-not-are_flags_sound : goal.returns-then-not-are_flags_sound

@@ -2,7 +2,6 @@
 use Prim.Native.Nat.{◌+◌}
 use borrow.Author.Tests.{eq-eqb, ne_eqb}
 use Rattle.recorder_runs.proofs.Flags.{flag_kept, flag_filled}
-use borrow.Author.Rules.{rules}
 use Rattle.recorder_runs.proofs.run.Run.next_place.Goals as goal
 
 pub returns-then-self-samples : goal.returns-then-self-samples

@@ -1,6 +1,5 @@
 -- All but the flag is as a preparing leaves it.
 use mathlib.Core.Path.{ap}
-use borrow.Author.Rules.{rules}
 use Rattle.recorder_runs.specs.declared.run.Run.{Run}
 use Rattle.recorder_runs.specs.State.{with_watch}
 use Rattle.recorder_runs.proofs.run.Run.restarted.Goals as goal

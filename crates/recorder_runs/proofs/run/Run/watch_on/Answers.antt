@@ -8,7 +8,6 @@ use Rattle.recorder_plans.specs.State.{plan_of}
 use Rattle.recorder_runs.specs.State.{watching}
 use Rattle.recorder_runs.proofs.Granted.{awaits, left_some}
 use Rattle.recorder_runs.proofs.Watches.{still_running, looked_set, counted_set}
-use borrow.Author.Rules.{rules}
 use Rattle.recorder_runs.proofs.run.Run.watch_on.Goals as goal
 
 pub overflow_sub-self : goal.overflow_sub-self

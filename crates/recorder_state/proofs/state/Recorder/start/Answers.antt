@@ -3,7 +3,6 @@ use mathlib.Core.Path.{refl}
 use Rattle.recorder_state.specs.Calls.{start_status}
 use Rattle.recorder_state.proofs.Readings.{at_absent, at_running, at_stopped}
 use Rattle.recorder_state.proofs.Settled.{start_settled}
-use borrow.Author.Rules.{rules}
 use Rattle.recorder_state.proofs.state.Recorder.start.Goals as goal
 
 pub returns-then-self-eq0 : goal.returns-then-self-eq0
