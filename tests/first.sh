@@ -1,32 +1,35 @@
 # The first run on a new machine, in a copy of the house with a prover and a package manager that only speak.
 house=$built/first
 rm -rf $house
-mkdir -p $house/tools $house/crates $house/bin
+mkdir -p $house/tools $house/crates/log_gate_c $house/bin
 cp run crates.txt $house
 cp tools/machine.sh $house/tools
 
 # A prover that says of two crates that they are proved, and of each what nobody wants to read; with `wrong` beside it, it refuses.
 cat >$house/bin/rt <<'END'
 #!/bin/sh
-echo "library std: modules loaded=0 checked=0"
-echo "rt: document proved (unchanged since it was last proved)"
+echo "rt: chose --jobs 2 for document"
+echo "statements std: modules loaded=21 checked=0"
+echo "crate document: modules loaded=0 checked=48"
 echo "logic=proved functions=0"
-echo "rt: bytes_widths proved (3 s)"
-[ ! -e wrong ] || { echo "rt: bytes_fields NOT PROVED (exit 1, 2 s)"; exit 1; }
-mkdir -p target/staticlib
-: >target/staticlib/liblog_gate.a
+echo "crate bytes_widths: modules loaded=61 checked=0"
+[ ! -e ../../wrong ] || { echo "logic=not-proved"; exit 1; }
+echo "logic=proved functions=3"
+mkdir -p out
+: >out/liblog_gate_c.a
 END
 chmod +x $house/bin/rt
 
 (cd $house && PATH=$PWD/bin:$PATH ./run library) >$built/said 2>$built/complained || fail "./run with a prover that proves"
 crates=$(grep -c '^run: crate ' $built/complained || true)
-[ "$crates" -eq 1 ] && grep -q '^run: crate 2 of [0-9]* is proved: bytes_widths$' $built/complained || fail "./run says how far the proofs are"
+[ "$crates" -eq 2 ] && grep -q '^run: crate 2 of at most [0-9]* is proved: bytes_widths$' $built/complained || fail "./run says how far the proofs are"
 grep -q 'crates: some [0-9]* minutes' $built/complained || fail "./run says how long the proofs take"
 if grep -qv '^run: ' $built/complained; then fail "./run lets the prover speak"; fi
-rm -r $house/target
+[ -r $house/target/staticlib/liblog_gate.a ] || fail "./run puts the archive where its users look for it"
+rm -r $house/target $house/crates/log_gate_c/out
 : >$house/wrong
 if (cd $house && PATH=$PWD/bin:$PATH ./run library) >$built/said 2>$built/complained; then fail "./run with a prover that refuses"; fi
-grep -q '^rt: bytes_fields NOT PROVED' $built/complained || fail "./run shows why the prover refuses"
+grep -q '^logic=not-proved' $built/complained || fail "./run shows why the prover refuses"
 
 # A package manager whose lock another holds for two tries, and which brings a command then.
 cat >$house/bin/apt-get <<'END'

@@ -1,5 +1,7 @@
-// The C boundary: what include/log_gate.h declares. A slice crosses as a pointer and a length, a state as a block of bytes. Each call
-// is one of the crates below, under the name and with the promise that it has there.
+// The calls that include/log_gate.h declares, for programs in Rattle; `log_gate_c` exports them to C. A state is a block of bytes. Each
+// call is one of the crates below, under the name and with the promise that it has there.
+#![tactic(auto)]
+
 mod application;
 mod ends;
 mod lengths;

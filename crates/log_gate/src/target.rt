@@ -7,34 +7,25 @@ ghost use Rattle.call_block.specs.Promises.{BlockDone};
 use call_block::BlockTaken;
 use call_byte::Taken;
 
-#[unsafe(no_mangle)]
-pub extern "C" fn log_gate_reset(state: &mut [u8]) -> u8
+pub fn log_gate_reset(state: &mut [u8]) -> u8
     ensures { ResetDone state.old result state.new }
 {
     call_checks::reset(state)
 }
 
-#[unsafe(no_mangle)]
-pub extern "C" fn log_gate_check(state: &[u8]) -> u8
+pub fn log_gate_check(state: &[u8]) -> u8
     ensures { Checked state.now result }
 {
     call_checks::check(state)
 }
 
-#[unsafe(no_mangle)]
-pub extern "C" fn log_gate_byte(
-    state: &mut [u8],
-    byte: u8,
-    memory: &mut [u8],
-    answer: &mut [u8],
-) -> Taken
+pub fn log_gate_byte(state: &mut [u8], byte: u8, memory: &mut [u8], answer: &mut [u8]) -> Taken
     ensures { ByteTaken state.old byte memory.old answer.old result state.new memory.new answer.new }
 {
     call_byte::byte(state, byte, memory, answer)
 }
 
-#[unsafe(no_mangle)]
-pub extern "C" fn log_gate_block(
+pub fn log_gate_block(
     state: &mut [u8],
     block: &[u8],
     memory: &mut [u8],
@@ -45,8 +36,7 @@ pub extern "C" fn log_gate_block(
     call_block::block(state, block, memory, answers)
 }
 
-#[unsafe(no_mangle)]
-pub extern "C" fn log_gate_tick(state: &mut [u8], memory: &mut [u8]) -> u8
+pub fn log_gate_tick(state: &mut [u8], memory: &mut [u8]) -> u8
     ensures { TickTaken state.old memory.old result state.new memory.new }
 {
     call_tick::tick(state, memory)

@@ -11,7 +11,8 @@ use log_gate::{
     LOG_GATE_READER, log_gate_reader_begin, log_gate_reader_byte, log_gate_write_answer,
     log_gate_write_command,
 };
-use script_lines::output::{put, put_bytes, put_decimal, put_hex, put_text};
+use script_lines::output::Output;
+use std::io::{self, Write};
 
 fn written(letter: u8, code: u8, body: &[u8], lent: &mut [u8]) -> Written {
     if letter == b'W' {
@@ -20,122 +21,124 @@ fn written(letter: u8, code: u8, body: &[u8], lent: &mut [u8]) -> Written {
     log_gate_write_answer(code, body, lent)
 }
 
-fn put_writing(
+fn put_writing<W: Write>(
     letter: u8,
     code: u8,
     body: &[u8],
     lent: &mut [u8],
-    out: &mut [u8; 65536],
-    at: usize,
-) -> usize {
+    out: &mut Output<W>,
+) -> io::Result<()> {
     let written = written(letter, code, body, lent);
-    put_written(letter, written.refusal, written.length, lent, out, at)
+    put_written(letter, written.refusal, written.length, lent, out)
 }
 
-fn write(letter: u8, code: u8, body: &[u8], room: usize, out: &mut [u8; 65536], at: usize) -> usize
+fn write<W: Write>(
+    letter: u8,
+    code: u8,
+    body: &[u8],
+    room: usize,
+    out: &mut Output<W>,
+) -> io::Result<()>
     requires { room ≤ 600 }
 {
     let mut lent = [FILLING; LENT];
-    put_writing(letter, code, body, &mut lent[0..room], out, at)
+    put_writing(letter, code, body, &mut lent[0..room], out)
 }
 
-fn begin(
+fn begin<W: Write>(
     expected: u64,
     reader: &mut [u8; LOG_GATE_READER],
-    out: &mut [u8; 65536],
-    at: usize,
-) -> usize {
+    out: &mut Output<W>,
+) -> io::Result<()> {
     let refusal = log_gate_reader_begin(reader, expected as usize);
-    put_refusal(b'E', refusal, out, at)
+    put_refusal(b'E', refusal, out)
 }
 
-fn put_index(index: u64, refusal: u8, out: &mut [u8; 65536], at: usize) -> usize {
-    let named = put_text(b"R ", out, at);
-    let indexed = put_decimal(index, out, named);
-    let parted = put(b' ', out, indexed);
-    put_decimal(refusal as u64, out, parted)
+fn put_index<W: Write>(index: u64, refusal: u8, out: &mut Output<W>) -> io::Result<()> {
+    out.put_text(b"R ")?;
+    out.put_decimal(index)?;
+    out.put(b' ')?;
+    out.put_decimal(refusal as u64)
 }
 
 // A refused byte, or a whole right answer with the whole lent buffer.
-fn put_read(index: u64, read: ReadByte, lent: &[u8], out: &mut [u8; 65536], at: usize) -> usize {
+fn put_read<W: Write>(
+    index: u64,
+    read: ReadByte,
+    lent: &[u8],
+    out: &mut Output<W>,
+) -> io::Result<()> {
     if read.refusal == 0 && read.whole == 0 {
-        return at;
+        return Ok(());
     }
-    let indexed = put_index(index, read.refusal, out, at);
+    put_index(index, read.refusal, out)?;
     if read.whole == 0 {
-        return put(b'\n', out, indexed);
+        return out.put(b'\n');
     }
-    let parted = put(b' ', out, indexed);
-    let stated = put_hex(read.status, out, parted);
-    let again = put(b' ', out, stated);
-    let counted = put_decimal(read.length as u64, out, again);
-    let shown = put_bytes(lent, out, counted);
-    put(b'\n', out, shown)
+    out.put(b' ')?;
+    out.put_hex(read.status)?;
+    out.put(b' ')?;
+    out.put_decimal(read.length as u64)?;
+    out.put_bytes(lent)?;
+    out.put(b'\n')
 }
 
-fn put_reading(
+fn put_reading<W: Write>(
     index: u64,
     byte: u8,
     reader: &mut [u8; LOG_GATE_READER],
     lent: &mut [u8],
-    out: &mut [u8; 65536],
-    at: usize,
-) -> usize {
+    out: &mut Output<W>,
+) -> io::Result<()> {
     let read = log_gate_reader_byte(reader, byte, lent);
-    put_read(index, read, lent, out, at)
+    put_read(index, read, lent, out)
 }
 
-fn read_byte(
+fn read_byte<W: Write>(
     index: u64,
     byte: u8,
     room: usize,
     reader: &mut [u8; LOG_GATE_READER],
-    out: &mut [u8; 65536],
-    at: usize,
-) -> usize
+    out: &mut Output<W>,
+) -> io::Result<()>
     requires { room ≤ 600 }
 {
     let mut lent = [FILLING; LENT];
-    put_reading(index, byte, reader, &mut lent[0..room], out, at)
+    put_reading(index, byte, reader, &mut lent[0..room], out)
 }
 
 // The bytes one by one, with every refusal and answer printed as it comes.
-fn read(
+fn read<W: Write>(
     first: u64,
     bytes: &[u8],
     room: usize,
     reader: &mut [u8; LOG_GATE_READER],
-    out: &mut [u8; 65536],
-    from: usize,
-) -> usize
+    out: &mut Output<W>,
+) -> io::Result<()>
     requires { room ≤ 600 }
 {
     let mut index = first;
-    let mut at = from;
-    let mut i = 0;
-    while i < bytes.len() {
-        at = read_byte(index, bytes[i], room, reader, out, at);
-        index = std::num::wrapping_add_u64(index, 1);
-        i += 1;
+    for byte in bytes {
+        read_byte(index, *byte, room, reader, out)?;
+        index = index.wrapping_add(1);
     }
-    at
+    Ok(())
 }
 
-// An order that begins with W, V, E or R; `first` is how many bytes the reader was given before. Where the output ends.
-pub fn carry_out(
+// An order that begins with W, V, E or R; `first` is how many bytes the reader was given before.
+pub fn carry_out<W: Write>(
     order: Order,
     first: u64,
     bytes: &[u8],
     reader: &mut [u8; LOG_GATE_READER],
-    out: &mut [u8; 65536],
-    at: usize,
-) -> usize
+    out: &mut Output<W>,
+) -> io::Result<()>
     requires { Bounded order }
 {
     let letter = order.letter;
     match letter {
-        b'E' => begin(order.number, reader, out, at),
-        b'R' => read(first, bytes, order.room, reader, out, at),
-        _ => write(letter, order.code, bytes, order.room, out, at),
+        b'E' => begin(order.number, reader, out),
+        b'R' => read(first, bytes, order.room, reader, out),
+        _ => write(letter, order.code, bytes, order.room, out),
     }
 }

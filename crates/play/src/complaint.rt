@@ -1,5 +1,6 @@
 // What can be wrong with a line, and saying so.
-use script_lines::output::{flush, flush_error, put_decimal, put_text};
+use script_lines::output::Output;
+use std::io::{self, Write};
 
 pub const NONE: u8 = 0;
 
@@ -27,30 +28,31 @@ pub const SETUP_LENGTH: u8 = 11;
 
 pub const FRAME_LENGTH: u8 = 12;
 
-fn put_reason(wrong: u8, out: &mut [u8; 65536], at: usize) -> usize {
+fn reason(wrong: u8) -> &'static str {
     match wrong {
-        OPERATION => put_text(b"no operation begins so", out, at),
-        NUMBER => put_text(b"a decimal number is missing or wrong", out, at),
-        BYTE => put_text(b"a byte in hex is missing or wrong", out, at),
-        SURPLUS => put_text(b"there is a word too many", out, at),
-        RANGE => put_text(b"the memory has no such bytes", out, at),
-        ROOM => put_text(b"the room is above 600", out, at),
-        BLOCK_ROOM => put_text(b"the room is above 2000", out, at),
-        WIDE => put_text(b"a number is above 65535", out, at),
-        SETUP_LENGTH => put_text(b"the panel gives more than 255 bytes", out, at),
-        FRAME_LENGTH => put_text(b"the frame has more than 600 bytes", out, at),
-        MANY => put_text(b"there are more than 40 tables", out, at),
-        _ => put_text(b"the line is too long", out, at),
+        OPERATION => "no operation begins so",
+        NUMBER => "a decimal number is missing or wrong",
+        BYTE => "a byte in hex is missing or wrong",
+        SURPLUS => "there is a word too many",
+        RANGE => "the memory has no such bytes",
+        ROOM => "the room is above 600",
+        BLOCK_ROOM => "the room is above 2000",
+        WIDE => "a number is above 65535",
+        SETUP_LENGTH => "the panel gives more than 255 bytes",
+        FRAME_LENGTH => "the frame has more than 600 bytes",
+        MANY => "there are more than 40 tables",
+        _ => "the line is too long",
     }
 }
 
 // What the lines before gave goes out first.
-pub fn complain(line_number: u64, wrong: u8, out: &mut [u8; 65536], before: usize) {
-    let front = flush(out, before);
-    let named = put_text(b"line ", out, front);
-    let numbered = put_decimal(line_number, out, named);
-    let parted = put_text(b": ", out, numbered);
-    let reasoned = put_reason(wrong, out, parted);
-    let end = put_text(b"\n", out, reasoned);
-    flush_error(out, end);
+pub fn complain<W: Write>(
+    rt: &impl Eprint,
+    line_number: u64,
+    wrong: u8,
+    out: &mut Output<W>,
+) -> io::Result<()> {
+    out.flush()?;
+    let reason = reason(wrong);
+    eprintln!(rt; "line {line_number}: {reason}")
 }

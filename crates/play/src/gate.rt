@@ -13,84 +13,81 @@ use log_gate::{
     log_gate_tick,
 };
 use script_adler::adler32;
-use script_lines::output::{put, put_bytes, put_decimal, put_text, put_word};
+use script_lines::output::Output;
+use std::io::{self, Write};
 
-fn put_answer(index: u64, answer: &[u8], length: usize, out: &mut [u8; 65536], at: usize) -> usize {
+fn put_answer<W: Write>(
+    index: u64,
+    answer: &[u8],
+    length: usize,
+    out: &mut Output<W>,
+) -> io::Result<()> {
     if length == 0 || length > answer.len() {
-        return at;
+        return Ok(());
     }
-    let named = put_text(b"A ", out, at);
-    let indexed = put_decimal(index, out, named);
-    let shown = put_bytes(&answer[0..length], out, indexed);
-    put(b'\n', out, shown)
+    out.put_text(b"A ")?;
+    out.put_decimal(index)?;
+    out.put_bytes(&answer[0..length])?;
+    out.put(b'\n')
 }
 
 // No byte and no tick is refused: the state has been through the calls alone since reset, and every block has its length.
-fn give_byte(
+fn give_byte<W: Write>(
     index: u64,
     byte: u8,
     state: &mut [u8; LOG_GATE_STATE],
     memory: &mut [u8; LOG_GATE_MEMORY],
-    out: &mut [u8; 65536],
-    at: usize,
-) -> usize {
+    out: &mut Output<W>,
+) -> io::Result<()> {
     let mut answer = [0u8; LOG_GATE_ANSWER_ROOM];
     let taken = log_gate_byte(state, byte, memory, &mut answer);
-    put_answer(index, &answer, taken.length, out, at)
+    put_answer(index, &answer, taken.length, out)
 }
 
 // The bytes one by one, with every answer printed as it comes.
-fn give(
+fn give<W: Write>(
     first: u64,
     bytes: &[u8],
     state: &mut [u8; LOG_GATE_STATE],
     memory: &mut [u8; LOG_GATE_MEMORY],
-    out: &mut [u8; 65536],
-    from: usize,
-) -> usize {
+    out: &mut Output<W>,
+) -> io::Result<()> {
     let mut index = first;
-    let mut at = from;
-    let mut i = 0;
-    while i < bytes.len() {
-        at = give_byte(index, bytes[i], state, memory, out, at);
-        index = std::num::wrapping_add_u64(index, 1);
-        i += 1;
+    for byte in bytes {
+        give_byte(index, *byte, state, memory, out)?;
+        index = index.wrapping_add(1);
     }
-    at
+    Ok(())
 }
 
-fn put_giving(
+fn put_giving<W: Write>(
     block: &[u8],
     state: &mut [u8; LOG_GATE_STATE],
     memory: &mut [u8; LOG_GATE_MEMORY],
     lent: &mut [u8],
-    out: &mut [u8; 65536],
-    at: usize,
-) -> usize {
+    out: &mut Output<W>,
+) -> io::Result<()> {
     let taken = log_gate_block(state, block, memory, lent);
-    put_block_taken(b'K', taken, lent, out, at)
+    put_block_taken(b'K', taken, lent, out)
 }
 
 // A block at once: what is not taken of it is not given again.
-fn give_block(
+fn give_block<W: Write>(
     block: &[u8],
     room: usize,
     state: &mut [u8; LOG_GATE_STATE],
     memory: &mut [u8; LOG_GATE_MEMORY],
-    out: &mut [u8; 65536],
-    at: usize,
-) -> usize
+    out: &mut Output<W>,
+) -> io::Result<()>
     requires { room ≤ 65535 }
 {
     let mut lent = [FILLING; WIDEST];
-    put_giving(block, state, memory, &mut lent[0..room], out, at)
+    put_giving(block, state, memory, &mut lent[0..room], out)
 }
 
 fn tick(times: u64, state: &mut [u8; LOG_GATE_STATE], memory: &mut [u8; LOG_GATE_MEMORY]) {
-    let mut left = times;
-    while left > 0 {
+    for _ in 0..times {
         log_gate_tick(state, memory);
-        left -= 1;
     }
 }
 
@@ -105,60 +102,63 @@ fn poke(start: usize, bytes: &[u8], memory: &mut [u8; LOG_GATE_MEMORY]) {
     }
 }
 
-fn put_part(start: usize, end: usize, memory: &[u8], out: &mut [u8; 65536], at: usize) -> usize
+fn put_part<W: Write>(
+    start: usize,
+    end: usize,
+    memory: &[u8],
+    out: &mut Output<W>,
+) -> io::Result<()>
     requires { (start ≤ end) × (end ≤ length memory.now) }
 {
-    let named = put_text(b"M ", out, at);
-    let addressed = put_decimal(start as u64, out, named);
-    let shown = put_bytes(&memory[start..end], out, addressed);
-    put(b'\n', out, shown)
+    out.put_text(b"M ")?;
+    out.put_decimal(start as u64)?;
+    out.put_bytes(&memory[start..end])?;
+    out.put(b'\n')
 }
 
-// An order that begins with B, K, T, P, C, Y, G, F, S, U or M; `first` is how many bytes the gate was given before. Where the output ends.
-pub fn carry_out(
+// An order that begins with B, K, T, P, C, Y, G, F, S, U or M; `first` is how many bytes the gate was given before.
+pub fn carry_out<W: Write>(
     order: Order,
     first: u64,
     bytes: &[u8],
     state: &mut [u8; LOG_GATE_STATE],
     memory: &mut [u8; LOG_GATE_MEMORY],
-    out: &mut [u8; 65536],
-    at: usize,
-) -> usize
+    out: &mut Output<W>,
+) -> io::Result<()>
     requires { Bounded order }
 {
     let letter = order.letter;
     match letter {
-        b'B' => give(first, bytes, state, memory, out, at),
-        b'K' => give_block(bytes, order.wide, state, memory, out, at),
+        b'B' => give(first, bytes, state, memory, out),
+        b'K' => give_block(bytes, order.wide, state, memory, out),
         b'T' => {
             tick(order.number, state, memory);
-            at
+            Ok(())
         }
         b'P' => {
             poke(order.start, bytes, memory);
-            at
+            Ok(())
         }
-        b'C' => collect(order.wide, state, out, at),
-        b'Y' => report(order.code, state, out, at),
-        b'G' => register(bytes, state, memory, out, at),
-        b'F' => prepare(bytes, state, out, at),
-        b'U' => frame(order.wide, order.room, bytes, memory, out, at),
-        b'S' => start(state, out, at),
-        _ => put_part(order.start, order.end, memory, out, at),
+        b'C' => collect(order.wide, state, out),
+        b'Y' => report(order.code, state, out),
+        b'G' => register(bytes, state, memory, out),
+        b'F' => prepare(bytes, state, out),
+        b'U' => frame(order.wide, order.room, bytes, memory, out),
+        b'S' => start(state, out),
+        _ => put_part(order.start, order.end, memory, out),
     }
 }
 
 // The digest of the whole memory ends the output of a script that has a gate.
-pub fn put_digest(
+pub fn put_digest<W: Write>(
     concerned: u8,
     memory: &[u8; LOG_GATE_MEMORY],
-    out: &mut [u8; 65536],
-    at: usize,
-) -> usize {
+    out: &mut Output<W>,
+) -> io::Result<()> {
     if concerned == 0 {
-        return at;
+        return Ok(());
     }
-    let named = put_text(b"D adler32 ", out, at);
-    let shown = put_word(adler32(memory), out, named);
-    put(b'\n', out, shown)
+    out.put_text(b"D adler32 ")?;
+    out.put_word(adler32(memory))?;
+    out.put(b'\n')
 }

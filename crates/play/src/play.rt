@@ -5,6 +5,8 @@ ghost use Rattle.play.specs.Bounds.{Bounded};
 use crate::order::Order;
 use crate::{cable, gate};
 use log_gate::{LOG_GATE_MEMORY, LOG_GATE_READER, LOG_GATE_STATE};
+use script_lines::output::Output;
+use std::io::{self, Write};
 
 #[derive(Clone, Copy)]
 pub struct Play {
@@ -14,8 +16,6 @@ pub struct Play {
     pub read: u64,
     // 1 once an order concerned the gate, so that the memory's digest is to be printed
     pub concerned: u8,
-    // the place in the output buffer
-    pub at: usize,
 }
 
 impl Play {
@@ -24,48 +24,44 @@ impl Play {
             given: 0,
             read: 0,
             concerned: 0,
-            at: 0,
         }
     }
 
-    fn after(mut self, order: Order, at: usize) -> Self {
+    fn after(mut self, order: Order) -> Self {
         let letter = order.letter;
         let count = order.count as u64;
-        self.at = at;
         match letter {
             b'B' | b'K' => {
-                self.given = std::num::wrapping_add_u64(self.given, count);
+                self.given = self.given.wrapping_add(count);
                 self.concerned = 1;
             }
             b'T' | b'P' | b'C' | b'Y' | b'G' | b'F' | b'S' | b'U' | b'M' => self.concerned = 1,
-            b'R' => self.read = std::num::wrapping_add_u64(self.read, count),
+            b'R' => self.read = self.read.wrapping_add(count),
             _ => {}
         }
         self
     }
 }
 
-pub fn carry_out(
+pub fn carry_out<W: Write>(
     play: Play,
     order: Order,
     bytes: &[u8],
     state: &mut [u8; LOG_GATE_STATE],
     memory: &mut [u8; LOG_GATE_MEMORY],
     reader: &mut [u8; LOG_GATE_READER],
-    out: &mut [u8; 65536],
-) -> Play
+    out: &mut Output<W>,
+) -> io::Result<Play>
     requires { Bounded order × (length bytes.now ≡ 524288) }
 {
     let letter = order.letter;
     let count = order.count;
     let given = &bytes[0..count];
-    let at = match letter {
+    match letter {
         b'B' | b'K' | b'T' | b'P' | b'C' | b'Y' | b'G' | b'F' | b'S' | b'U' | b'M' =>
-            gate::carry_out(order, play.given, given, state, memory, out, play.at),
-        b'W' | b'V' | b'E' | b'R' => cable::carry_out(
-            order, play.read, given, reader, out, play.at,
-        ),
-        _ => play.at,
-    };
-    play.after(order, at)
+            gate::carry_out(order, play.given, given, state, memory, out)?,
+        b'W' | b'V' | b'E' | b'R' => cable::carry_out(order, play.read, given, reader, out)?,
+        _ => {}
+    }
+    Ok(play.after(order))
 }

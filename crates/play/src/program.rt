@@ -6,46 +6,44 @@ use crate::shown::{FILLING, put_refusal, put_written};
 use log_gate::{
     LOG_GATE_MEMORY, LOG_GATE_STATE, log_gate_collect, log_gate_register, log_gate_report,
 };
+use script_lines::output::Output;
+use std::io::{self, Write};
 
-fn put_collecting(
+fn put_collecting<W: Write>(
     state: &mut [u8; LOG_GATE_STATE],
     lent: &mut [u8],
-    out: &mut [u8; 65536],
-    at: usize,
-) -> usize {
+    out: &mut Output<W>,
+) -> io::Result<()> {
     let collected = log_gate_collect(state, lent);
-    put_written(b'C', collected.refusal, collected.length, lent, out, at)
+    put_written(b'C', collected.refusal, collected.length, lent, out)
 }
 
-pub fn collect(
+pub fn collect<W: Write>(
     room: usize,
     state: &mut [u8; LOG_GATE_STATE],
-    out: &mut [u8; 65536],
-    at: usize,
-) -> usize
+    out: &mut Output<W>,
+) -> io::Result<()>
     requires { room ≤ 65535 }
 {
     let mut lent = [FILLING; WIDEST];
-    put_collecting(state, &mut lent[0..room], out, at)
+    put_collecting(state, &mut lent[0..room], out)
 }
 
-pub fn report(
+pub fn report<W: Write>(
     res: u8,
     state: &mut [u8; LOG_GATE_STATE],
-    out: &mut [u8; 65536],
-    at: usize,
-) -> usize {
+    out: &mut Output<W>,
+) -> io::Result<()> {
     let refusal = log_gate_report(state, res);
-    put_refusal(b'Y', refusal, out, at)
+    put_refusal(b'Y', refusal, out)
 }
 
-pub fn register(
+pub fn register<W: Write>(
     list: &[u8],
     state: &mut [u8; LOG_GATE_STATE],
     memory: &[u8; LOG_GATE_MEMORY],
-    out: &mut [u8; 65536],
-    at: usize,
-) -> usize {
+    out: &mut Output<W>,
+) -> io::Result<()> {
     let refusal = log_gate_register(state, memory, list);
-    put_refusal(b'G', refusal, out, at)
+    put_refusal(b'G', refusal, out)
 }

@@ -1,4 +1,6 @@
 // The checksum of RFC 1950, by which two runs compare a whole memory in one line.
+#![tactic(auto)]
+
 ghost use Rattle.std.specs.Prelude.{◌≡◌, ◌<◌};
 ghost use Rattle.script_adler.specs.Adler.{adler32};
 

@@ -1,8 +1,8 @@
-// Standard input by lines, through a lent text buffer that holds a window of it.
-ghost use Rattle.std.specs.Prelude.{◌≡◌, ℕ, ◌+◌, ◌-◌, ◌≤◌, ◌<◌, length, get_or};
+// The input by lines, through a lent text buffer that holds a window of it.
+ghost use Rattle.std.specs.Prelude.{◌≡◌, ℕ, ◌+◌, ◌-◌, ◌≤◌, ◌<◌, length, get_or, IfOk};
 ghost use Rattle.script_lines.specs.Input.{LineEnd, Inside, Cut};
 
-use libc::STDIN_FILENO;
+use std::io::{self, ErrorKind, Read};
 
 // Which part of the text buffer has not been taken, and 1 once the input has ended.
 #[derive(Clone, Copy)]
@@ -78,22 +78,41 @@ fn to_front(text: &mut [u8], from: usize, to: usize) -> usize
     to - from
 }
 
-// Fills the text behind what is left of it. A short count is the end of the input.
-fn fill(input: Input, text: &mut [u8]) -> Input
+// Reads until a part is full or the input has ended: a short count is the end of the input.
+fn read_full<R: Read>(from: &mut R, part: &mut [u8]) -> io::Result<usize>
+    ensures { IfOk result (λ count. count ≤ length part.old) }
+{
+    let mut count = 0;
+    for _ in 0..u64::MAX {
+        match from.read(&mut part[count..]) {
+            Ok(0) => break,
+            Ok(more) => count += more,
+            Err(error) => {
+                if error.kind() != ErrorKind::Interrupted {
+                    return Err(error);
+                }
+            }
+        }
+    }
+    Ok(count)
+}
+
+// Fills the text behind what is left of it.
+fn fill<R: Read>(input: Input, text: &mut [u8], from: &mut R) -> io::Result<Input>
     requires { Inside input (length text.old) }
-    ensures { Inside result (length text.old) }
+    ensures { IfOk result (λ filled. Inside filled (length text.old)) }
 {
     let start = input.start;
     let end = input.end;
     let kept = to_front(text, start, end);
     let room = text.len() - kept;
-    let got = io::read_full(STDIN_FILENO, &mut text[kept..]);
+    let got = read_full(from, &mut text[kept..])?;
     let ended = if got < room { 1 } else { 0 };
-    Input {
+    Ok(Input {
         start: 0,
         end: kept + got,
         ended: ended,
-    }
+    })
 }
 
 fn has_line(input: Input, text: &[u8]) -> bool
@@ -145,18 +164,18 @@ fn cut(input: Input, text: &[u8]) -> Line
 }
 
 // The next line, read in as far as it has to be. A window that lies outside the text is an input that is over.
-pub fn next_line(input: Input, text: &mut [u8]) -> Line
-    ensures { Cut result (length text.old) }
+pub fn next_line<R: Read>(input: Input, text: &mut [u8], from: &mut R) -> io::Result<Line>
+    ensures { IfOk result (λ line. Cut line (length text.old)) }
 {
     if input.start > input.end {
-        return nothing(input);
+        return Ok(nothing(input));
     }
     if input.end > text.len() {
-        return nothing(input);
+        return Ok(nothing(input));
     }
     if input.ended == 0 && !has_line(input, text) {
-        let filled = fill(input, text);
-        return cut(filled, text);
+        let filled = fill(input, text, from)?;
+        return Ok(cut(filled, text));
     }
-    cut(input, text)
+    Ok(cut(input, text))
 }

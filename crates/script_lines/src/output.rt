@@ -1,56 +1,88 @@
-// Output through a lent buffer and a place in it. A full buffer is written out, so that no line is too long.
-ghost use Rattle.std.specs.Prelude.{◌≡◌, ◌+◌, ◌<◌, set};
+// Output through a buffer and a place in it. A full buffer is written out, so that no line is too long.
+ghost use Rattle.std.specs.Prelude.{◌≡◌, ◌≤◌, ◌<◌, ◌+◌, set, take, OnOk};
+ghost use Rattle.std.specs.Io.KnownBytes.{Appends};
 ghost use Rattle.script_lines.specs.Output.{place_of, glyph_of};
 
-use libc::{STDERR_FILENO, STDOUT_FILENO};
+use itoa::Buffer;
+use std::io::{self, Write};
 
 pub const ROOM: usize = 65536;
 
-fn write_front(descriptor: i32, bytes: &[u8], count: usize) {
-    if count <= bytes.len() {
-        io::write_all(descriptor, &bytes[0..count]);
+#[derive(Drop)]
+pub struct Output<W> {
+    pub to: W,
+    pub room: [u8; ROOM],
+    // where the next byte goes
+    pub at: usize,
+    ghost within: { at ≤ 65536 },
+}
+
+impl<W: Write> Output<W> {
+    pub fn new(to: W) -> Self
+        ensures { result.at ≡ 0 }
+    {
+        Output {
+            to,
+            room: [0; ROOM],
+            at: 0,
+        }
     }
-}
 
-// Writes out what stands before the place; the next byte goes to the front.
-pub fn flush(out: &[u8; 65536], at: usize) -> usize
-    ensures { result ≡ 0 }
-{
-    write_front(STDOUT_FILENO, out, at);
-    0
-}
-
-// The same for what is wrong.
-pub fn flush_error(out: &[u8; 65536], at: usize) {
-    write_front(STDERR_FILENO, out, at);
-}
-
-pub fn put(byte: u8, out: &mut [u8; 65536], at: usize) -> usize
-    ensures { (result ≡ place_of at + 1) × (out.new ≡ set out.old (place_of at) byte) }
-{
-    if at < ROOM {
-        out[at] = byte;
-        return at + 1;
+    // Writes out what stands before the place; the next byte goes to the front.
+    pub fn flush(&mut self) -> io::Result<()>
+        ensures written { OnOk result (Appends (W.contents self.old.to) (W.contents self.new.to) (take self.old.at self.old.room)) }
+        ensures front { OnOk result (self.new.at ≡ 0) }
+        ensures kept { self.new.room ≡ self.old.room }
+    {
+        self.to.write_all(&self.room[..self.at])?;
+        self.at = 0;
+        Ok(())
     }
-    flush(out, ROOM);
-    out[0] = byte;
-    1
-}
 
-pub fn put_text(text: &[u8], out: &mut [u8; 65536], from: usize) -> usize {
-    let mut at = from;
-    let mut i = 0;
-    while i < text.len() {
-        at = put(text[i], out, at);
-        i += 1;
+    pub fn put(&mut self, byte: u8) -> io::Result<()>
+        ensures place { OnOk result (self.new.at ≡ place_of self.old.at + 1) }
+        ensures byte { OnOk result (self.new.room ≡ set self.old.room (place_of self.old.at) byte) }
+    {
+        if self.at == ROOM {
+            self.flush()?;
+        }
+        self.room[self.at] = byte;
+        self.at += 1;
+        Ok(())
     }
-    at
-}
 
-pub fn put_decimal(value: u64, out: &mut [u8; 65536], at: usize) -> usize {
-    let mut digits = [0u8; 20];
-    let count = io::decimal(value, &mut digits);
-    put_text(&digits[..count], out, at)
+    pub fn put_text(&mut self, text: &[u8]) -> io::Result<()> {
+        for byte in text {
+            self.put(*byte)?;
+        }
+        Ok(())
+    }
+
+    pub fn put_decimal(&mut self, value: u64) -> io::Result<()> {
+        self.put_text(Buffer::new().format(value).as_bytes())
+    }
+
+    pub fn put_hex(&mut self, byte: u8) -> io::Result<()> {
+        self.put(glyph(byte / 16))?;
+        self.put(glyph(byte % 16))
+    }
+
+    // Bytes in hex, a space before each.
+    pub fn put_bytes(&mut self, bytes: &[u8]) -> io::Result<()> {
+        for byte in bytes {
+            self.put(b' ')?;
+            self.put_hex(*byte)?;
+        }
+        Ok(())
+    }
+
+    // A number of four bytes in hex, the highest byte first.
+    pub fn put_word(&mut self, value: u32) -> io::Result<()> {
+        for byte in value.to_be_bytes() {
+            self.put_hex(byte)?;
+        }
+        Ok(())
+    }
 }
 
 // The character of a value below 16, in upper case.
@@ -59,29 +91,4 @@ fn glyph(value: u8) -> u8
     ensures { result ≡ glyph_of value }
 {
     if value < 10 { 48 + value } else { 55 + value }
-}
-
-pub fn put_hex(byte: u8, out: &mut [u8; 65536], from: usize) -> usize {
-    let at = put(glyph(byte / 16), out, from);
-    put(glyph(byte % 16), out, at)
-}
-
-// Bytes in hex, a space before each.
-pub fn put_bytes(bytes: &[u8], out: &mut [u8; 65536], from: usize) -> usize {
-    let mut at = from;
-    let mut i = 0;
-    while i < bytes.len() {
-        at = put(b' ', out, at);
-        at = put_hex(bytes[i], out, at);
-        i += 1;
-    }
-    at
-}
-
-// A number of four bytes in hex, the highest byte first.
-pub fn put_word(value: u32, out: &mut [u8; 65536], from: usize) -> usize {
-    let third = put_hex((value / 16777216) as u8, out, from);
-    let second = put_hex((value / 65536 % 256) as u8, out, third);
-    let first = put_hex((value / 256 % 256) as u8, out, second);
-    put_hex((value % 256) as u8, out, first)
 }

@@ -1,9 +1,7 @@
 -- What a word says: a byte in hex, or a decimal number of up to 64 bits.
 use Rattle.std.specs.Prelude.{cond, List, [], ◌∷◌, ℕ, ◌+◌, ◌-◌, ◌*◌, ◌^◌, ltb, eqb, length, get_or}
 use Rattle.script_numbers.specs.declared.Byte.{Byte}
-use Rattle.script_numbers.specs.declared.Byte.TheVariants as Byte
 use Rattle.script_numbers.specs.declared.Number.{Number}
-use Rattle.script_numbers.specs.declared.Number.TheVariants as Number
 
 -- '0' to '9', 'A' to 'F', 'a' to 'f'; 16 for any other character
 abbrev pub digit_of : ℕ → ℕ

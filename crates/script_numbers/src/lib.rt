@@ -1,4 +1,6 @@
 // What a word says: a byte in hex or a decimal number. A word that says neither is told apart.
+#![tactic(auto)]
+
 ghost use Rattle.std.specs.Prelude.{◌≡◌, ◌≤◌, ◌<◌};
 ghost use Rattle.script_numbers.specs.Numbers.{digit_of, hex_of, decimal_of};
 

@@ -3,13 +3,9 @@ use Rattle.std.specs.Prelude.{List, ℕ}
 use Rattle.script_words.specs.Words.{word_of, word_end}
 use Rattle.script_numbers.specs.Numbers.{hex_of, decimal_of}
 use Rattle.script_numbers.specs.declared.Byte.{Byte}
-use Rattle.script_numbers.specs.declared.Byte.TheVariants as Byte
 use Rattle.script_numbers.specs.declared.Number.{Number}
-use Rattle.script_numbers.specs.declared.Number.TheVariants as Number
 use Rattle.script_words.specs.declared.operands.ByteRead.{ByteRead}
-use Rattle.script_words.specs.declared.operands.ByteRead.TheVariants as ByteRead
 use Rattle.script_words.specs.declared.operands.NumberRead.{NumberRead}
-use Rattle.script_words.specs.declared.operands.NumberRead.TheVariants as NumberRead
 
 abbrev pub byte_then : Byte → ℕ → ByteRead
 byte_then (Byte.Is value) next = ByteRead.Is value next

@@ -1,5 +1,7 @@
 // A service whose message has a right sum and length: one arm for each operation, which tells its answer, or has a status to tell.
 // The message's data stand in the block, up to a place.
+#![tactic(auto)]
+
 ghost use Rattle.serve_operations.specs.Serves.{Lent, Serves};
 
 use codes_table::NOT_SERVED;

@@ -4,6 +4,8 @@ ghost use Rattle.std.specs.Prelude.{◌<◌};
 use crate::show::{Left, put_case, put_outcome};
 use crate::target::{CAME, give};
 use log_gate::{LOG_GATE_MEMORY, LOG_GATE_STATE, log_gate_reset};
+use script_lines::output::Output;
+use std::io::{self, Write};
 
 // Its number, and the byte of the memory that it names, before and after. The others are zero before.
 #[derive(Clone, Copy)]
@@ -14,7 +16,12 @@ pub struct Case {
     pub after: u8,
 }
 
-pub fn show(case: Case, wire: &[u8], expected: &[u8], out: &mut [u8; 65536], at: usize) -> usize
+pub fn show<W: Write>(
+    case: Case,
+    wire: &[u8],
+    expected: &[u8],
+    out: &mut Output<W>,
+) -> io::Result<()>
     requires { case.address < 16384 }
 {
     let address = case.address;
@@ -29,6 +36,6 @@ pub fn show(case: Case, wire: &[u8], expected: &[u8], out: &mut [u8; 65536], at:
         value: memory[address],
         said: case.after,
     };
-    let shown = put_case(case.number, wire, out, at);
-    put_outcome(&came, end, expected, left, out, shown)
+    put_case(case.number, wire, out)?;
+    put_outcome(&came, end, expected, left, out)
 }

@@ -3,6 +3,8 @@ ghost use Rattle.std.specs.Prelude.{◌≤◌};
 
 use crate::case::{Case, show};
 use log_gate::log_gate_write_command;
+use script_lines::output::Output;
+use std::io::{self, Write};
 
 const WRITE: u8 = 0x02;
 
@@ -11,16 +13,15 @@ const ADDRESS: u8 = 16;
 // The last byte of 61 from the address on.
 const LAST: usize = 76;
 
-fn show_written(
+fn show_written<W: Write>(
     wire: &[u8],
     length: usize,
     expected: &[u8],
     last: u8,
-    out: &mut [u8; 65536],
-    at: usize,
-) -> usize {
+    out: &mut Output<W>,
+) -> io::Result<()> {
     if length > wire.len() {
-        return at;
+        return Ok(());
     }
     let case = Case {
         number: 14,
@@ -28,11 +29,11 @@ fn show_written(
         before: 0,
         after: last,
     };
-    show(case, &wire[0..length], expected, out, at)
+    show(case, &wire[0..length], expected, out)
 }
 
 // The size, the address, and so many bytes of 0x11, as the command writer writes them.
-fn show_write(size: u8, expected: &[u8], last: u8, out: &mut [u8; 65536], at: usize) -> usize
+fn show_write<W: Write>(size: u8, expected: &[u8], last: u8, out: &mut Output<W>) -> io::Result<()>
     requires { size ≤ 62 }
 {
     let mut body = [0x11u8; 65];
@@ -42,11 +43,11 @@ fn show_write(size: u8, expected: &[u8], last: u8, out: &mut [u8; 65536], at: us
     let end = 3 + size as usize;
     let mut wire = [0u8; 150];
     let written = log_gate_write_command(WRITE, &body[0..end], &mut wire);
-    show_written(&wire, written.length, expected, last, out, at)
+    show_written(&wire, written.length, expected, last, out)
 }
 
 // 61 bytes are written, 62 are refused.
-pub fn show_lengths(out: &mut [u8; 65536], at: usize) -> usize {
-    let accepted = show_write(61, &[0x2B, 0x00, 0x00], 0x11, out, at);
-    show_write(62, &[0x2B, 0x83, 0x7D], 0x00, out, accepted)
+pub fn show_lengths<W: Write>(out: &mut Output<W>) -> io::Result<()> {
+    show_write(61, &[0x2B, 0x00, 0x00], 0x11, out)?;
+    show_write(62, &[0x2B, 0x83, 0x7D], 0x00, out)
 }

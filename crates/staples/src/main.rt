@@ -1,4 +1,6 @@
 // The staples of document 01 through the exported calls: what goes over the wire, what comes back, and whether that is right.
+#![tactic(auto)]
+
 mod case;
 mod long;
 mod messages;
@@ -7,12 +9,13 @@ mod show;
 mod table;
 mod target;
 
-use script_lines::output::flush;
+use script_lines::output::Output;
+use std::io;
 
-fn main() {
-    let mut out = [0u8; 65536];
-    let table = table::show_table(&mut out, 0);
-    let rising = rising::show_signs(&mut out, table);
-    let end = long::show_lengths(&mut out, rising);
-    flush(&out, end);
+fn main(rt: HostRuntime) -> io::Result<()> {
+    let mut out = Output::new(io::writer(&rt));
+    table::show_table(&mut out)?;
+    rising::show_signs(&mut out)?;
+    long::show_lengths(&mut out)?;
+    out.flush()
 }

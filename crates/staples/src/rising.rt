@@ -6,7 +6,8 @@ use crate::messages::read_messages;
 use crate::show::{Left, put_case, put_outcome};
 use crate::target::{CAME, give};
 use log_gate::{LOG_GATE_MEMORY, LOG_GATE_STATE, log_gate_reset, log_gate_tick};
-use script_lines::output::{put_bytes, put_text};
+use script_lines::output::Output;
+use std::io::{self, Write};
 
 // Where the variable's high byte stands, and where the second set keeps it.
 const HIGH: usize = 17;
@@ -33,13 +34,13 @@ fn run(
     give(&STATUS, state, memory, came, accepted)
 }
 
-fn put_messages(setup: &[u8], out: &mut [u8; 65536], at: usize) -> usize {
-    let first = put_case(13, setup, out, at);
-    let ticked = put_text(b", two ticks,", out, first);
-    put_bytes(&STATUS, out, ticked)
+fn put_messages<W: Write>(setup: &[u8], out: &mut Output<W>) -> io::Result<()> {
+    put_case(13, setup, out)?;
+    out.put_text(b", two ticks,")?;
+    out.put_bytes(&STATUS)
 }
 
-fn show_setup(setup: &[u8], expected: &[u8], out: &mut [u8; 65536], at: usize) -> usize {
+fn show_setup<W: Write>(setup: &[u8], expected: &[u8], out: &mut Output<W>) -> io::Result<()> {
     let mut state = [0u8; LOG_GATE_STATE];
     let mut memory = [0u8; LOG_GATE_MEMORY];
     let mut came = [0u8; CAME];
@@ -49,30 +50,28 @@ fn show_setup(setup: &[u8], expected: &[u8], out: &mut [u8; 65536], at: usize) -
         value: memory[KEPT],
         said: 0x80,
     };
-    let shown = put_messages(setup, out, at);
-    put_outcome(&came, end, expected, left, out, shown)
+    put_messages(setup, out)?;
+    put_outcome(&came, end, expected, left, out)
 }
 
-fn show_line(line: &[u8], out: &mut [u8; 65536], at: usize) -> usize {
+fn show_line<W: Write>(line: &[u8], out: &mut Output<W>) -> io::Result<()> {
     let mut setup = [0u8; 32];
     let mut expected = [0u8; 16];
     let read = read_messages(line, 0, &mut setup, &mut expected);
     let given = read.given;
     let wanted = read.wanted;
-    show_setup(&setup[0..given], &expected[0..wanted], out, at)
+    show_setup(&setup[0..given], &expected[0..wanted], out)
 }
 
 // Rising, four samples, post-trigger and divider 0, the trigger of two bytes at 16, and the same two bytes recorded. With sign 0 it
 // fires, with sign 1 it does not.
-pub fn show_signs(out: &mut [u8; 65536], at: usize) -> usize {
-    let unsigned = show_line(
+pub fn show_signs<W: Write>(out: &mut Output<W>) -> io::Result<()> {
+    show_line(
         b"2B 09 13 01 04 00 00 00 00 00 10 00 02 00 00 70 00 00 01 02 10 00 4A > 2B 00 00 2B 02 FE",
         out,
-        at,
-    );
+    )?;
     show_line(
         b"2B 09 13 01 04 00 00 00 00 00 10 00 02 01 00 70 00 00 01 02 10 00 49 > 2B 00 00 2B 01 FF",
         out,
-        unsigned,
     )
 }

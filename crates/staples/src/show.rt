@@ -2,35 +2,36 @@
 ghost use Rattle.std.specs.Prelude.{◌≤◌, length};
 
 use crate::target::CAME;
-use script_lines::output::{put, put_bytes, put_decimal, put_hex, put_text};
+use script_lines::output::Output;
+use std::io::{self, Write};
 
-pub fn put_case(number: u64, wire: &[u8], out: &mut [u8; 65536], at: usize) -> usize {
-    let numbered = put_decimal(number, out, at);
-    let parted = put(b':', out, numbered);
-    put_bytes(wire, out, parted)
+pub fn put_case<W: Write>(number: u64, wire: &[u8], out: &mut Output<W>) -> io::Result<()> {
+    out.put_decimal(number)?;
+    out.put(b':')?;
+    out.put_bytes(wire)
 }
 
 // Nothing may come back, and then that is said.
-fn put_came(came: &[u8], out: &mut [u8; 65536], at: usize) -> usize {
-    let named = put_text(b" gives", out, at);
-    if came.len() == 0 {
-        return put_text(b" nothing", out, named);
+fn put_came<W: Write>(came: &[u8], out: &mut Output<W>) -> io::Result<()> {
+    out.put_text(b" gives")?;
+    if came.is_empty() {
+        return out.put_text(b" nothing");
     }
-    put_bytes(came, out, named)
+    out.put_bytes(came)
 }
 
-fn put_left(address: usize, value: u8, out: &mut [u8; 65536], at: usize) -> usize {
-    let named = put_text(b", byte ", out, at);
-    let addressed = put_decimal(address as u64, out, named);
-    let linked = put_text(b" is ", out, addressed);
-    put_hex(value, out, linked)
+fn put_left<W: Write>(address: usize, value: u8, out: &mut Output<W>) -> io::Result<()> {
+    out.put_text(b", byte ")?;
+    out.put_decimal(address as u64)?;
+    out.put_text(b" is ")?;
+    out.put_hex(value)
 }
 
-fn put_verdict(right: bool, out: &mut [u8; 65536], at: usize) -> usize {
+fn put_verdict<W: Write>(right: bool, out: &mut Output<W>) -> io::Result<()> {
     if right {
-        return put_text(b": ok\n", out, at);
+        return out.put_text(b": ok\n");
     }
-    put_text(b": NOT ok\n", out, at)
+    out.put_text(b": NOT ok\n")
 }
 
 // A byte of the memory as it is, and as the case says that it is left.
@@ -41,36 +42,30 @@ pub struct Left {
     pub said: u8,
 }
 
-fn put_judged(
+fn put_judged<W: Write>(
     came: &[u8],
     end: usize,
     expected: &[u8],
     left: Left,
-    out: &mut [u8; 65536],
-    at: usize,
-) -> usize
+    out: &mut Output<W>,
+) -> io::Result<()>
     requires { end ≤ length came.now }
 {
     let answers = &came[0..end];
-    let answered = put_came(answers, out, at);
-    let held = put_left(left.address, left.value, out, answered);
-    put_verdict(
-        check::same(answers, expected) && left.value == left.said,
-        out,
-        held,
-    )
+    put_came(answers, out)?;
+    put_left(left.address, left.value, out)?;
+    put_verdict(answers == expected && left.value == left.said, out)
 }
 
 // The answers stand at the front of the lent buffer, up to their end.
-pub fn put_outcome(
+pub fn put_outcome<W: Write>(
     came: &[u8; CAME],
     end: usize,
     expected: &[u8],
     left: Left,
-    out: &mut [u8; 65536],
-    at: usize,
-) -> usize
+    out: &mut Output<W>,
+) -> io::Result<()>
     requires { end ≤ 600 }
 {
-    put_judged(came, end, expected, left, out, at)
+    put_judged(came, end, expected, left, out)
 }

@@ -5,10 +5,17 @@ ghost use Rattle.std.specs.Prelude.{◌≤◌, ◌<◌, length};
 use crate::case::{Case, show};
 use crate::messages::{mark_from, read_messages};
 use log_gate::LOG_GATE_MEMORY;
+use script_lines::output::Output;
 use script_words::operands::{ByteRead, NumberRead, read_byte, read_number};
+use std::io::{self, Write};
 
 // The messages of a line, whose first stands from a place on.
-fn show_messages(case: Case, line: &[u8], from: usize, out: &mut [u8; 65536], at: usize) -> usize
+fn show_messages<W: Write>(
+    case: Case,
+    line: &[u8],
+    from: usize,
+    out: &mut Output<W>,
+) -> io::Result<()>
     requires { case.address < 16384 }
 {
     let mut wire = [0u8; 16];
@@ -16,37 +23,37 @@ fn show_messages(case: Case, line: &[u8], from: usize, out: &mut [u8; 65536], at
     let read = read_messages(line, from, &mut wire, &mut expected);
     let given = read.given;
     let wanted = read.wanted;
-    show(case, &wire[0..given], &expected[0..wanted], out, at)
+    show(case, &wire[0..given], &expected[0..wanted], out)
 }
 
 // A line that names no case is skipped.
-fn show_line(line: &[u8], out: &mut [u8; 65536], at: usize) -> usize {
+fn show_line<W: Write>(line: &[u8], out: &mut Output<W>) -> io::Result<()> {
     let NumberRead::Is {
         value: number,
         next: numbered,
     } = read_number(line, 0)
     else {
-        return at;
+        return Ok(());
     };
     let NumberRead::Is {
         value: address,
         next: addressed,
     } = read_number(line, numbered)
     else {
-        return at;
+        return Ok(());
     };
     let ByteRead::Is {
         value: before,
         next: begun,
     } = read_byte(line, addressed)
     else {
-        return at;
+        return Ok(());
     };
     let ByteRead::Is { value: after, next } = read_byte(line, begun) else {
-        return at;
+        return Ok(());
     };
     if address >= LOG_GATE_MEMORY as u64 {
-        return at;
+        return Ok(());
     }
     let case = Case {
         number: number,
@@ -54,7 +61,7 @@ fn show_line(line: &[u8], out: &mut [u8; 65536], at: usize) -> usize {
         before: before,
         after: after,
     };
-    show_messages(case, line, next, out, at)
+    show_messages(case, line, next, out)
 }
 
 // Where a line ends, and where the next one begins.
@@ -81,19 +88,18 @@ fn line_at(text: &[u8], from: usize) -> Line
     }
 }
 
-fn show_lines(text: &[u8], out: &mut [u8; 65536], from: usize) -> usize {
-    let mut at = from;
+fn show_lines<W: Write>(text: &[u8], out: &mut Output<W>) -> io::Result<()> {
     let mut start = 0;
     while start < text.len() {
         let line = line_at(text, start);
         let end = line.end;
-        at = show_line(&text[start..end], out, at);
+        show_line(&text[start..end], out)?;
         start = line.next;
     }
-    at
+    Ok(())
 }
 
-pub fn show_table(out: &mut [u8; 65536], at: usize) -> usize {
+pub fn show_table<W: Write>(out: &mut Output<W>) -> io::Result<()> {
     show_lines(
         b"
  1    16 00 00   2B C8 38               > 2B 00 03 00 01 01 00 40 BB
@@ -114,6 +120,5 @@ pub fn show_table(out: &mut [u8; 65536], at: usize) -> usize {
 12    16 00 00   2B C1 3F               > 2B 88 78
 ",
         out,
-        at,
     )
 }

@@ -112,8 +112,8 @@ mod tests {
 
     #[test]
     fn a_name_that_is_not_used_yet_is() {
-        assert_eq!(with_use("use lib.Dec.{ltb}\nx\n", "leb", "lib.Dec"), "use lib.Dec.{leb, ltb}\nx\n");
-        assert_eq!(with_use("use lib.Dec.{ltb}\nx\n", "ltb", "lib.Dec"), "use lib.Dec.{ltb}\nx\n");
-        assert_eq!(with_use("-- why\nuse a.{b}\n", "take", "lib.ListN"), "-- why\nuse lib.ListN.{take}\nuse a.{b}\n");
+        assert_eq!(with_use("use std.Bits.{bit_or}\nx\n", "bit_and", "std.Bits"), "use std.Bits.{bit_and, bit_or}\nx\n");
+        assert_eq!(with_use("use std.Bits.{bit_or}\nx\n", "bit_or", "std.Bits"), "use std.Bits.{bit_or}\nx\n");
+        assert_eq!(with_use("-- why\nuse a.{b}\n", "take", "std.Lists"), "-- why\nuse std.Lists.{take}\nuse a.{b}\n");
     }
 }

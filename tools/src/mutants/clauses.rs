@@ -104,7 +104,7 @@ mod tests {
 
     #[test]
     fn a_definition_behind_where_is_a_body_too() {
-        let text = "abbrev pub f : ℕ → Bool\nf s = isIn s some\n  where\n    some : List ℕ\n    some = 1 ∷ []\n";
+        let text = "abbrev pub f : ℕ → Bool\nf s = is_in s some\n  where\n    some : List ℕ\n    some = 1 ∷ []\n";
         let all = Definitions::of(vec![File { name: "Tiny".to_string(), text: text.to_string() }]);
         assert_eq!(clauses(&all, &all.files[0])[0].bodies.len(), 2);
     }

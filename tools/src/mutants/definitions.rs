@@ -2,6 +2,9 @@
 
 use crate::tokens::{tokens, Token};
 
+/// Where the library's numbers, truths and lists are to be had.
+pub const PRELUDE: &str = "Rattle.std.specs.Prelude";
+
 pub struct File {
     pub name: String,
     pub text: String,
@@ -151,8 +154,8 @@ fn uses(text: &str, from: &str, name: &str) -> bool {
 fn library_types(name: &str) -> Vec<String> {
     let types: &[&str] = match name {
         "ltb" | "leb" => &["ℕ", "ℕ", "Bool"],
-        "ltZ" | "leZ" => &["ℤ", "ℤ", "Bool"],
-        "getD" => &["List ℕ", "ℕ", "ℕ", "ℕ"],
+        "lt_z" | "le_z" => &["ℤ", "ℤ", "Bool"],
+        "get_or" => &["List ℕ", "ℕ", "ℕ", "ℕ"],
         "replicate" => &["ℕ", "ℕ", "List ℕ"],
         "sets" => &["List ℕ", "ℕ", "List ℕ", "List ℕ"],
         "take" | "drop" => &["ℕ", "List ℕ", "List ℕ"],
@@ -193,7 +196,7 @@ mod tests {
     fn a_name_is_its_own_files_or_one_that_is_used() {
         let file = |name: &str, text: &str| File { name: name.to_string(), text: text.to_string() };
         let far = file("Far", "abbrev pub done : ℕ\ndone = 0\n\nabbrev pub busy : ℕ\nbusy = 1\n");
-        let near = file("Near", "use Rattle·x·specs.specs.Far.{done}\nabbrev pub f : ℕ\nf = done\n");
+        let near = file("Near", "use Rattle.x.specs.Far.{done}\nabbrev pub f : ℕ\nf = done\n");
         let all = Definitions::of(vec![far, near]);
         assert_eq!(all.meant(&all.files[1], "done").map(|one| one.file.as_str()), Some("Far"));
         assert!(all.meant(&all.files[1], "f").is_some());

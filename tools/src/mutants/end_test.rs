@@ -4,9 +4,7 @@ use super::*;
 
 const SOURCE: &str = "pub struct Nothing {}\n";
 
-const TINY: &str = "use mathlib.Core.Bool.{Bool}
-use Prim.Native.Nat.{ℕ}
-use lib.Dec.{ltb}
+const TINY: &str = "use Rattle.std.specs.Prelude.{Bool, ℕ, ltb}
 
 abbrev pub most : ℕ
 most = 3
@@ -18,9 +16,9 @@ abbrev pub free : ℕ
 free = 5
 ";
 
-const ROWS: &str = "use mathlib.Core.Path.{_≡_, refl}
+const ROWS: &str = "use mathlib.Core.Path.{◌≡◌, refl}
 use mathlib.Core.Bool.{true, false}
-use Rattle·tiny·specs.specs.Tiny.{fits}
+use Rattle.tiny.specs.Tiny.{fits}
 
 two : fits 2 ≡ true
 two = refl

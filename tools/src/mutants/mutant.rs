@@ -132,12 +132,12 @@ mod tests {
 
     #[test]
     fn records_and_their_fields() {
-        let text = format!("{BOX}abbrev pub wider : Box → ℕ → Box\nwider b n = record {{ width = n; height = b .height }}\n");
+        let text = format!("{BOX}abbrev pub wider : Box → ℕ → Box\nwider b n = record {{ width = n; height = b.height }}\n");
         let due = [
-            "wider: `n` and `b .height` are exchanged",
+            "wider: `n` and `b.height` are exchanged",
             "wider: field `width` stays that of `b`",
             "wider: field `height` of Box is `0`",
-            "wider: `b .height` becomes `.width`",
+            "wider: `b.height` becomes `.width`",
         ];
         expect(&text, &due);
     }

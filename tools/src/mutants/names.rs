@@ -1,7 +1,7 @@
 //! Rules for names: another variable, another definition, another constructor.
 
 use crate::change::{Change, Place};
-use crate::definitions::{items, Declared, Definitions};
+use crate::definitions::{items, Declared, Definitions, PRELUDE};
 use crate::tree::Node;
 
 pub fn changes(place: &Place, node: &Node, word: &str) -> Vec<Change> {
@@ -9,7 +9,7 @@ pub fn changes(place: &Place, node: &Node, word: &str) -> Vec<Change> {
         return variables(place, node, word, kind);
     }
     if let Some(other) = [("true", "false"), ("false", "true")].into_iter().find(|(one, _)| *one == word) {
-        return vec![place.put(node, other.1).needing(other.1, "mathlib.Core.Bool")];
+        return vec![place.put(node, other.1).needing(other.1, PRELUDE)];
     }
     if let Some(meant) = place.all.meant(place.file, word) {
         return definitions(place, node, meant);
@@ -79,7 +79,7 @@ fn is_at_hand(place: &Place, one: &Declared) -> bool {
 }
 
 fn variants_beside<'a>(place: &Place<'a>, word: &str) -> Vec<&'a str> {
-    let lists = place.file.text.lines().filter_map(|line| line.split_once(".the-variants.{"));
+    let lists = place.file.text.lines().filter_map(|line| line.split_once(".TheVariants.{"));
     let mut lists = lists.map(|(_, names)| names.trim_end_matches('}').split(", ").collect::<Vec<_>>());
     lists.find(|names| names.contains(&word)).unwrap_or_default()
 }

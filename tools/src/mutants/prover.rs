@@ -28,12 +28,14 @@ pub struct Copy {
 }
 
 impl Copy {
-    /// The prover takes a crate's name from its folder.
+    /// A repository of this crate alone, which stands on no other.
     pub fn of(source: &Path, folder: PathBuf) -> io::Result<Copy> {
-        let crate_folder = folder.join(source.file_name().unwrap_or_default());
+        let name = source.file_name().unwrap_or_default();
+        let crate_folder = folder.join("crates").join(name);
         for part in ["src", "specs", "proofs"] {
             copy_folder(&source.join(part), &crate_folder.join(part))?;
         }
+        fs::write(folder.join("crates.txt"), format!("{}:\n", name.to_string_lossy()))?;
         Ok(Copy { folder, crate_folder })
     }
 
@@ -51,7 +53,7 @@ impl Copy {
         let log = self.folder.join("log");
         let out = File::create(&log)?;
         let mut command = Command::new("rt");
-        command.arg("check").arg(&self.crate_folder).current_dir(&self.folder);
+        command.arg("check").current_dir(&self.crate_folder);
         let mut child = command.stdin(Stdio::null()).stderr(out.try_clone()?).stdout(out).spawn()?;
         let began = Instant::now();
         while began.elapsed() < PATIENCE {
@@ -103,7 +105,7 @@ fn verdict(status: Option<i32>, said: &str) -> Verdict {
     }
 }
 
-/// `../proofs/Rows.antt:107:39: error: `rows-hold`: ..` is of `Rows.rows-hold`.
+/// `./proofs/Rows.antt:107:39: error: `rows_hold`: ..` is of `Rows.rows_hold`.
 fn refuser(line: &str) -> String {
     let file = line.split_once("/proofs/").and_then(|(_, rest)| rest.split_once(".antt")).map_or("", |(file, _)| file);
     match line.split_once(": error: `").and_then(|(_, rest)| rest.split_once('`')) {
@@ -116,15 +118,15 @@ fn refuser(line: &str) -> String {
 mod tests {
     use super::*;
 
-    const ROW: &str = "/x/document/proofs/Rows.antt:107:39: error: `rows-hold`: expected type\nlogic=not-proved\n";
+    const ROW: &str = "./proofs/Rows.antt:107:39: error: `rows_hold`: expected type\nlogic=not-proved\n";
 
     #[test]
     fn verdicts_are_read() {
         assert_eq!(verdict(Some(0), "crate document: modules\nlogic=proved functions=0\n"), Verdict::Survived);
-        assert_eq!(verdict(Some(1), ROW), Verdict::Refused("Rows.rows-hold".to_string()));
-        let both = format!("/x/document/specs/Gate.antt:3:1: error: `f`: expected\n{ROW}");
+        assert_eq!(verdict(Some(1), ROW), Verdict::Refused("Rows.rows_hold".to_string()));
+        let both = format!("./specs/Gate.antt:3:1: error: `f`: expected\n{ROW}");
         assert_eq!(verdict(Some(1), &both), Verdict::NoDefinition);
-        assert_eq!(verdict(Some(1), "/x/document/specs/Gate.antt:3:1: expected a term\n"), Verdict::NoDefinition);
+        assert_eq!(verdict(Some(1), "./specs/Gate.antt:3:1: expected a term\n"), Verdict::NoDefinition);
     }
 
     #[test]

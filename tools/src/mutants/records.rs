@@ -1,6 +1,7 @@
 //! Rules for records: two fields exchanged, a field that stays or is cleared, another field asked for.
 
 use crate::change::{Change, Place};
+use crate::definitions::PRELUDE;
 use crate::tree::{Kind, Node};
 
 pub fn changes(place: &Place, fields: &[(String, Node)]) -> Vec<Change> {
@@ -29,7 +30,7 @@ fn record_of(place: &Place, fields: &[(String, Node)]) -> Option<String> {
 fn stays(place: &Place, record: &str, name: &str, value: &Node) -> Vec<Change> {
     let given = place.clause.bound.iter().filter(|(_, kind)| *kind == record);
     let changes = given.map(|(old, _)| {
-        let mut change = place.put(value, &format!("{old} .{name}"));
+        let mut change = place.put(value, &format!("{old}.{name}"));
         change.what = format!("field `{name}` stays that of `{old}`");
         change
     });
@@ -52,8 +53,8 @@ fn cleared(place: &Place, record: &str, name: &str, value: &Node, kind: &str) ->
 fn empty(place: &Place, kind: &str) -> Option<(String, &'static str)> {
     match kind {
         "ℕ" => return Some(("0".to_string(), "")),
-        "Bool" => return Some(("false".to_string(), "mathlib.Core.Bool")),
-        _ if kind.starts_with("List ") => return Some(("[]".to_string(), "mathlib.Core.List")),
+        "Bool" => return Some(("false".to_string(), PRELUDE)),
+        _ if kind.starts_with("List ") => return Some(("[]".to_string(), PRELUDE)),
         _ => (),
     }
     let bare = place.all.constructors.iter().filter(|one| one.types == [kind]);
@@ -80,7 +81,7 @@ pub fn field_changes(place: &Place, node: &Node, of: &Node, name: &str) -> Vec<C
     for owner in owners {
         let next = place.all.next_field(owner);
         if next != name {
-            let mut change = place.put_at(of.to, node.to, &format!(" .{next}"));
+            let mut change = place.put_at(of.to, node.to, &format!(".{next}"));
             change.what = format!("`{}` becomes `.{next}`", place.shown(node.from, node.to));
             found.push(change);
         }

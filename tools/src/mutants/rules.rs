@@ -1,6 +1,7 @@
 //! Rules that make a wrong definition of a right one, by what stands there: numbers, signs and calls.
 
 use crate::change::{Change, Place};
+use crate::definitions::PRELUDE;
 use crate::names;
 use crate::records;
 use crate::tokens::is_number;
@@ -30,18 +31,16 @@ fn numbers(place: &Place, node: &Node, word: &str) -> Vec<Change> {
     others.into_iter().flatten().map(|other| place.put(node, &written(other))).collect()
 }
 
-/// What a sign becomes, and where that is to be had.
-fn other_sign(sign: &str) -> Option<(&'static str, &'static str, &'static str)> {
-    let (nat, bool) = ("Prim.Native.Nat", "mathlib.Core.Bool");
+/// What a sign becomes.
+fn other_sign(sign: &str) -> Option<&'static str> {
     Some(match sign {
-        "+" => ("-", "_-_", nat),
-        "-" => ("+", "_+_", nat),
-        "*" => ("+", "_+_", nat),
-        "/" => ("%", "_%_", nat),
-        "%" => ("/", "_/_", nat),
-        "^" => ("*", "_*_", nat),
-        "&&" => ("||", "_||_", bool),
-        "||" => ("&&", "_&&_", bool),
+        "+" => "-",
+        "-" | "*" => "+",
+        "/" => "%",
+        "%" => "/",
+        "^" => "*",
+        "&&" => "||",
+        "||" => "&&",
         _ => return None,
     })
 }
@@ -52,8 +51,8 @@ fn chains(place: &Place, node: &Node) -> Vec<Change> {
     let sign = |at: usize| signs.get(at).map_or("", |sign| sign.text.as_str());
     let mut found = Vec::new();
     for (at, one) in signs.iter().enumerate() {
-        if let Some((other, name, module)) = other_sign(&one.text) {
-            let mut change = place.put_at(one.from, one.to, other).needing(name, module);
+        if let Some(other) = other_sign(&one.text) {
+            let mut change = place.put_at(one.from, one.to, other).needing(&format!("◌{other}◌"), PRELUDE);
             change.what = format!("{} in `{}`", change.what, place.shown(parts[at].from, parts[at + 1].to));
             found.push(change);
         }
@@ -73,17 +72,20 @@ fn chains(place: &Place, node: &Node) -> Vec<Change> {
     found
 }
 
+const SIGNED: &str = "Rattle.std.specs.Int.Signed";
+const BITS: &str = "Rattle.std.specs.Int.Bits";
+
 /// What a function becomes, and where that is to be had.
 fn other_function(name: &str) -> Option<(&'static str, &'static str)> {
     Some(match name {
-        "ltb" => ("leb", "lib.Dec"),
-        "leb" => ("ltb", "lib.Dec"),
-        "ltZ" => ("leZ", "lib.Signed"),
-        "leZ" => ("ltZ", "lib.Signed"),
-        "take" => ("drop", "lib.ListN"),
-        "drop" => ("take", "lib.ListN"),
-        "bitAnd" | "bitXor" => ("bitOr", "lib.Bits"),
-        "bitOr" => ("bitAnd", "lib.Bits"),
+        "ltb" => ("leb", PRELUDE),
+        "leb" => ("ltb", PRELUDE),
+        "lt_z" => ("le_z", SIGNED),
+        "le_z" => ("lt_z", SIGNED),
+        "take" => ("drop", PRELUDE),
+        "drop" => ("take", PRELUDE),
+        "bit_and" | "bit_xor" => ("bit_or", BITS),
+        "bit_or" => ("bit_and", BITS),
         _ => return None,
     })
 }
@@ -100,7 +102,7 @@ fn calls(place: &Place, node: &Node, parts: &[Node]) -> Vec<Change> {
     }
     if let ("eqb", [one, other]) = (name, given) {
         // At least as much. The other way round nothing would change beside a 0.
-        found.push(place.put(node, &format!("leb {} {}", place.text(other), place.text(one))).needing("leb", "lib.Dec"));
+        found.push(place.put(node, &format!("leb {} {}", place.text(other), place.text(one))).needing("leb", PRELUDE));
     }
     if let ("not" | "suc", [of]) = (name, given) {
         found.push(place.leave(node, of));

@@ -62,7 +62,7 @@ mod tests {
 
     #[test]
     fn names_numbers_signs_and_fields() {
-        assert_eq!(words("f g = 0x2B ∷ g .memory ++ []"), ["f", "g", "=", "0x2B", "∷", "g", ".memory", "++", "[]"]);
+        assert_eq!(words("f g = 0x2B ∷ g.memory ++ []"), ["f", "g", "=", "0x2B", "∷", "g", ".memory", "++", "[]"]);
         assert_eq!(words("(λ a. record { x = a; })"), ["(", "λ", "a", ".", "record", "{", "x", "=", "a", ";", "}", ")"]);
     }
 

@@ -13,7 +13,7 @@ pub struct Node {
 pub enum Kind {
     /// a name, a number, `[]` or a text
     Word(String),
-    /// `g .memory`: of what, and the field's name
+    /// `g.memory`: of what, and the field's name
     Field(Box<Node>, String),
     Group(Box<Node>),
     /// the fields of `record { .. }` with their values
@@ -107,10 +107,10 @@ impl Reader<'_> {
         let mut parts = vec![self.atom()?];
         loop {
             if self.text().starts_with('.') && self.text().len() > 1 {
-                let of = joined(parts);
+                let of = parts.pop()?;
                 let field = self.take()?;
                 let (name, to) = (field.text[1..].to_string(), field.to);
-                parts = vec![Node { from: of.from, to, kind: Kind::Field(Box::new(of), name) }];
+                parts.push(Node { from: of.from, to, kind: Kind::Field(Box::new(of), name) });
             } else if self.is_at_atom() {
                 parts.push(self.atom()?);
             } else {
@@ -231,8 +231,8 @@ mod tests {
 
     #[test]
     fn calls_and_fields() {
-        assert_eq!(of("f (g .memory) 3"), "[f g.memory 3]");
-        assert_eq!(of("panelPrepares g body .gate"), "[panelPrepares g body].gate");
+        assert_eq!(of("f g.memory 3"), "[f g.memory 3]");
+        assert_eq!(of("(panel_prepares g body).gate.memory"), "[panel_prepares g body].gate.memory");
     }
 
     #[test]

@@ -1,10 +1,9 @@
 -- What is left of the bytes gives the whole: the invariant of the two sums.
 use mathlib.Core.Path.{◌≡◌}
 use mathlib.Core.List.{[]}
-use Prim.Native.Nat.{◌-◌, ◌<◌, ◌≤◌}
 use borrow.Author.Rules.{rules}
-use lib.ListN.{length, drop, drop_of_length-le}
-use Rattle.script_adler.specs.Adler.{adler_from, adler32}
+use lib.ListN.{drop, drop_of_length-le}
+use Rattle.script_adler.specs.Adler.{adler_from}
 use Rattle.script_adler.proofs.Sums.{adler_next}
 use Rattle.script_adler.proofs.adler32.Goals as goal
 

@@ -1,11 +1,8 @@
 -- What is left of the bytes gives the whole: the invariant of the two sums.
 use mathlib.Core.Path.{◌≡◌}
-use mathlib.Core.List.{[]}
 use Prim.Native.Nat.{◌-◌, ◌<◌, ◌≤◌}
-use borrow.Author.Rules.{rules}
-use lib.ListN.{length, drop, drop_of_length-le}
+use lib.ListN.{length, drop}
 use Rattle.script_adler.specs.Adler.{adler_from, adler32}
-use Rattle.script_adler.proofs.Sums.{adler_next}
 use Rattle.script_adler.proofs.adler32.Given as goal
 
 abbrev pub invariant-loop-i : goal.invariant-loop-i

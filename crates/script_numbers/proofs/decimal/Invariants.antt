@@ -1,13 +1,8 @@
 -- What is left of the digits gives the whole number.
-use mathlib.Core.Path.{◌≡◌, sym, ◌∙◌}
-use mathlib.Core.List.{[]}
-use Prim.Native.Nat.{◌+◌, ◌-◌, ◌*◌, ◌≤◌}
-use native.Mathlib.Omega.{arith}
-use borrow.Author.Rules.{rules}
-use borrow.Author.Tests.{eq-eqb, ne_eqb}
-use lib.ListN.{length, get_or, drop, drop_of_length-le}
-use Rattle.script_numbers.specs.Numbers.{digit_of, decimal_from, decimal_of}
-use Rattle.script_numbers.proofs.Digits.{decimal_goes, decimal_no_digit, decimal_too_large}
+use mathlib.Core.Path.{◌≡◌}
+use Prim.Native.Nat.{◌-◌, ◌≤◌}
+use lib.ListN.{length, drop}
+use Rattle.script_numbers.specs.Numbers.{decimal_from, decimal_of}
 use Rattle.script_numbers.proofs.decimal.Given as goal
 
 abbrev pub invariant-loop-i : goal.invariant-loop-i

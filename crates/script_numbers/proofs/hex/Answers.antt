@@ -1,7 +1,6 @@
 -- A word of one or two characters, each a digit or none.
 use native.Mathlib.Omega.{arith}
 use borrow.Author.Tests.{eq-eqb, ne_eqb, lt-ltb, le-ltb}
-use borrow.Author.Rules.{rules}
 use Rattle.script_numbers.proofs.hex.Goals as goal
 
 pub returns-then-only-lt16 : goal.returns-then-only-lt16

@@ -1,6 +1,5 @@
 -- Where the byte is kept there was room for it.
 use mathlib.Core.Bool.{false≢true}
-use borrow.Author.Rules.{rules}
 use Rattle.script_words.proofs.operands.keep_byte.Goals as goal
 
 pub returns-then-at-out : goal.returns-then-at-out

@@ -1,9 +1,6 @@
 -- Each word begins behind the one before, so the line comes to its end.
 use mathlib.Core.Path.{◌≡◌}
 use Prim.Native.Nat.{◌-◌, ◌≤◌}
-use native.Mathlib.Omega.{arith}
-use borrow.Author.Rules.{rules}
-use borrow.Author.Tests.{not-false}
 use lib.ListN.{length}
 use Rattle.script_words.proofs.operands.read_bytes.Given as goal
 

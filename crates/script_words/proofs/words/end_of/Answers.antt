@@ -2,12 +2,11 @@
 use mathlib.Core.Path.{◌≡◌}
 use mathlib.Core.Bool.{true, false, beq}
 use mathlib.Core.List.{[]}
-use Prim.Native.Nat.{◌+◌, ◌-◌, ◌≤◌}
 use native.Mathlib.Omega.{arith}
 use borrow.Author.Rules.{rules}
 use borrow.Author.Tests.{not-true, not-false}
-use lib.ListN.{length, get_or, drop, drop_of_length-le}
-use Rattle.script_words.specs.Words.{blank, spread}
+use lib.ListN.{get_or, drop, drop_of_length-le}
+use Rattle.script_words.specs.Words.{blank}
 use Rattle.script_words.proofs.Spreads.{spread_goes, spread_stops}
 use Rattle.script_words.proofs.words.end_of.Goals as goal
 

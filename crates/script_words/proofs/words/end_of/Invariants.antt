@@ -1,14 +1,8 @@
 -- What is left of the line gives the whole spread.
 use mathlib.Core.Path.{◌≡◌}
-use mathlib.Core.Bool.{true, false, beq}
-use mathlib.Core.List.{[]}
 use Prim.Native.Nat.{◌+◌, ◌-◌, ◌≤◌}
-use native.Mathlib.Omega.{arith}
-use borrow.Author.Rules.{rules}
-use borrow.Author.Tests.{not-true, not-false}
-use lib.ListN.{length, get_or, drop, drop_of_length-le}
-use Rattle.script_words.specs.Words.{blank, spread}
-use Rattle.script_words.proofs.Spreads.{spread_goes, spread_stops}
+use lib.ListN.{length, drop}
+use Rattle.script_words.specs.Words.{spread}
 use Rattle.script_words.proofs.words.end_of.Given as goal
 
 abbrev pub invariant-loop-i : goal.invariant-loop-i

@@ -2,13 +2,13 @@
 use mathlib.Core.Path.{◌≡◌}
 use mathlib.Core.Bool.{true, false}
 use mathlib.Core.List.{[]}
-use native.Mathlib.Nat.{min-eq_left, min-eq_right}
-use Prim.Native.Nat.{◌+◌, ◌≤◌, min}
+use native.Mathlib.Nat.{min-eq_right}
+use Prim.Native.Nat.{◌+◌, min}
 use native.Mathlib.Omega.{arith}
 use lib.ListN.{length, drop, drop_of_length-le}
 use lib.Seq.{drop-length}
 use borrow.Author.Rules.{rules}
-use Rattle.script_words.specs.Words.{spread, word_start}
+use Rattle.script_words.specs.Words.{spread}
 use Rattle.script_words.proofs.words.word_at.Goals as goal
 
 pub returns-then-from-line : goal.returns-then-from-line

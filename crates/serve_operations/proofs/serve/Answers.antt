@@ -1,0 +1,133 @@
+-- One arm for each operation: its function's promise, read with the operation known.
+use mathlib.Core.Path.{refl}
+use Rattle.document.specs.Numbers.{not_served}
+use Rattle.document.specs.declared.Operation.TheVariants.{Unserved, Describe, DescribeBriefly, Read, Write, WriteMasked, SetUpScope, ReadScope, PrepareAndStart, Start, Stop, Status, QueryBuffer, SendCommand, CommandResult, TellTable, MeasureString}
+use Rattle.document.specs.Commands.{served}
+use Rattle.state_parts.specs.State.{gate_of}
+use Rattle.state_byte.specs.After.{instruments_after}
+use Rattle.state_block.specs.Layout.{data_to, decoded_instruments}
+use Rattle.serve_recorder.specs.Operates.{Settles}
+use Rattle.serve_operations.proofs.Arms.{Asked, tells, settles, says, wrote, met, settled_told, unserved_says}
+use Rattle.serve_operations.proofs.serve.Goals.{in-Unserved, in-Write, in-WriteMasked, in-SetUpScope, in-PrepareAndStart, in-Start, in-Stop, in-Status, in-SendCommand}
+use Rattle.serve_operations.proofs.serve.Goals as goal
+
+pub returns-in-Describe : goal.returns-in-Describe
+returns-in-Describe c =
+    let q : Asked = record {
+      service = c.args.service;
+      block = c.args.state.now;
+      long = c.requires.long;
+      small = λ i. (c.slice_known-1.given i).fits;
+      body = data_to c.args.state.now c.args.to;
+      memory = c.args.memory.now;
+    } in
+    tells q Describe c.in-Describe.is refl (c.describe.ensures _ q.service _)
+
+pub returns-in-DescribeBriefly : goal.returns-in-DescribeBriefly
+returns-in-DescribeBriefly c =
+    let q : Asked = record {
+      service = c.args.service;
+      block = c.args.state.now;
+      long = c.requires.long;
+      small = λ i. (c.slice_known-1.given i).fits;
+      body = data_to c.args.state.now c.args.to;
+      memory = c.args.memory.now;
+    } in
+    tells q DescribeBriefly c.in-DescribeBriefly.is refl (c.describe_briefly.ensures _ q.service _)
+
+pub returns-in-Read : goal.returns-in-Read
+returns-in-Read c =
+    let q : Asked = record {
+      service = c.args.service;
+      block = c.args.state.now;
+      long = c.requires.long;
+      small = λ i. (c.slice_known-1.given i).fits;
+      body = data_to c.args.state.now c.args.to;
+      memory = c.args.memory.now;
+    } in
+    tells q Read c.in-Read.is refl (c.read.ensures _ refl)
+
+pub returns-in-ReadScope : goal.returns-in-ReadScope
+returns-in-ReadScope c =
+    let q : Asked = record {
+      service = c.args.service;
+      block = c.args.state.now;
+      long = c.requires.long;
+      small = λ i. (c.slice_known-1.given i).fits;
+      body = data_to c.args.state.now c.args.to;
+      memory = c.args.memory.now;
+    } in
+    tells q ReadScope c.in-ReadScope.is refl (c.read_scope.ensures q.service _)
+
+pub returns-in-QueryBuffer : goal.returns-in-QueryBuffer
+returns-in-QueryBuffer c =
+    let q : Asked = record {
+      service = c.args.service;
+      block = c.args.state.now;
+      long = c.requires.long;
+      small = λ i. (c.slice_known-1.given i).fits;
+      body = data_to c.args.state.now c.args.to;
+      memory = c.args.memory.now;
+    } in
+    tells q QueryBuffer c.in-QueryBuffer.is refl (c.query_buffer.ensures _ _)
+
+pub returns-in-CommandResult : goal.returns-in-CommandResult
+returns-in-CommandResult c =
+    let q : Asked = record {
+      service = c.args.service;
+      block = c.args.state.now;
+      long = c.requires.long;
+      small = λ i. (c.slice_known-1.given i).fits;
+      body = data_to c.args.state.now c.args.to;
+      memory = c.args.memory.now;
+    } in
+    tells q CommandResult c.in-CommandResult.is refl (c.command_result.ensures _ q.service _)
+
+pub returns-in-TellTable : goal.returns-in-TellTable
+returns-in-TellTable c =
+    let q : Asked = record {
+      service = c.args.service;
+      block = c.args.state.now;
+      long = c.requires.long;
+      small = λ i. (c.slice_known-1.given i).fits;
+      body = data_to c.args.state.now c.args.to;
+      memory = c.args.memory.now;
+    } in
+    tells q TellTable c.in-TellTable.is refl (c.tell_table.ensures _ q.service)
+
+pub returns-in-MeasureString : goal.returns-in-MeasureString
+returns-in-MeasureString c =
+    let q : Asked = record {
+      service = c.args.service;
+      block = c.args.state.now;
+      long = c.requires.long;
+      small = λ i. (c.slice_known-1.given i).fits;
+      body = data_to c.args.state.now c.args.to;
+      memory = c.args.memory.now;
+    } in
+    tells q MeasureString c.in-MeasureString.is refl (c.measure_string.ensures _ refl)
+
+-- where the arms meet that have a status to tell
+pub returns : goal.returns
+returns c =
+    let q : Asked = record {
+      service = c.args.service;
+      block = c.args.state.now;
+      long = c.requires.long;
+      small = λ i. (c.slice_known-1.given i).fits;
+      body = data_to c.args.state.now c.args.to;
+      memory = c.args.memory.now;
+    } in
+    let settled : Settles (served (gate_of (decoded_instruments q.block) q.memory) q.service q.body) (instruments_after q.service.operation (decoded_instruments q.block) q.service q.body) q.block c.match-operation.status c.match-operation.state c.match-operation.memory =
+    elim c.match-operation.branch [
+      | in-Unserved w ↦ met q w.status-is w.state-is w.memory-is (says q Unserved w.in-Unserved.is refl not_served (unserved_says _ q.service q.body))
+      | in-Write w ↦ met q w.status-is w.state-is w.memory-is (wrote q Write w.in-Write.is refl w.write-status.result _ (w.write-status.ensures _ refl))
+      | in-WriteMasked w ↦ met q w.status-is w.state-is w.memory-is (wrote q WriteMasked w.in-WriteMasked.is refl w.write_masked-status.result _ (w.write_masked-status.ensures _ refl))
+      | in-SetUpScope w ↦ met q w.status-is w.state-is w.memory-is (settles q SetUpScope w.in-SetUpScope.is w.set_up_scope-status.result _ _ (w.set_up_scope-status.ensures _))
+      | in-PrepareAndStart w ↦ met q w.status-is w.state-is w.memory-is (settles q PrepareAndStart w.in-PrepareAndStart.is w.prepare_and_start-status.result _ _ (w.prepare_and_start-status.ensures _))
+      | in-Start w ↦ met q w.status-is w.state-is w.memory-is (settles q Start w.in-Start.is w.start-status.result _ _ (w.start-status.ensures _ q.service _))
+      | in-Stop w ↦ met q w.status-is w.state-is w.memory-is (settles q Stop w.in-Stop.is w.stop-status.result _ _ (w.stop-status.ensures _ q.service _))
+      | in-Status w ↦ met q w.status-is w.state-is w.memory-is (says q Status w.in-Status.is refl w.status-status.result (w.status-status.ensures _ q.service _))
+      | in-SendCommand w ↦ met q w.status-is w.state-is w.memory-is (settles q SendCommand w.in-SendCommand.is w.send_command-status.result _ _ (w.send_command-status.ensures _ q.service))
+    ] in
+    settled_told q c.match-operation.status settled c.status_alone.ensures
