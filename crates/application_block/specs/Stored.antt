@@ -5,7 +5,7 @@ use Rattle.document.specs.Application.{new_command, collect_buffer}
 use Rattle.application_state.specs.State.{Command, application_of, collected_command}
 use Rattle.state_parts.specs.State.{with_application}
 use Rattle.state_block.specs.Places.{scope_place}
-use Rattle.state_block.specs.Layout.{decoded_scope, decoded_recorder, decoded_application, encoded_instruments, decoded_instruments}
+use Rattle.state_block.specs.Layout.{decoded_application, encoded_instruments, decoded_instruments}
 
 abbrev pub Stored : List ℕ → Command → List ℕ → Type 0
 Stored block c after =

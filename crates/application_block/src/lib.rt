@@ -1,4 +1,6 @@
 // The application command where it lies in the block: stored by a 0x10, collected and answered by the gate's own program.
+#![tactic(auto)]
+
 ghost use Rattle.std.specs.Prelude.{◌≡◌, true, ◌+◌, ◌≤◌, length};
 ghost use Rattle.std.proofs.lemmas.List.Edits.{sets};
 ghost use Rattle.document.specs.Numbers.{most_data};

@@ -3,19 +3,17 @@
 use mathlib.Core.Path.{◌≡◌, refl, sym, ap, ◌∙◌}
 use mathlib.Core.Bool.{true}
 use mathlib.Core.List.{List, [], ◌∷◌, ◌++◌, append_assoc}
-use Prim.Native.Nat.{ℕ, zero, suc, ◌+◌, ◌/◌, ◌^◌, ◌<◌, ◌≤◌}
+use Prim.Native.Nat.{ℕ, suc, ◌+◌, ◌^◌, ◌<◌, ◌≤◌}
 use native.Mathlib.Omega.{arith}
 use lib.ListN.{length, get_or, take, drop, length-append}
 use lib.Seq.{sets, sets-eq, drop_at, take_at, drop-drop, get_or-drop}
 use Rattle.document.specs.Numbers.{most_data}
 use Rattle.document.specs.Areas.{bytes_at}
-use Rattle.document.specs.Values.{number, little_endian}
+use Rattle.document.specs.Values.{number}
 use Rattle.document.specs.declared.Variable.{Variable}
 use Rattle.document.specs.Variables.{definitions_in}
-use Rattle.variables_list.specs.declared.Variables.{Variables}
 use Rattle.line_receiver.specs.declared.Receiver.{Receiver}
 use Rattle.scope_state.specs.declared.Scope.{Scope}
-use Rattle.recorder_plans.specs.declared.plan.Plan.{Plan}
 use Rattle.recorder_runs.specs.declared.run.Run.{Run}
 use Rattle.recorder_state.specs.declared.state.Recorder.{Recorder}
 use Rattle.document.proofs.Values.{number_back}

@@ -9,7 +9,7 @@ use Rattle.document.specs.Areas.{bytes_at}
 use Rattle.recorder_runs.specs.declared.run.Run.{Run}
 use Rattle.tables_state.specs.State.{list_length}
 use Rattle.state_block.specs.Layout.{decoded_receiver, decoded_definitions, decoded_variables, decoded_scope, decoded_plan, decoded_recorder, decoded_application, decoded_tables, decoded_instruments, decoded, encoded_receiver, encoded_variables, encoded_scope, encoded_numbers, encoded_run, encoded_recorder, encoded_application, encoded_tables, encoded_instruments, encoded}
-use Rattle.state_block.specs.Places.{receiver_length, definitions_length, variables_length, numbers_length, plan_length, run_length, recorder_length, application_length, tables_length, instruments_length, body_place, scope_place, recorder_place, plan_place, samples_place, post_trigger_place, divider_place, trigger_address_place, trigger_size_place, sign_place, threshold_place, recorded_place, run_place, full_place, watch_place, wait_place, place_place, value_place, application_place, command_place, tables_place, list_place, state_length}
+use Rattle.state_block.specs.Places.{receiver_length, definitions_length, variables_length, numbers_length, plan_length, run_length, recorder_length, application_length, tables_length, instruments_length, body_place, scope_place, recorder_place, plan_place, samples_place, post_trigger_place, divider_place, trigger_address_place, trigger_size_place, sign_place, threshold_place, recorded_place, run_place, full_place, watch_place, wait_place, place_place, value_place, application_place, command_place, tables_place, state_length}
 use Rattle.bytes_fields.proofs.Ranges.{bytes_cons, bytes_append}
 use Rattle.bytes_fields.proofs.Numbers.{number_kept}
 use Rattle.state_block.proofs.Definitions.{definitions_kept}

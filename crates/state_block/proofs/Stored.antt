@@ -3,8 +3,8 @@ use mathlib.Core.Path.{◌≡◌, refl, sym, ap, ◌∙◌}
 use mathlib.Core.List.{List, [], ◌∷◌, ◌++◌}
 use Prim.Native.Nat.{ℕ, ◌+◌, ◌-◌, ◌<◌, ◌≤◌}
 use native.Mathlib.Omega.{arith}
-use lib.ListN.{length, get_or, set, take, drop, length-set, length-append, length-drop}
-use lib.Seq.{sets, length-sets, drop_at, drop-set-lt}
+use lib.ListN.{length, get_or, set, drop, length-set, length-append, length-drop}
+use lib.Seq.{sets, length-sets, drop_at}
 use Rattle.document.specs.Numbers.{most_data}
 use Rattle.document.specs.Areas.{bytes_at}
 use Rattle.line_receiver.specs.declared.Receiver.{Receiver}

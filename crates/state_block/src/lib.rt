@@ -1,4 +1,6 @@
 // The target's state as a block of bytes: read and written in place.
+#![tactic(auto)]
+
 mod places;
 mod reading;
 mod writing;

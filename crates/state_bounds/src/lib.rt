@@ -1,4 +1,6 @@
 // The bounds of a target's state, checked where it lies in its block: of the definitions only those that are set up are looked at.
+#![tactic(auto)]
+
 ghost use Rattle.std.specs.Prelude.{◌≡◌, true, false, ◌+◌, ◌≤◌, length, get_or, drop};
 ghost use Rattle.document.specs.Variables.{definitions_in};
 ghost use Rattle.scope_state.specs.State as scope;

@@ -1,10 +1,9 @@
 -- A byte keeps everything within bounds and widths, so that a call over many bytes need look at the state once.
-use mathlib.Core.Path.{◌≡◌, refl, sym, ap, subst, ◌∙◌}
-use mathlib.Core.Bool.{true}
-use mathlib.Core.List.{List, []}
+use mathlib.Core.Path.{◌≡◌, refl, sym, subst, ◌∙◌}
+use mathlib.Core.List.{List}
 use Prim.Native.Nat.{ℕ, ◌<◌, ◌≤◌}
 use native.Mathlib.Omega.{arith}
-use lib.ListN.{length, set, length-set, length-take}
+use lib.ListN.{length, length-set, length-take}
 use Rattle.document.specs.Numbers.{most_data}
 use Rattle.document.specs.Bytes.{AllBytes}
 use Rattle.line_receiver.specs.declared.Event.{Event}
@@ -14,11 +13,10 @@ use Rattle.line_receiver.specs.Report.{HeldMessage}
 use Rattle.line_receiver.proofs.Sound.{step_sound}
 use Rattle.line_receiver.proofs.Events.{kept_byte, command_byte}
 use Rattle.state_parts.specs.State.{Target, gate_of}
-use Rattle.state_parts.specs.Within.{TablesWithin, MemoryWithin, LinkWithin, Within}
+use Rattle.state_parts.specs.Within.{TablesWithin, LinkWithin, Within}
 use Rattle.state_parts.proofs.ByteLaws.{all_set, all_take}
-use Rattle.state_byte.specs.AnsweredHeld.{answered_held, instruments_held}
 use Rattle.state_byte.proofs.HeldLaws.{scope_within, recorder_within, application_within, tables_held, memory_within}
-use Rattle.state_byte.specs.Turn.{Turn, keeping, held_by, turn}
+use Rattle.state_byte.specs.Turn.{Turn, held_by, turn}
 use Rattle.state_byte.proofs.TurnLaws.{next_of, by_event}
 
 module _ (t : Target) (memory buffer : List ℕ) (w : Within t memory) (b : ℕ) (small : b < 256) where

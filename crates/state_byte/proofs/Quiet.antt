@@ -5,7 +5,7 @@ use Prim.Native.Nat.{ℕ, suc, ◌+◌, ◌%◌, ◌<◌, ◌≤◌}
 use native.Mathlib.Nat.{add-zero}
 use native.Mathlib.Numerals.{add-one}
 use native.Mathlib.Omega.{arith}
-use borrow.Author.Tests.{eq-eqb, ne_eqb, lt-ltb}
+use borrow.Author.Tests.{ne_eqb, lt-ltb}
 use lib.ListN.{length, drop, set}
 use lib.Seq.{sets}
 use Rattle.document.specs.Numbers.{answer_room}
@@ -14,9 +14,9 @@ use Rattle.line_receiver.specs.declared.Receiver.{Receiver}
 use Rattle.line_receiver.specs.declared.Reaction.{Reaction}
 use Rattle.line_receiver.specs.declared.Event.TheVariants.{Nothing, Keep}
 use Rattle.line_receiver.specs.Bounds.{idle, data_next}
-use Rattle.line_receiver.specs.Step.{added, stepped, after_byte, byte_event}
+use Rattle.line_receiver.specs.Step.{stepped, after_byte, byte_event}
 use Rattle.state_parts.specs.State.{Target}
-use Rattle.state_byte.specs.Turn.{silent, keeping, with_receiver, turn}
+use Rattle.state_byte.specs.Turn.{silent, keeping, with_receiver}
 use Rattle.state_byte.specs.Walk.{Walk, byte_turn, room, walked}
 use Rattle.state_byte.specs.Quiet.{passed_receiver, passed_target}
 use Rattle.state_byte.proofs.TurnLaws.{by_event}

@@ -1,4 +1,6 @@
 // The base types: a table of their codes, and of how many bytes a value of each takes.
+#![tactic(auto)]
+
 ghost use Rattle.std.specs.Prelude.{◌≡◌};
 ghost use Rattle.document.specs.BaseTypes.{size_of_code};
 

@@ -1,9 +1,8 @@
 -- Nothing is new, or the command is copied out and its phase moves on.
-use mathlib.Core.Path.{◌≡◌, refl, sym, ap, ◌∙◌}
-use mathlib.Core.List.{List}
-use Prim.Native.Nat.{ℕ, ◌+◌, ◌-◌, ◌<◌, ◌≤◌}
+use mathlib.Core.Path.{◌≡◌, sym, ap, ◌∙◌}
+use Prim.Native.Nat.{ℕ, ◌+◌, ◌-◌, ◌≤◌}
 use native.Mathlib.Omega.{arith}
-use lib.ListN.{length, get_or, take, drop, length-take, length-drop}
+use lib.ListN.{length, take, drop, length-take}
 use lib.Seq.{sets, take-take}
 use Rattle.document.specs.Numbers.{most_data}
 use Rattle.document.specs.Areas.{bytes_at}
@@ -13,7 +12,7 @@ use Rattle.application_state.proofs.Means.{nothing_new, new_waits, collected_non
 use Rattle.bytes_fields.proofs.Ranges.{bytes_length}
 use Rattle.state_parts.specs.State.{with_application}
 use Rattle.state_block.specs.Places.{command_place, scope_place}
-use Rattle.state_block.specs.Layout.{decoded_scope, decoded_recorder, decoded_application, encoded_application, encoded_instruments, decoded_instruments}
+use Rattle.state_block.specs.Layout.{decoded_application, encoded_application, encoded_instruments, decoded_instruments}
 use Rattle.state_block.proofs.Stored.{same_instruments, head_stored}
 use borrow.Author.Rules.{rules}
 use Rattle.application_block.proofs.collect.Goals as goal
@@ -59,9 +58,9 @@ returns c =
     let block = c.args.state.now in
     -- what is copied out is what is new
     let copied_new : new_command (application_of (decoded_application block)) ≡ bytes_at block command_place c.usize_of_u8-count.result =
-        new_waits (decoded_application block) waits
-        ∙ ap (λ (n : ℕ). take n (bytes_at block command_place most_data)) (sym counted)
-        ∙ take-take c.usize_of_u8-count.result most_data (drop command_place block) few in
+    new_waits (decoded_application block) waits
+    ∙ ap (λ (n : ℕ). take n (bytes_at block command_place most_data)) (sym counted)
+    ∙ take-take c.usize_of_u8-count.result most_data (drop command_place block) few in
     let count : ℕ = c.usize_of_u8-count.result in
     let length_back : command_place + count - command_place ≡ count = omega arith in
     record {

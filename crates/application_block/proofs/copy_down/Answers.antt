@@ -1,8 +1,8 @@
 -- What is copied so far is the front of the data.
 use mathlib.Core.Path.{◌≡◌, refl, ap, ◌∙◌}
-use Prim.Native.Nat.{ℕ, ◌+◌, ◌-◌, ◌≤◌}
+use Prim.Native.Nat.{ℕ, ◌+◌}
 use native.Mathlib.Omega.{arith}
-use lib.ListN.{length, get_or, set}
+use lib.ListN.{get_or, set}
 use lib.Seq.{sets}
 use Rattle.document.specs.Areas.{bytes_at}
 use Rattle.state_block.specs.Places.{body_place, command_place}

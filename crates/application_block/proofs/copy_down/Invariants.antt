@@ -1,13 +1,10 @@
 -- What is copied so far is the front of the data.
-use mathlib.Core.Path.{◌≡◌, refl, ap, ◌∙◌}
-use Prim.Native.Nat.{ℕ, ◌+◌, ◌-◌, ◌≤◌}
-use native.Mathlib.Omega.{arith}
-use lib.ListN.{length, get_or, set}
+use mathlib.Core.Path.{◌≡◌}
+use Prim.Native.Nat.{◌-◌, ◌≤◌}
+use lib.ListN.{length}
 use lib.Seq.{sets}
 use Rattle.document.specs.Areas.{bytes_at}
 use Rattle.state_block.specs.Places.{body_place, command_place}
-use Rattle.application_block.proofs.Copied.{copied_next}
-use borrow.Author.Rules.{rules}
 use Rattle.application_block.proofs.copy_down.Given as goal
 
 abbrev pub invariant-loop-i : goal.invariant-loop-i

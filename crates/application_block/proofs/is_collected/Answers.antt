@@ -1,7 +1,6 @@
 -- By the phase.
 use Rattle.application_state.proofs.Means.{collected_tested}
 use Rattle.state_block.specs.Layout.{decoded_application}
-use borrow.Author.Rules.{rules}
 use Rattle.application_block.proofs.is_collected.Goals as goal
 
 pub returns : goal.returns

@@ -4,7 +4,6 @@ use Rattle.state_block.specs.Layout.{decoded_application}
 use mathlib.Core.Path.{◌∙◌}
 use borrow.Author.Tests.{eq-eqb}
 use Rattle.application_state.specs.State.{is_waiting}
-use borrow.Author.Rules.{rules}
 use Rattle.application_block.proofs.is_pending.Goals as goal
 
 pub returns-then-phase-eq-WAITING : goal.returns-then-phase-eq-WAITING

@@ -4,7 +4,6 @@ use mathlib.Core.List.{List}
 use Prim.Native.Nat.{ℕ}
 use lib.ListN.{set}
 use Rattle.state_block.proofs.Stored.{ended_stored}
-use borrow.Author.Rules.{rules}
 use Rattle.application_block.proofs.report.Goals as goal
 
 pub returns : goal.returns

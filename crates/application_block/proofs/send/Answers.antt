@@ -1,5 +1,5 @@
 -- Head and bytes, one behind the other.
-use mathlib.Core.Path.{◌≡◌, refl, sym, ap, ◌∙◌}
+use mathlib.Core.Path.{◌≡◌, sym, ap, ◌∙◌}
 use mathlib.Core.List.{List, [], ◌∷◌}
 use Prim.Native.Nat.{ℕ, ◌-◌, ◌≤◌}
 use native.Mathlib.Omega.{arith}
@@ -11,7 +11,6 @@ use Rattle.memory_ranges.proofs.Stored.{bytes_before}
 use Rattle.bytes_fields.proofs.Ranges.{bytes_length}
 use Rattle.state_block.specs.Places.{body_place, application_place, command_place}
 use Rattle.state_block.proofs.Stored.{command_stored}
-use borrow.Author.Rules.{rules}
 use Rattle.application_block.proofs.send.Goals as goal
 
 pub returns : goal.returns

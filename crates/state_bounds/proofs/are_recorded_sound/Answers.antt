@@ -5,7 +5,6 @@ use native.Mathlib.Nat.{mul-le-mul}
 use native.Mathlib.Omega.{arith}
 use lib.Dec.{leb}
 use borrow.Author.Tests.{not-true, not-false}
-use borrow.Author.Rules.{rules}
 use Rattle.state_bounds.proofs.Within.{none_counted, many_counted, outside_recorded, size_decides}
 use Rattle.state_bounds.specs.declared.Measured.{Measured}
 use Rattle.state_bounds.proofs.are_recorded_sound.Goals as goal

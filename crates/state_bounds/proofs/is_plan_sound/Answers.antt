@@ -1,8 +1,6 @@
 -- Samples, trigger, variables in turn, each read where it lies.
 use mathlib.Core.Path.{sym, ◌∙◌}
 use lib.ListN.{get_or}
-use borrow.Author.Tests.{not-true, not-false}
-use borrow.Author.Rules.{rules}
 use Rattle.recorder_plans.specs.Bounds.{trigger_sound}
 use Rattle.state_bounds.proofs.Within.{no_samples_lem, trigger_outside, variables_decide}
 use Rattle.state_block.specs.Layout.{decoded_plan}

@@ -1,6 +1,5 @@
 -- Not set up, or a plan and a run within their bounds.
 use mathlib.Core.Path.{sym, ◌∙◌}
-use borrow.Author.Tests.{not-true, not-false}
 use borrow.Author.Rules.{rules}
 use Rattle.recorder_plans.proofs.Granted.{plan_bounds}
 use Rattle.state_bounds.proofs.Within.{not_ready, no_flag, plan_outside, run_decides}

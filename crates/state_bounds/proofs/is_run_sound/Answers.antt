@@ -1,7 +1,6 @@
 -- The run's own bounds, beside the numbers of the plan that the block holds.
 use mathlib.Core.Path.{◌∙◌}
 use lib.ListN.{get_or}
-use borrow.Author.Rules.{rules}
 use Rattle.recorder_runs.specs.Bounds.{sound_beside, run_sound}
 use Rattle.state_block.specs.Places.{trigger_size_place}
 use Rattle.state_bounds.proofs.is_run_sound.Goals as goal

@@ -1,6 +1,5 @@
 -- The count, and then the definitions that it counts.
 use mathlib.Core.Path.{ap, ◌∙◌}
-use borrow.Author.Rules.{rules}
 use Rattle.state_bounds.proofs.Within.{scope_many, scope_counted}
 use Rattle.state_bounds.specs.declared.Measured.{Measured}
 use Rattle.state_bounds.proofs.is_scope_sound.Goals as goal

@@ -1,9 +1,6 @@
 -- Receiver, scope, recorder, application command and tables in turn.
 use mathlib.Core.Path.{◌≡◌, sym, ap, ◌∙◌}
 use mathlib.Core.Bool.{true}
-use borrow.Author.Tests.{not-true, not-false}
-use borrow.Author.Rules.{rules}
-use Rattle.state_parts.specs.State.{Target}
 use Rattle.state_parts.proofs.Parts.{receiver_outside, scope_outside, recorder_outside, application_outside, tables_decide}
 use Rattle.line_receiver.specs.Bounds as link
 use Rattle.scope_state.specs.State as scope

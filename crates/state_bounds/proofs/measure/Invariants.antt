@@ -1,16 +1,9 @@
 -- Whether all behind the ones passed are within is whether all are; the sum so far and the sizes to come make the whole.
 use mathlib.Core.Bool.{true}
-use mathlib.Core.Path.{◌≡◌, refl, sym, ap, ◌∙◌}
+use mathlib.Core.Path.{◌≡◌}
 use Prim.Native.Nat.{◌+◌, ◌-◌, ◌*◌, ◌≤◌}
-use native.Mathlib.Omega.{arith}
 use lib.ListN.{drop}
-use borrow.Author.Tests.{not-true, not-false}
-use borrow.Author.Rules.{rules}
-use Rattle.document.specs.Areas.{bytes_at}
-use Rattle.document.specs.Values.{number}
 use Rattle.document.specs.Variables.{definitions_in, set_size}
-use Rattle.state_bounds.specs.declared.Measured.{Measured}
-use Rattle.state_bounds.proofs.Looked.{turn_zero, turn_outside, turn_within, turn_size, measured_outside, measured_within, none_within}
 use Rattle.state_bounds.specs.Measured.{are_within}
 use Rattle.state_bounds.proofs.measure.Given as goal
 

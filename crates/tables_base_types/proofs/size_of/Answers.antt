@@ -1,10 +1,8 @@
 -- Row by row: a search from here on finds what a search of the whole table finds.
-use mathlib.Core.Path.{◌≡◌, sym, ◌∙◌}
-use Prim.Native.Nat.{◌-◌, ◌≤◌}
+use mathlib.Core.Path.{sym, ◌∙◌}
 use native.Mathlib.Omega.{arith}
 use borrow.Author.Rules.{rules}
-use Rattle.document.specs.BaseTypes.{size_of_code}
-use Rattle.tables_base_types.proofs.Search.{found, all_rows, no_row, hit, miss}
+use Rattle.tables_base_types.proofs.Search.{all_rows, no_row, hit, miss}
 use Rattle.tables_base_types.proofs.size_of.Goals as goal
 
 pub loop-i-init : goal.loop-i-init

@@ -1,10 +1,8 @@
 -- Row by row: a search from here on finds what a search of the whole table finds.
-use mathlib.Core.Path.{◌≡◌, sym, ◌∙◌}
+use mathlib.Core.Path.{◌≡◌}
 use Prim.Native.Nat.{◌-◌, ◌≤◌}
-use native.Mathlib.Omega.{arith}
-use borrow.Author.Rules.{rules}
 use Rattle.document.specs.BaseTypes.{size_of_code}
-use Rattle.tables_base_types.proofs.Search.{found, all_rows, no_row, hit, miss}
+use Rattle.tables_base_types.proofs.Search.{found}
 use Rattle.tables_base_types.proofs.size_of.Given as goal
 
 abbrev pub invariant-loop-i : goal.invariant-loop-i

@@ -1,7 +1,6 @@
 -- A size, and the number behind it.
 use mathlib.Core.Path.{sym, ◌∙◌}
 use lib.ListN.{get_or}
-use borrow.Author.Rules.{rules}
 use Rattle.bytes_fields.proofs.Definitions.{definition_here}
 use Rattle.state_block.proofs.reading.definition_at.Goals as goal
 

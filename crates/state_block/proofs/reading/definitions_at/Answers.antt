@@ -1,12 +1,9 @@
 -- What is left to read gives the whole.
-use mathlib.Core.Bool.{true}
 use mathlib.Core.Path.{◌≡◌, refl, ◌∙◌}
-use Prim.Native.Nat.{◌+◌, ◌-◌, ◌*◌, ◌≤◌}
+use Prim.Native.Nat.{◌-◌}
 use native.Mathlib.Omega.{arith}
-use lib.Seq.{sets}
-use lib.ListN.{length, drop, length-set}
+use lib.ListN.{length-set}
 use borrow.Author.Rules.{rules}
-use Rattle.document.specs.Variables.{definitions_in}
 use Rattle.state_block.specs.Layout.{decoded_definitions}
 use Rattle.state_block.proofs.Definitions.{definitions_read}
 use Rattle.state_block.proofs.reading.definitions_at.Goals as goal

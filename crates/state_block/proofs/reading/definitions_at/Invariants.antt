@@ -1,14 +1,11 @@
 -- What is left to read gives the whole.
 use mathlib.Core.Bool.{true}
-use mathlib.Core.Path.{◌≡◌, refl, ◌∙◌}
+use mathlib.Core.Path.{◌≡◌}
 use Prim.Native.Nat.{◌+◌, ◌-◌, ◌*◌, ◌≤◌}
-use native.Mathlib.Omega.{arith}
 use lib.Seq.{sets}
-use lib.ListN.{length, drop, length-set}
-use borrow.Author.Rules.{rules}
+use lib.ListN.{length, drop}
 use Rattle.document.specs.Variables.{definitions_in}
 use Rattle.state_block.specs.Layout.{decoded_definitions}
-use Rattle.state_block.proofs.Definitions.{definitions_read}
 use Rattle.state_block.proofs.reading.definitions_at.Given as goal
 
 abbrev pub invariant-loop-k : goal.invariant-loop-k

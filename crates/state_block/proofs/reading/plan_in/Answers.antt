@@ -1,6 +1,5 @@
 -- Each field as it was read.
 use lib.ListN.{get_or}
-use borrow.Author.Rules.{rules}
 use Rattle.state_block.proofs.reading.plan_in.Goals as goal
 
 pub returns : goal.returns

@@ -1,6 +1,5 @@
 -- Each field as it was read.
 use mathlib.Core.Path.{refl}
-use borrow.Author.Rules.{rules}
 use Rattle.state_block.specs.Layout.{decoded_receiver}
 use Rattle.state_block.proofs.reading.receiver_in.Goals as goal
 

@@ -1,6 +1,5 @@
 -- The flag, the plan and the run, each as it was read.
 use lib.ListN.{get_or}
-use borrow.Author.Rules.{rules}
 use Rattle.state_block.specs.Layout.{decoded_recorder}
 use Rattle.state_block.specs.Places.{recorder_place}
 use Rattle.state_block.proofs.reading.recorder_in.Goals as goal

@@ -1,6 +1,5 @@
 -- Without a setup it does not run; else its flag says.
 use mathlib.Core.Path.{sym}
-use borrow.Author.Rules.{rules}
 use Rattle.document.specs.Recorder.{is_running}
 use Rattle.recorder_state.proofs.Readings.{at_absent, at_planned}
 use Rattle.state_block.specs.Layout.{decoded_recorder}

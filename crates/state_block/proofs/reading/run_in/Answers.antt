@@ -1,6 +1,5 @@
 -- Each field as it was read.
 use lib.ListN.{get_or}
-use borrow.Author.Rules.{rules}
 use Rattle.state_block.specs.Places.{run_place, full_place, watch_place}
 use Rattle.state_block.proofs.reading.run_in.Goals as goal
 

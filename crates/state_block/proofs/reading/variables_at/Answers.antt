@@ -1,6 +1,5 @@
 -- The count, and the definitions behind it.
 use lib.ListN.{get_or}
-use borrow.Author.Rules.{rules}
 use Rattle.state_block.proofs.reading.variables_at.Goals as goal
 
 pub returns : goal.returns

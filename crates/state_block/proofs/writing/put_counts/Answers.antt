@@ -1,6 +1,5 @@
 -- Stores that meet are one store.
 use mathlib.Core.Path.{refl}
-use borrow.Author.Rules.{rules}
 use Rattle.state_block.proofs.writing.put_counts.Goals as goal
 
 pub returns : goal.returns

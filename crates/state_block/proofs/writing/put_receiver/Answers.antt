@@ -1,5 +1,4 @@
 -- The head is the receiver.
-use borrow.Author.Rules.{rules}
 use Rattle.state_block.specs.Layout.{encoded_receiver}
 use Rattle.state_block.proofs.writing.put_receiver.Goals as goal
 

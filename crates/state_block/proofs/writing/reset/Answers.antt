@@ -1,7 +1,6 @@
 -- The state at reset is all zeros.
 use mathlib.Core.Path.{ap, ◌∙◌}
 use lib.Seq.{sets}
-use borrow.Author.Rules.{rules}
 use Rattle.state_block.proofs.Parts.{fresh_zeros}
 use Rattle.state_block.proofs.writing.reset.Goals as goal
 
