@@ -9,7 +9,7 @@ use Rattle.document.specs.Numbers.{taken}
 use Rattle.application_state.specs.State.{Command, ended_command}
 use Rattle.state_parts.specs.State.{with_application}
 use Rattle.state_block.specs.Places.{state_length}
-use Rattle.state_block.specs.Layout.{decoded_scope, decoded_recorder, decoded_application, decoded, encoded, decoded_instruments}
+use Rattle.state_block.specs.Layout.{decoded_application, decoded, encoded, decoded_instruments}
 use Rattle.state_block.proofs.Stored.{instruments_stored}
 use Rattle.application_block.specs.Stored.{Stored, Collects}
 use Rattle.call_checks.specs.Promises.{collect_number, report_number}

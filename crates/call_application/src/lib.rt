@@ -1,4 +1,6 @@
 // The calls of the gate's own program over a block: it collects a command, and later reports a result.
+#![tactic(auto)]
+
 ghost use Rattle.call_application.specs.Promises.{CollectDone, ReportDone};
 
 use call_checks::{collect_refusal, report_refusal};

@@ -1,4 +1,6 @@
 // The front panel's two calls over a block: it prepares the recorder, and starts it. The link is not touched.
+#![tactic(auto)]
+
 ghost use Rattle.std.specs.Prelude.{◌≡◌, ◌≤◌, length};
 ghost use Rattle.recorder_state.specs.State.{recorder_of};
 ghost use Rattle.state_block.specs.Places.{state_length};

@@ -10,17 +10,14 @@ use Rattle.document.specs.Areas.{memory_end, bytes_at}
 use Rattle.document.specs.Values.{number, little_endian}
 use Rattle.document.specs.Stores.{stored}
 use Rattle.document.specs.Run.{place_begins, set_of, set_taken}
-use Rattle.document.specs.Recorder.{ticked_memory}
 use Rattle.memory_ranges.proofs.Stored.{bytes_behind}
 use Rattle.bytes_fields.proofs.Ranges.{bytes_append, sets_same}
 use Rattle.bytes_fields.proofs.Numbers.{number_kept}
 use Rattle.recorder_plans.specs.State.{plan_of}
-use Rattle.recorder_plans.specs.Bounds.{plan_sound}
 use Rattle.recorder_runs.specs.declared.run.Run.{Run}
 use Rattle.recorder_runs.specs.State.{run_of, run_kept, with_wait}
 use Rattle.recorder_runs.specs.Bounds.{run_sound}
 use Rattle.recorder_state.specs.declared.state.Recorder.{Recorder}
-use Rattle.recorder_state.specs.State.{recorder_of}
 use Rattle.recorder_state.specs.Bounds as recorder
 use Rattle.recorder_taking.specs.Tick.{ticked_state}
 use Rattle.recorder_taking.proofs.Taken.{Leaves, parts, runs, absent_leaves, stopped_leaves, waiting_leaves, due_leaves}

@@ -1,4 +1,6 @@
 // The gate's tick over a block: a set every (time divider + 1)th, into its place of the ring.
+#![tactic(auto)]
+
 ghost use Rattle.std.specs.Prelude.{◌≡◌, true, ◌≤◌, length};
 ghost use Rattle.document.specs.Areas.{memory_end};
 ghost use Rattle.state_parts.specs.Bounds.{sound};

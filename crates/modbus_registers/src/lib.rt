@@ -1,4 +1,6 @@
 // Registers between the memory and a frame of the second port: low byte first in the one, high byte first in the other.
+#![tactic(auto)]
+
 ghost use Rattle.std.specs.Prelude.{◌≡◌, ◌+◌, ◌≤◌, length};
 ghost use Rattle.document.specs.Stores.{stored};
 ghost use Rattle.document.specs.Registers.{turned};

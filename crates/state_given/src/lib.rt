@@ -1,4 +1,6 @@
 // A recorder prepared from data that are lent beside the block, as the front panel gives them: addresses have two bytes.
+#![tactic(auto)]
+
 ghost use Rattle.std.specs.Prelude.{◌≡◌, true, false, ◌+◌, ◌*◌, ◌≤◌, length, drop};
 ghost use Rattle.std.proofs.lemmas.List.Edits.{sets};
 ghost use Rattle.document.specs.Numbers.{done};

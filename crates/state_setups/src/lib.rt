@@ -1,4 +1,6 @@
 // An accepted setup, stored where scope and recorder lie. Its data stand in the same block, in front of all that is stored.
+#![tactic(auto)]
+
 mod parts;
 mod recording;
 mod scoping;

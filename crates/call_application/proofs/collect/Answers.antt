@@ -1,6 +1,5 @@
 -- Refused, nothing changes; else the command is handed out.
 use mathlib.Core.Path.{sym, ◌∙◌}
-use borrow.Author.Rules.{rules}
 use Rattle.state_block.specs.Layout.{decoded}
 use Rattle.state_parts.proofs.Parts.{parts_of_lem}
 use Rattle.call_checks.proofs.ApplicationNumbers.{collect_known}

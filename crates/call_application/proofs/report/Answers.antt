@@ -1,6 +1,5 @@
 -- Refused, nothing changes; else the result is stored.
 use mathlib.Core.Path.{sym, ◌∙◌}
-use borrow.Author.Rules.{rules}
 use Rattle.application_state.specs.State.{application_of}
 use Rattle.state_block.specs.Layout.{decoded_application}
 use Rattle.call_checks.proofs.ApplicationNumbers.{report_known}

@@ -1,6 +1,5 @@
 -- Refused, nothing changes; else the recorder is prepared.
 use mathlib.Core.Path.{sym, ◌∙◌}
-use borrow.Author.Rules.{rules}
 use Rattle.call_checks.proofs.Settled.{panel_known}
 use Rattle.call_panel.proofs.Calls.{prepare_refused, prepare_taken}
 use Rattle.call_panel.proofs.prepare.Goals as goal

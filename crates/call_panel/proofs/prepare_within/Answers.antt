@@ -1,10 +1,7 @@
 -- Answered with an error, nothing changes; else the recorder is stored as it is then.
 use mathlib.Core.Path.{sym, ◌∙◌}
 use mathlib.Core.Bool.{false}
-use mathlib.Core.List.{List}
-use Prim.Native.Nat.{ℕ}
 use borrow.Author.Tests.{eq-eqb, ne_eqb}
-use borrow.Author.Rules.{rules}
 use Rattle.document.specs.Numbers.{done}
 use Rattle.document.specs.Recorder.{is_running}
 use Rattle.recorder_state.specs.State.{recorder_of}

@@ -1,6 +1,5 @@
 -- Refused, nothing changes; else the recorder starts.
 use mathlib.Core.Path.{sym, ◌∙◌}
-use borrow.Author.Rules.{rules}
 use Rattle.call_checks.proofs.Settled.{panel_known}
 use Rattle.call_panel.proofs.Calls.{start_refused, start_taken}
 use Rattle.call_panel.proofs.start.Goals as goal

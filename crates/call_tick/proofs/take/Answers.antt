@@ -2,7 +2,6 @@
 use mathlib.Core.Bool.{true}
 use mathlib.Core.Path.{◌≡◌, ap, ◌∙◌}
 use native.Mathlib.Omega.{arith}
-use borrow.Author.Rules.{rules}
 use Rattle.document.specs.Run.{set_taken}
 use Rattle.recorder_plans.specs.declared.plan.Plan.{Plan}
 use Rattle.recorder_plans.specs.State.{plan_of}

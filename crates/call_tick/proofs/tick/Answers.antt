@@ -1,6 +1,5 @@
 -- Refused, nothing changes; else the recorder ticks.
 use mathlib.Core.Path.{sym, ◌∙◌}
-use borrow.Author.Rules.{rules}
 use Rattle.call_checks.proofs.Numbers.{tick_known}
 use Rattle.call_checks.proofs.Settled.{block_known}
 use Rattle.call_tick.proofs.Ticks.{tick_refused, tick_taken}

@@ -1,10 +1,7 @@
 -- Not set up, stopped, waiting, or a set: each stores what the definition leaves.
-use mathlib.Core.List.{List}
 use mathlib.Core.Path.{◌≡◌}
 use Prim.Native.Nat.{ℕ, ◌<◌}
 use lib.ListN.{get_or}
-use borrow.Author.Rules.{rules}
-use Rattle.recorder_runs.specs.declared.run.Run.{Run}
 use Rattle.state_block.specs.Places.{recorder_place}
 use Rattle.call_tick.proofs.Within.{absent_ticked, stopped_ticked, waiting_ticked, due_lent, due_ticked}
 use Rattle.call_tick.proofs.tick_within.Goals as goal

@@ -1,12 +1,9 @@
 -- What is left to store gives the whole: one register a turn.
-use mathlib.Core.Path.{◌≡◌, refl, ◌∙◌}
-use Prim.Native.Nat.{◌+◌, ◌-◌, ◌≤◌}
+use mathlib.Core.Path.{refl, ◌∙◌}
 use native.Mathlib.Nat.{add-zero}
 use native.Mathlib.Omega.{arith}
-use lib.ListN.{length, drop, length-set}
+use lib.ListN.{length-set}
 use borrow.Author.Rules.{rules}
-use Rattle.document.specs.Stores.{stored}
-use Rattle.document.specs.Registers.{turned}
 use Rattle.modbus_registers.proofs.Turns.{stored_turn, turned_ended}
 use Rattle.modbus_registers.proofs.copy_swapped.Goals as goal
 

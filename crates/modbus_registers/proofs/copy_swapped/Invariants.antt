@@ -1,13 +1,9 @@
 -- What is left to store gives the whole: one register a turn.
-use mathlib.Core.Path.{◌≡◌, refl, ◌∙◌}
+use mathlib.Core.Path.{◌≡◌}
 use Prim.Native.Nat.{◌+◌, ◌-◌, ◌≤◌}
-use native.Mathlib.Nat.{add-zero}
-use native.Mathlib.Omega.{arith}
-use lib.ListN.{length, drop, length-set}
-use borrow.Author.Rules.{rules}
+use lib.ListN.{length, drop}
 use Rattle.document.specs.Stores.{stored}
 use Rattle.document.specs.Registers.{turned}
-use Rattle.modbus_registers.proofs.Turns.{stored_turn, turned_ended}
 use Rattle.modbus_registers.proofs.copy_swapped.Given as goal
 
 abbrev pub invariant-loop-i : goal.invariant-loop-i

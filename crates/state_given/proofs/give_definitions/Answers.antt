@@ -2,13 +2,12 @@
 use mathlib.Core.Path.{◌≡◌, refl, ap, ◌∙◌}
 use mathlib.Core.Bool.{false}
 use mathlib.Core.List.{List}
-use Prim.Native.Nat.{ℕ, ◌+◌, ◌-◌, ◌*◌, ◌≤◌}
+use Prim.Native.Nat.{ℕ, ◌+◌, ◌-◌}
 use native.Mathlib.Nat.{sub-zero}
 use native.Mathlib.Omega.{arith}
-use lib.ListN.{length, drop}
+use lib.ListN.{drop}
 use lib.Seq.{sets}
-use borrow.Author.Rules.{rules}
-use Rattle.document.specs.Variables.{definition_width, definitions_in}
+use Rattle.document.specs.Variables.{definitions_in}
 use Rattle.state_block.specs.Layout.{encoded_definitions}
 use Rattle.state_setups.proofs.Turns.{left_one, definition_stored}
 use Rattle.state_given.proofs.give_definitions.Goals as goal

@@ -1,16 +1,11 @@
 -- What is left to store gives the whole.
-use mathlib.Core.Path.{◌≡◌, refl, ap, ◌∙◌}
+use mathlib.Core.Path.{◌≡◌}
 use mathlib.Core.Bool.{false}
-use mathlib.Core.List.{List}
-use Prim.Native.Nat.{ℕ, ◌+◌, ◌-◌, ◌*◌, ◌≤◌}
-use native.Mathlib.Nat.{sub-zero}
-use native.Mathlib.Omega.{arith}
+use Prim.Native.Nat.{◌+◌, ◌-◌, ◌*◌, ◌≤◌}
 use lib.ListN.{length, drop}
 use lib.Seq.{sets}
-use borrow.Author.Rules.{rules}
 use Rattle.document.specs.Variables.{definition_width, definitions_in}
 use Rattle.state_block.specs.Layout.{encoded_definitions}
-use Rattle.state_setups.proofs.Turns.{left_one, definition_stored}
 use Rattle.state_given.proofs.give_definitions.Given as goal
 
 abbrev pub invariant-loop-k : goal.invariant-loop-k

@@ -4,7 +4,6 @@ use mathlib.Core.Bool.{false}
 use Prim.Native.Nat.{ℕ, ◌+◌, ◌-◌, ◌*◌}
 use lib.ListN.{get_or, set, drop, replicate}
 use lib.Seq.{sets}
-use borrow.Author.Rules.{rules}
 use Rattle.document.specs.Variables.{definitions_in}
 use Rattle.state_block.specs.Layout.{encoded_definitions}
 use Rattle.state_setups.proofs.Padded.{part_stored}

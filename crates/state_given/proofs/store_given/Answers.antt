@@ -1,13 +1,12 @@
 -- Ready, numbers, variables and run, one behind the other.
-use mathlib.Core.Path.{◌≡◌, refl, ap, ◌∙◌}
+use mathlib.Core.Path.{ap, ◌∙◌}
 use mathlib.Core.Bool.{false}
 use mathlib.Core.List.{List}
-use Prim.Native.Nat.{ℕ, ◌-◌, ◌≤◌}
+use Prim.Native.Nat.{ℕ, ◌≤◌}
 use native.Mathlib.Omega.{arith}
-use lib.ListN.{length, set, take, drop, length-drop}
+use lib.ListN.{length, set, length-drop}
 use lib.Seq.{sets}
-use borrow.Author.Rules.{rules}
-use Rattle.document.specs.Plan.{head_width, variables_part, recorded_in}
+use Rattle.document.specs.Plan.{variables_part, recorded_in}
 use Rattle.document.specs.Variables.{count_in, variables_in, length_given}
 use Rattle.variables_list.specs.State.{kept}
 use Rattle.variables_list.proofs.Wrong.{count_right}

@@ -1,18 +1,10 @@
 -- What is left to store gives the whole, and what is left to read is as it was.
-use mathlib.Core.Path.{◌≡◌, refl, ap, ◌∙◌}
-use mathlib.Core.List.{List, ◌∷◌}
-use Prim.Native.Nat.{ℕ, ◌+◌, ◌-◌, ◌*◌, ◌≤◌}
-use native.Mathlib.Nat.{sub-zero}
-use native.Mathlib.Omega.{arith}
-use lib.ListN.{length, get_or, take, drop}
+use mathlib.Core.Path.{◌≡◌}
+use Prim.Native.Nat.{◌+◌, ◌-◌, ◌*◌, ◌≤◌}
+use lib.ListN.{length, take, drop}
 use lib.Seq.{sets}
-use borrow.Author.Rules.{rules}
-use Rattle.document.specs.Values.{little_endian}
 use Rattle.document.specs.Variables.{definition_width, definitions_in}
 use Rattle.state_block.specs.Layout.{encoded_definitions}
-use Rattle.memory_ranges.proofs.Stored.{byte_agree}
-use Rattle.state_setups.proofs.Fronts.{number_same}
-use Rattle.state_setups.proofs.Turns.{left_one, front_same, definition_stored}
 use Rattle.state_setups.proofs.parts.store_definitions.Given as goal
 
 abbrev pub invariant-loop-k : goal.invariant-loop-k

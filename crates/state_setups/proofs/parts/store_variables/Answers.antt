@@ -1,12 +1,10 @@
 -- The definitions, the count in front of them, and zeros behind them.
 use mathlib.Core.Path.{◌≡◌, sym, ap, ◌∙◌}
-use mathlib.Core.List.{List}
 use Prim.Native.Nat.{ℕ, ◌+◌, ◌-◌, ◌*◌, ◌≤◌}
 use native.Mathlib.Nat.{add-zero}
 use native.Mathlib.Omega.{arith}
 use lib.ListN.{get_or, set, drop, replicate}
 use lib.Seq.{sets, get_or-drop, drop-drop}
-use borrow.Author.Rules.{rules}
 use Rattle.document.specs.Variables.{definition_width, definitions_in, count_in}
 use Rattle.state_block.specs.Layout.{encoded_definitions}
 use Rattle.state_setups.proofs.Padded.{part_stored}

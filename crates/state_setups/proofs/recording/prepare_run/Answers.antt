@@ -1,7 +1,6 @@
 -- The run that is stored is a prepared one, whatever the former was.
 use mathlib.Core.Path.{ap, ◌∙◌}
 use lib.Seq.{sets}
-use borrow.Author.Rules.{rules}
 use Rattle.recorder_runs.specs.declared.run.Run.{Run}
 use Rattle.state_block.specs.Layout.{encoded_run}
 use Rattle.state_block.specs.Places.{run_place}

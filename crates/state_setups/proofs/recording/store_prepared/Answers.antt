@@ -1,12 +1,10 @@
 -- Ready, numbers, variables and run, one behind the other. What is stored in front of the variables leaves the data as they were.
 use mathlib.Core.Path.{◌≡◌, ap, ◌∙◌}
-use mathlib.Core.Bool.{Bool}
 use mathlib.Core.List.{List}
 use Prim.Native.Nat.{ℕ, ◌+◌, ◌-◌, ◌≤◌}
 use native.Mathlib.Omega.{arith}
 use lib.ListN.{length, set, take, drop}
 use lib.Seq.{sets, take-set-le}
-use borrow.Author.Rules.{rules}
 use Rattle.document.specs.declared.Variable.{Variable}
 use Rattle.document.specs.Plan.{head_width, variables_part, recorded_in}
 use Rattle.document.specs.Variables.{count_in, length_given}

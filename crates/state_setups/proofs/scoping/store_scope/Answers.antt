@@ -1,11 +1,10 @@
 -- The part with the definitions is all of the data, and what stands behind the scope is there already.
 use mathlib.Core.Path.{◌≡◌, ap, ◌∙◌}
 use mathlib.Core.List.{List}
-use Prim.Native.Nat.{ℕ, ◌-◌, ◌≤◌}
+use Prim.Native.Nat.{◌-◌, ◌≤◌}
 use native.Mathlib.Omega.{arith}
 use lib.ListN.{drop}
 use lib.Seq.{sets, length-sets}
-use borrow.Author.Rules.{rules}
 use Rattle.document.specs.declared.Variable.{Variable}
 use Rattle.document.specs.Variables.{variables_in, length_given}
 use Rattle.variables_list.specs.State.{no_variables, kept}
