@@ -1,4 +1,6 @@
 // What a whole message does: refused for its sum or its length, or carried out.
+#![tactic(auto)]
+
 ghost use Rattle.serve_message.specs.Responds.{Lent, Responds};
 
 use bytes_widths::usize_of_u8;
