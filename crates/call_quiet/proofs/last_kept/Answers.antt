@@ -1,7 +1,6 @@
 -- Each is a case of the definition.
-use mathlib.Core.Path.{refl, ◌∙◌}
+use mathlib.Core.Path.{refl}
 use native.Mathlib.Omega.{arith}
-use borrow.Author.Rules.{rules}
 use borrow.Author.Tests.{lt-ltb, le-ltb}
 use Rattle.call_quiet.proofs.last_kept.Goals as goal
 

@@ -1,10 +1,6 @@
 -- What is left to pass gives the whole.
-use mathlib.Core.Path.{◌≡◌, refl}
-use Prim.Native.Nat.{◌+◌, ◌-◌, ◌≤◌}
+use mathlib.Core.Path.{refl}
 use native.Mathlib.Omega.{arith}
-use borrow.Author.Rules.{rules}
-use lib.ListN.{drop}
-use Rattle.state_byte.specs.Quiet.{plain_ahead}
 use Rattle.call_quiet.proofs.Ahead.{ahead_plus, ahead_other, ahead_end}
 use Rattle.call_quiet.proofs.plain_end.Goals as goal
 

@@ -1,9 +1,7 @@
 -- What is left to add gives the whole.
 use mathlib.Core.Path.{◌≡◌, refl}
-use Prim.Native.Nat.{◌+◌, ◌-◌, ◌%◌, ◌<◌, ◌≤◌}
 use native.Mathlib.Omega.{arith}
-use borrow.Author.Rules.{rules}
-use lib.ListN.{length, drop, drop_of_length-le}
+use lib.ListN.{drop, drop_of_length-le}
 use Rattle.document.specs.Sum.{total}
 use Rattle.line_wire.proofs.Stuffed.{total_drop}
 use Rattle.call_quiet.proofs.summed.Goals as goal

@@ -1,11 +1,8 @@
 -- What is left to add gives the whole.
-use mathlib.Core.Path.{◌≡◌, refl}
+use mathlib.Core.Path.{◌≡◌}
 use Prim.Native.Nat.{◌+◌, ◌-◌, ◌%◌, ◌<◌, ◌≤◌}
-use native.Mathlib.Omega.{arith}
-use borrow.Author.Rules.{rules}
-use lib.ListN.{length, drop, drop_of_length-le}
+use lib.ListN.{length, drop}
 use Rattle.document.specs.Sum.{total}
-use Rattle.line_wire.proofs.Stuffed.{total_drop}
 use Rattle.call_quiet.proofs.summed.Given as goal
 
 abbrev pub invariant-loop-i : goal.invariant-loop-i
