@@ -1,0 +1,84 @@
+-- What is left to take gives the whole.
+use mathlib.Core.Path.{◌≡◌, refl, sym, ◌∙◌}
+use Prim.Native.Nat.{ℕ, ◌+◌, ◌-◌, ◌<◌, ◌≤◌}
+use native.Mathlib.Omega.{arith}
+use borrow.Author.Rules.{rules}
+use borrow.Author.Tests.{leb-true, leb-false}
+use lib.ListN.{length, get_or, drop}
+use lib.Seq.{sets}
+use Rattle.document.specs.Numbers.{answer_room}
+use Rattle.state_parts.specs.Within.{Within}
+use Rattle.state_byte.specs.Walk.{walked}
+use Rattle.state_block.specs.Layout.{decoded, encoded}
+use Rattle.call_quiet.proofs.Over.{same_state}
+use Rattle.call_block.specs.Going.{walk_at, walk}
+use Rattle.call_block.proofs.Ends.{stored_on, gone_all, gone_short}
+use Rattle.call_block.proofs.take_while_room.Goals as goal
+
+pub loop-taken-init : goal.loop-taken-init
+loop-taken-init c =
+    let block = c.args.state.now in
+    let small : (i : ℕ) → get_or block i 0 < 256 = λ i. (c.slice_known-1.given i).fits in
+    (refl, refl, omega arith, omega arith, c.requires.1, same_state block c.requires.0 small (decoded block) refl, refl)
+
+pub take_next-going-requires : goal.take_next-going-requires
+take_next-going-requires c =
+    let l = c.loop-taken in
+    let room : answer_room ≤ length l.answers - l.written = leb-true _ _ c.if-answers-written-ge-ANSWER_ROOM.true in
+    let enough : l.written + answer_room ≤ length l.answers = omega (arith, room, l.invariant.3) in
+    (omega (arith, l.invariant.0, c.requires.0), l.invariant.4, c.loop-taken-test.true, enough)
+
+pub loop-taken-smaller : goal.loop-taken-smaller
+loop-taken-smaller c =
+    omega (arith, c.take_next-going.ensures.onward, c.take_next-going.ensures.inside)
+
+pub loop-taken-preserved : goal.loop-taken-preserved
+loop-taken-preserved c =
+    let f = c.take_next-going.ensures in
+    let l = c.loop-taken in (
+      c.take_next-going.auto.state ∙ l.invariant.0,
+      c.take_next-going.auto.memory.1.1.1.0 ∙ l.invariant.1,
+      f.inside,
+      omega (arith, f.room, c.take_next-going.auto.memory.1.1.1.0),
+      f.within,
+      stored_on c.args.state.now l.state c.take_next-going.new.state l.memory _ c.requires.0 l.invariant.4 f.within l.invariant.5 f.state,
+      l.invariant.6 ∙ f.goes,
+    )
+
+-- ---- no room is left
+
+pub shape_of-state-else-answers-written-ge-ANSWER_ROOM : goal.shape_of-state-else-answers-written-ge-ANSWER_ROOM
+shape_of-state-else-answers-written-ge-ANSWER_ROOM c = c.loop-taken.invariant.0
+
+pub shape_of-memory-else-answers-written-ge-ANSWER_ROOM : goal.shape_of-memory-else-answers-written-ge-ANSWER_ROOM
+shape_of-memory-else-answers-written-ge-ANSWER_ROOM c =
+    c.loop-taken.invariant.4.memory_part.size ∙ sym c.requires.1.memory_part.size
+
+pub shape_of-answers-else-answers-written-ge-ANSWER_ROOM : goal.shape_of-answers-else-answers-written-ge-ANSWER_ROOM
+shape_of-answers-else-answers-written-ge-ANSWER_ROOM c = c.loop-taken.invariant.1
+
+pub returns-else-answers-written-ge-ANSWER_ROOM : goal.returns-else-answers-written-ge-ANSWER_ROOM
+returns-else-answers-written-ge-ANSWER_ROOM c =
+    let l = c.loop-taken in
+    let a = c.args in
+    gone_short a.bytes.now l.taken l.written a.state.now a.memory.now a.answers.now l.state l.memory l.answers l.invariant.6 l.invariant.5
+    c.if-answers-written-ge-ANSWER_ROOM.false
+
+-- ---- no byte is left
+
+pub shape_of-state-after-loop-taken : goal.shape_of-state-after-loop-taken
+shape_of-state-after-loop-taken c = c.loop-taken.invariant.0
+
+pub shape_of-memory-after-loop-taken : goal.shape_of-memory-after-loop-taken
+shape_of-memory-after-loop-taken c =
+    c.loop-taken.invariant.4.memory_part.size ∙ sym c.requires.1.memory_part.size
+
+pub shape_of-answers-after-loop-taken : goal.shape_of-answers-after-loop-taken
+shape_of-answers-after-loop-taken c = c.loop-taken.invariant.1
+
+pub returns-after-loop-taken : goal.returns-after-loop-taken
+returns-after-loop-taken c =
+    let l = c.loop-taken in
+    let a = c.args in
+    gone_all a.bytes.now l.taken l.written a.state.now a.memory.now a.answers.now l.state l.memory l.answers l.invariant.6 l.invariant.5
+    c.loop-taken-test.false
