@@ -1,5 +1,5 @@
 -- A byte that is heard and, where it ends a message, answered, has taken its turn.
-use mathlib.Core.Path.{◌≡◌, refl, sym, ap, subst, ◌∙◌}
+use mathlib.Core.Path.{◌≡◌, refl, sym, ap, ◌∙◌}
 use mathlib.Core.List.{List}
 use Prim.Native.Nat.{ℕ, ◌<◌, ◌≤◌}
 use native.Mathlib.Omega.{arith}
@@ -16,7 +16,7 @@ use Rattle.state_parts.specs.Widths.{TargetFits}
 use Rattle.state_parts.specs.Within.{Within}
 use Rattle.state_parts.proofs.Keeps.{within_fits}
 use Rattle.state_byte.specs.AnsweredHeld.{instruments_held}
-use Rattle.state_byte.specs.Turn.{Turn, hearing, silent, answering, turn}
+use Rattle.state_byte.specs.Turn.{Turn, hearing, turn}
 use Rattle.state_byte.proofs.Keeps.{byte_keeps}
 use Rattle.state_byte.proofs.TurnLaws.{by_event}
 use Rattle.serve_message.specs.declared.Whole.{Whole as Message}

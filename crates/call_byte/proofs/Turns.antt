@@ -1,35 +1,22 @@
 -- What the block holds once a byte is heard, and once it is answered; and the call, refused and taken.
-use mathlib.Core.Path.{◌≡◌, refl, sym, ap, subst, ◌∙◌}
+use mathlib.Core.Path.{◌≡◌, refl, sym, ap, ◌∙◌}
 use mathlib.Core.List.{List}
 use Prim.Native.Nat.{ℕ, ◌+◌, ◌<◌, ◌≤◌}
-use native.Mathlib.Omega.{arith}
 use borrow.Author.Tests.{eq-eqb, ne_eqb}
-use lib.ListN.{length, get_or, set, take}
+use lib.ListN.{length, get_or, set}
 use lib.Seq.{sets}
 use Rattle.document.specs.Numbers.{most_data, taken}
-use Rattle.document.specs.Gate.{Outcome}
-use Rattle.bytes_fields.proofs.Ranges.{sets_same}
-use Rattle.line_receiver.specs.declared.Receiver.{Receiver}
 use Rattle.line_receiver.specs.declared.Reaction.{Reaction}
 use Rattle.line_receiver.specs.declared.Event.{Event}
 use Rattle.line_receiver.specs.declared.Event.TheVariants.{Nothing, Keep, Whole}
-use Rattle.line_receiver.specs.Report.{HeldMessage}
 use Rattle.line_receiver.specs.Step.{stepped}
 use Rattle.line_receiver.proofs.Places.{kept_in_body}
-use Rattle.state_parts.specs.State.{Target, gate_of}
-use Rattle.state_parts.specs.Widths.{TargetFits}
-use Rattle.state_byte.specs.AnsweredHeld.{answered_held, instruments_held}
-use Rattle.state_byte.specs.Turn.{Turn, with_receiver, kept_by, hearing, silent, answering, turn}
-use Rattle.state_byte.proofs.TurnLaws.{next_of, by_event}
-use Rattle.serve_recorder.specs.Operates.{Operates}
-use Rattle.state_block.specs.Layout.{decoded_receiver, decoded_body, decoded_instruments, decoded, encoded_receiver, encoded}
+use Rattle.state_byte.specs.Turn.{with_receiver, kept_by, hearing, turn}
+use Rattle.state_block.specs.Layout.{decoded_receiver, decoded, encoded_receiver, encoded}
 use Rattle.state_block.specs.Places.{body_place, state_length}
-use Rattle.state_block.proofs.Kept.{encoded_decoded}
-use Rattle.state_block.proofs.Stored.{quiet_stored, keep_stored, instruments_stored}
+use Rattle.state_block.proofs.Stored.{quiet_stored, keep_stored}
 use Rattle.call_checks.specs.Promises.{byte_number}
-use Rattle.call_byte.specs.Heard.{heard_of, answered_by}
 use Rattle.call_byte.specs.Promises.{Turned, ByteTaken}
-use Rattle.call_byte.proofs.Stores.{target_over}
 
 -- ---- a byte is heard
 

@@ -1,4 +1,6 @@
 // A byte of the line over a block: refused, or taken by the receiver, kept, or answered.
+#![tactic(auto)]
+
 mod hearing;
 
 ghost use Rattle.call_byte.specs.Promises.{ByteTaken};

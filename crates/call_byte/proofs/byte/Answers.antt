@@ -1,9 +1,7 @@
 -- Refused, nothing changes; else the byte is heard, and answered where it ends a message.
 use mathlib.Core.Path.{◌≡◌, sym, ◌∙◌}
-use mathlib.Core.List.{List}
 use Prim.Native.Nat.{ℕ, ◌<◌, ◌≤◌}
 use native.Mathlib.Omega.{arith}
-use borrow.Author.Rules.{rules}
 use lib.ListN.{length, get_or}
 use Rattle.document.specs.Numbers.{answer_room, taken}
 use Rattle.state_parts.specs.Within.{Within}
