@@ -24,7 +24,7 @@ loop-taken-init c =
 pub take_next-going-requires : goal.take_next-going-requires
 take_next-going-requires c =
     let l = c.loop-taken in
-    let room : answer_room ≤ length l.answers - l.written = leb-true _ _ c.if-answers-written-ge-ANSWER_ROOM.true in
+    let room : answer_room ≤ length l.answers - l.written = c.if-answers-written-ge-ANSWER_ROOM.true in
     let enough : l.written + answer_room ≤ length l.answers = omega (arith, room, l.invariant.3) in
     (omega (arith, l.invariant.0, c.requires.0), l.invariant.4, c.loop-taken-test.true, enough)
 
@@ -37,9 +37,9 @@ loop-taken-preserved c =
     let f = c.take_next-going.ensures in
     let l = c.loop-taken in (
       c.take_next-going.auto.state ∙ l.invariant.0,
-      c.take_next-going.auto.memory.1.1.1.0 ∙ l.invariant.1,
+      c.take_next-going.auto.answers ∙ l.invariant.1,
       f.inside,
-      omega (arith, f.room, c.take_next-going.auto.memory.1.1.1.0),
+      omega (arith, f.room, c.take_next-going.auto.answers),
       f.within,
       stored_on c.args.state.now l.state c.take_next-going.new.state l.memory _ c.requires.0 l.invariant.4 f.within l.invariant.5 f.state,
       l.invariant.6 ∙ f.goes,
