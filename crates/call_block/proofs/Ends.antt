@@ -1,8 +1,7 @@
 -- The loop keeps where its walk ends, and comes there: no byte is left, or no room.
-use mathlib.Core.Path.{◌≡◌, refl, sym, ap, ◌∙◌}
+use mathlib.Core.Path.{◌≡◌, sym, ap, ◌∙◌}
 use mathlib.Core.List.{List, [], ◌∷◌}
 use Prim.Native.Nat.{ℕ, ◌-◌, ◌<◌, ◌≤◌}
-use native.Mathlib.Omega.{arith}
 use lib.ListN.{length, drop, drop_of_length-le}
 use lib.Seq.{sets}
 use Rattle.document.specs.Numbers.{answer_room}
@@ -13,8 +12,7 @@ use Rattle.state_byte.proofs.Walks.{walked_all, walked_short}
 use Rattle.state_block.specs.Places.{state_length}
 use Rattle.state_block.specs.Layout.{decoded, encoded}
 use Rattle.call_byte.proofs.Stores.{target_over}
-use Rattle.call_block.specs.declared.Going.{Going}
-use Rattle.call_block.specs.Going.{walk_at, walk, TookNext, Gone}
+use Rattle.call_block.specs.Going.{walk_at, walk, Gone}
 
 -- ---- a turn
 

@@ -1,4 +1,6 @@
 // A block of bytes at once: refused, or each byte taken as it would be singly, while there is room for an answer.
+#![tactic(auto)]
+
 ghost use Rattle.std.specs.Prelude.{◌≡◌, ◌+◌, ◌<◌, ◌≤◌, length};
 ghost use Rattle.document.specs.Numbers.{answer_room};
 ghost use Rattle.state_parts.specs.Within.{Within};

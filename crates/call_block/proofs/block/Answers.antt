@@ -1,6 +1,5 @@
 -- Refused, nothing changes; else the block is gone through.
 use mathlib.Core.Path.{◌≡◌, sym, ◌∙◌}
-use borrow.Author.Rules.{rules}
 use Rattle.document.specs.Numbers.{taken}
 use Rattle.call_checks.specs.Promises.{byte_number}
 use Rattle.call_checks.proofs.Lent.{lent_known}

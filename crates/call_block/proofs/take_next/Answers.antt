@@ -3,12 +3,11 @@ use mathlib.Core.Path.{sym, subst}
 use mathlib.Core.List.{List}
 use Prim.Native.Nat.{ℕ, ◌+◌, ◌^◌, ◌<◌, ◌≤◌}
 use native.Mathlib.Omega.{arith}
-use borrow.Author.Rules.{rules}
 use lib.ListN.{length, get_or, drop, length-drop}
 use Rattle.document.specs.Bytes.{AllBytes}
 use Rattle.document.proofs.Bytes.{all_of_bytes}
 use Rattle.state_parts.specs.Within.{Within}
-use Rattle.state_byte.specs.Turn.{Turn, turn}
+use Rattle.state_byte.specs.Turn.{turn}
 use Rattle.state_byte.proofs.Fits.{turn_fits}
 use Rattle.state_block.specs.Places.{state_length}
 use Rattle.state_block.specs.Layout.{decoded}

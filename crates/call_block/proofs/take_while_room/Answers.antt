@@ -1,17 +1,11 @@
 -- What is left to take gives the whole.
-use mathlib.Core.Path.{◌≡◌, refl, sym, ◌∙◌}
+use mathlib.Core.Path.{refl, sym, ◌∙◌}
 use Prim.Native.Nat.{ℕ, ◌+◌, ◌-◌, ◌<◌, ◌≤◌}
 use native.Mathlib.Omega.{arith}
-use borrow.Author.Rules.{rules}
-use borrow.Author.Tests.{leb-true, leb-false}
-use lib.ListN.{length, get_or, drop}
-use lib.Seq.{sets}
+use lib.ListN.{length, get_or}
 use Rattle.document.specs.Numbers.{answer_room}
-use Rattle.state_parts.specs.Within.{Within}
-use Rattle.state_byte.specs.Walk.{walked}
-use Rattle.state_block.specs.Layout.{decoded, encoded}
+use Rattle.state_block.specs.Layout.{decoded}
 use Rattle.call_quiet.proofs.Over.{same_state}
-use Rattle.call_block.specs.Going.{walk_at, walk}
 use Rattle.call_block.proofs.Ends.{stored_on, gone_all, gone_short}
 use Rattle.call_block.proofs.take_while_room.Goals as goal
 
