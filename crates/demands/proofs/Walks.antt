@@ -8,7 +8,7 @@ use borrow.Author.Tests.{ltb-true, ltb-false}
 use lib.Dec.{ltb}
 use lib.ListN.{length, take, drop, length-append, length-take, length-drop}
 use lib.Seq.{sets, drop-drop}
-use Rattle.document.specs.Numbers.{answer_room, taken}
+use Rattle.document.specs.Numbers.{answer_room}
 use Rattle.document.specs.Bytes.{AllBytes}
 use Rattle.document.specs.Message.{finished_by}
 use Rattle.document.specs.Happenings.{Since, after}
