@@ -1,0 +1,3 @@
+-- The laws, lowest first.
+pub mod Shortest
+pub mod Outcomes

@@ -1,0 +1,2 @@
+-- What the capture call promises.
+pub mod Promises

@@ -1,0 +1,2 @@
+-- The rows hold.
+pub mod Rows

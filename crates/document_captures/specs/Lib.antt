@@ -1,0 +1,3 @@
+-- A capture's messages as definitions, and their rows.
+pub mod Captures
+pub mod CaptureRows

@@ -1,0 +1,5 @@
+-- The laws, lowest first.
+pub mod Meeting
+pub mod Passing
+pub mod Wholes
+pub mod Lists

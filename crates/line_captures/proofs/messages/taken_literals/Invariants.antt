@@ -1,0 +1,20 @@
+-- What is left to read gives the whole.
+use mathlib.Core.Path.{◌≡◌}
+use mathlib.Core.List.{List}
+use Prim.Native.Nat.{ℕ, ◌+◌, ◌-◌, ◌%◌, ◌<◌}
+use lib.ListN.{length, take}
+use Rattle.document.specs.Sum.{total}
+use Rattle.line_captures.specs.Messages.{literals_from, Passed}
+use Rattle.line_captures.proofs.messages.taken_literals.Given as goal
+
+pub record Left (bytes : List ℕ) (from n sum at missing so_far : ℕ) : Type 0 where
+  pub missing_then : missing - length (literals_from bytes at) ≡ n - length (literals_from bytes from)
+  pub sum_then : (so_far + total (take missing (literals_from bytes at))) % 256 ≡ (sum + total (take n (literals_from bytes from))) % 256
+  pub passed : Passed bytes from at
+  pub small : so_far < 256
+
+abbrev pub invariant-loop-missing : goal.invariant-loop-missing
+invariant-loop-missing l = Left l.bytes l.from l.n l.sum l.at l.missing l.so_far
+
+abbrev pub decreases-loop-missing : goal.decreases-loop-missing
+decreases-loop-missing l = l.missing
