@@ -1,5 +1,5 @@
 -- What a capture comes to, by whether the list has room for all of it.
-use mathlib.Core.Path.{◌≡◌, refl, sym, ap, ◌∙◌}
+use mathlib.Core.Path.{refl, ap, ◌∙◌}
 use mathlib.Core.List.{List}
 use Prim.Native.Nat.{ℕ, ◌<◌, ◌≤◌}
 use native.Mathlib.Omega.{arith}
@@ -7,10 +7,8 @@ use borrow.Author.Tests.{lt-ltb, le-ltb}
 use lib.ListN.{length}
 use Rattle.document.specs.Numbers.{taken, room_refused}
 use Rattle.document_captures.specs.Captures.{captured, entry_room, capture_refusal, capture_count, capture_list}
-use Rattle.line_captures.specs.Entries.{put_all}
 use Rattle.line_captures.specs.Walk.{Walked}
 use Rattle.line_captures.proofs.Lists.{put_all_lem}
-use Rattle.call_capture.specs.declared.Listed.{Listed}
 use Rattle.call_capture.specs.Promises.{CaptureDone}
 
 module _ (bytes list : List ℕ) where

@@ -1,7 +1,7 @@
 -- Bytes hold at most a third as many messages: a start, a command and a sum byte are the shortest.
-use mathlib.Core.Path.{◌≡◌, refl, sym, ap, ◌∙◌}
-use mathlib.Core.List.{List, [], ◌∷◌, ◌++◌, map}
-use Prim.Native.Nat.{ℕ, suc, ◌+◌, ◌*◌, ◌/◌, ◌<◌, ◌≤◌}
+use mathlib.Core.Path.{◌≡◌, sym, ap, ◌∙◌}
+use mathlib.Core.List.{List, [], ◌∷◌}
+use Prim.Native.Nat.{ℕ, suc, ◌+◌, ◌*◌, ◌/◌, ◌≤◌}
 use native.Mathlib.Omega.{arith}
 use borrow.Author.Tests.{ltb-true}
 use lib.Dec.{eqb, ltb}
@@ -12,7 +12,7 @@ use Rattle.document.specs.Pairing.Token.{start, literal}
 use Rattle.document.specs.Message.{Message, of_length, after_length_byte, whole_message, heard, heard_at}
 use Rattle.document.proofs.Cases.{split}
 use Rattle.document.proofs.Places.{heard_at_lem}
-use Rattle.document_captures.specs.Captures.{Entry, entry_of, captured}
+use Rattle.document_captures.specs.Captures.{entry_of, captured}
 
 -- ---- a start and its literals
 

@@ -1,4 +1,6 @@
 // A capture of the line is listed into a lent list, or refused with nothing written.
+#![tactic(auto)]
+
 ghost use Rattle.std.specs.Prelude.{◌≡◌, leb, length};
 ghost use Rattle.document_captures.specs.Captures.{captured};
 ghost use Rattle.call_capture.specs.Promises.{CaptureDone};
