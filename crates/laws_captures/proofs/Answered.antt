@@ -5,7 +5,7 @@ use Prim.Native.Nat.{ℕ, ◌<◌, ◌≤◌}
 use native.Mathlib.Omega.{arith}
 use borrow.Author.Tests.{eqb-true, eqb-false}
 use lib.Dec.{eqb}
-use lib.ListN.{length, drop, get_or, length-append, length-map}
+use lib.ListN.{length, drop, get_or, length-append}
 use lib.Seq.{drop-append_seam}
 use Rattle.document.specs.Numbers.{sum_wrong, message_too_long}
 use Rattle.document.specs.Pairing.{Placed}
@@ -19,12 +19,13 @@ use Rattle.document.proofs.Cases.{split}
 use Rattle.document.proofs.Happenings.{every_byte_kept}
 use Rattle.document.proofs.Places.{heard_at_lem}
 use Rattle.document_captures.specs.Captures.{class_of, Entry, entry_of, captured}
-use Rattle.line_wire.proofs.Grows.{heard_grows, heard_at_grows, finished_one}
+use Rattle.line_wire.proofs.Grows.{heard_grows, finished_one}
 use Rattle.line_wire.proofs.Half.{whole_on_wire, no_other}
 use Rattle.laws_captures.specs.Answered.{class_shown, ClassExactly, Ends, Adds}
 use Rattle.laws_captures.specs.Answered.Adds.{nothing, entry}
 use Rattle.laws_captures.proofs.Statuses.{status_shows}
 use Rattle.laws_captures.proofs.Places.{message_placed}
+use Rattle.laws_captures.proofs.Grows.{heard_at_grows}
 
 abbrev class : Entry → ℕ
 class e = e.class

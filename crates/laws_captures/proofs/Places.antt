@@ -10,10 +10,10 @@ use Rattle.document.specs.Doubling.{stuffed}
 use Rattle.document.specs.Pairing.{Token, start, literal, Placed, paired, until_start, width, opened_at}
 use Rattle.document.specs.Message.{Message, whole_message, on_wire, heard_at, well_formed}
 use Rattle.document.proofs.Cases.{split, neither}
-use Rattle.line_wire.proofs.Pairing.{waits_behind, waits_after, framed, paired_settled, paired_stuffed, until_start_literals, until_start_start}
+use Rattle.line_wire.proofs.Pairing.{waits_behind, waits_after, framed, paired_settled, paired_stuffed, until_start_literals}
 use Rattle.line_wire.proofs.Frames.{literals, message_frame}
 
-abbrev placed : {A : Type 0} → ℕ → List A → List (Placed A)
+abbrev pub placed : {A : Type 0} → ℕ → List A → List (Placed A)
 placed place xs = map (λ a. record { place = place; thing = a }) xs
 
 -- how many bytes tokens took
@@ -42,6 +42,12 @@ taken_all (b ∷ (c ∷ cs)) settled =
     let calm : waits_behind false b ≡ false = rw other refl in
     rw (other, other) (omega (arith, taken_all (c ∷ cs) (ap (λ (w : Bool). foldl waits_behind w (c ∷ cs)) (sym calm) ∙ settled))))
 
+-- what a start closes is the same, whatever comes behind it
+pub until_start_start : (ts us : List Token) → until_start (ts ++ start ∷ us) ≡ until_start ts
+until_start_start [] us = refl
+until_start_start (start ∷ ts) us = refl
+until_start_start (literal l ∷ ts) us = ap (λ (r : List ℕ). l ∷ r) (until_start_start ts us)
+
 module _ {A : Type 0} (whole : List ℕ → List A) where
   -- a start ends what stands before it, and its place is behind the bytes of that
   at_start : (ts us : List Token) (place : ℕ) → opened_at whole place (ts ++ start ∷ us) ≡ opened_at whole place ts ++ opened_at whole (place + widths ts) (start ∷ us)
@@ -50,7 +56,7 @@ module _ {A : Type 0} (whole : List ℕ → List A) where
       ap (λ (p : ℕ). opened_at whole p (start ∷ us)) none
   at_start (start ∷ ts) us place =
       let on : place + 1 + widths ts ≡ place + (1 + widths ts) = omega arith in
-      rw (until_start_start whole ts us, at_start ts us (place + 1), on)
+      rw (until_start_start ts us, at_start ts us (place + 1), on)
       (sym (append_assoc (placed place (whole (until_start ts))) (opened_at whole (place + 1) ts) (opened_at whole (place + (1 + widths ts)) (start ∷ us))))
   at_start (literal l ∷ ts) us place =
       let on : place + width (literal l) + widths ts ≡ place + (width (literal l) + widths ts) = omega arith in

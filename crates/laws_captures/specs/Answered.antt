@@ -1,5 +1,5 @@
 -- "its messages are the ones the receiver answers on the same bytes, in order" (2026-11): of all that happened since reset, and of each byte.
-use Rattle.std.specs.Prelude.{◌≡◌, cond, List, [], ◌∷◌, ◌++◌, map, ℕ, eqb, drop}
+use Rattle.std.specs.Prelude.{◌≡◌, cond, List, [], ◌∷◌, ◌++◌, ℕ, eqb, drop}
 use Rattle.document.specs.Numbers.{sum_wrong, message_too_long, taken}
 use Rattle.document.specs.Message.{Message, on_wire}
 use Rattle.document.specs.Answer.{Answer}
