@@ -1,8 +1,8 @@
 // The input by lines, through a lent text buffer that holds a window of it.
-ghost use Rattle.std.specs.Prelude.{◌≡◌, ℕ, ◌+◌, ◌-◌, ◌≤◌, ◌<◌, length, get_or, IfOk};
+ghost use Rattle.std.specs.Prelude.{◌≡◌, ℕ, ◌+◌, ◌-◌, ◌≤◌, ◌<◌, length, get_or, IfOk, OnErr};
 ghost use Rattle.script_lines.specs.Input.{LineEnd, Inside, Cut};
 
-use std::io::{self, ErrorKind, Read};
+use std::io::{self, Read};
 
 // Which part of the text buffer has not been taken, and 1 once the input has ended.
 #[derive(Clone, Copy)]
@@ -83,16 +83,12 @@ fn read_full<R: Read>(from: &mut R, part: &mut [u8]) -> io::Result<usize>
     ensures { IfOk result (λ count. count ≤ length part.old) }
 {
     let mut count = 0;
-    for _ in 0..u64::MAX {
-        match from.read(&mut part[count..]) {
-            Ok(0) => break,
-            Ok(more) => count += more,
-            Err(error) => {
-                if error.kind() != ErrorKind::Interrupted {
-                    return Err(error);
-                }
-            }
+    while count < part.len() {
+        let more = from.read(&mut part[count..])?;
+        if more == 0 {
+            break;
         }
+        count += more;
     }
     Ok(count)
 }
@@ -100,7 +96,8 @@ fn read_full<R: Read>(from: &mut R, part: &mut [u8]) -> io::Result<usize>
 // Fills the text behind what is left of it.
 fn fill<R: Read>(input: Input, text: &mut [u8], from: &mut R) -> io::Result<Input>
     requires { Inside input (length text.old) }
-    ensures { IfOk result (λ filled. Inside filled (length text.old)) }
+    ensures filled { IfOk result (λ filled. Inside filled (length text.old)) }
+    ensures unread { OnErr result (length text.new ≡ length text.old) }
 {
     let start = input.start;
     let end = input.end;
@@ -165,7 +162,8 @@ fn cut(input: Input, text: &[u8]) -> Line
 
 // The next line, read in as far as it has to be. A window that lies outside the text is an input that is over.
 pub fn next_line<R: Read>(input: Input, text: &mut [u8], from: &mut R) -> io::Result<Line>
-    ensures { IfOk result (λ line. Cut line (length text.old)) }
+    ensures found { IfOk result (λ line. Cut line (length text.old)) }
+    ensures unread { OnErr result (length text.new ≡ length text.old) }
 {
     if input.start > input.end {
         return Ok(nothing(input));

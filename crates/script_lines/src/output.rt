@@ -1,5 +1,5 @@
 // Output through a buffer and a place in it. A full buffer is written out, so that no line is too long.
-ghost use Rattle.std.specs.Prelude.{◌≡◌, ◌≤◌, ◌<◌, ◌+◌, set, take, OnOk};
+ghost use Rattle.std.specs.Prelude.{◌≡◌, ◌≤◌, ◌<◌, ◌+◌, set, take, OnOk, OnErr};
 ghost use Rattle.std.specs.Io.KnownBytes.{Appends};
 ghost use Rattle.script_lines.specs.Output.{place_of, glyph_of};
 
@@ -32,6 +32,7 @@ impl<W: Write> Output<W> {
     pub fn flush(&mut self) -> io::Result<()>
         ensures written { OnOk result (Appends (W.contents self.old.to) (W.contents self.new.to) (take self.old.at self.old.room)) }
         ensures front { OnOk result (self.new.at ≡ 0) }
+        ensures unwritten { OnErr result (self.new.at ≡ self.old.at) }
         ensures kept { self.new.room ≡ self.old.room }
     {
         self.to.write_all(&self.room[..self.at])?;
@@ -42,6 +43,7 @@ impl<W: Write> Output<W> {
     pub fn put(&mut self, byte: u8) -> io::Result<()>
         ensures place { OnOk result (self.new.at ≡ place_of self.old.at + 1) }
         ensures byte { OnOk result (self.new.room ≡ set self.old.room (place_of self.old.at) byte) }
+        ensures unwritten { OnErr result ((self.new.at ≡ self.old.at) × (self.new.room ≡ self.old.room)) }
     {
         if self.at == ROOM {
             self.flush()?;
