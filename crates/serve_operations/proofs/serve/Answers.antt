@@ -1,5 +1,6 @@
 -- One arm for each operation: its function's promise, read with the operation known.
 use mathlib.Core.Path.{refl}
+use borrow.Author.Rules.{rules}
 use Rattle.document.specs.Numbers.{not_served}
 use Rattle.document.specs.declared.Operation.TheVariants.{Unserved, Describe, DescribeBriefly, Read, Write, WriteMasked, SetUpScope, ReadScope, PrepareAndStart, Start, Stop, Status, QueryBuffer, SendCommand, CommandResult, TellTable, MeasureString}
 use Rattle.document.specs.Commands.{served}
@@ -81,7 +82,7 @@ returns-in-CommandResult c =
       body = data_to c.args.state.now c.args.to;
       memory = c.args.memory.now;
     } in
-    tells q CommandResult c.in-CommandResult.is refl (c.command_result.ensures _ q.service _)
+    tells q CommandResult c.in-CommandResult.is refl (search rules)
 
 pub returns-in-TellTable : goal.returns-in-TellTable
 returns-in-TellTable c =
@@ -93,7 +94,7 @@ returns-in-TellTable c =
       body = data_to c.args.state.now c.args.to;
       memory = c.args.memory.now;
     } in
-    tells q TellTable c.in-TellTable.is refl (c.tell_table.ensures _ q.service)
+    tells q TellTable c.in-TellTable.is refl (search rules)
 
 pub returns-in-MeasureString : goal.returns-in-MeasureString
 returns-in-MeasureString c =
