@@ -163,7 +163,7 @@ fn cut(input: Input, text: &[u8]) -> Line
 // The next line, read in as far as it has to be. A window that lies outside the text is an input that is over.
 pub fn next_line<R: Read>(input: Input, text: &mut [u8], from: &mut R) -> io::Result<Line>
     ensures found { IfOk result (λ line. Cut line (length text.old)) }
-    ensures unread { OnErr result (length text.new ≡ length text.old) }
+    ensures unread { OnErr result ((input.ended ≡ 0) × (length text.new ≡ length text.old)) }
 {
     if input.start > input.end {
         return Ok(nothing(input));

@@ -1,5 +1,5 @@
 // Output through a buffer and a place in it. A full buffer is written out, so that no line is too long.
-ghost use Rattle.std.specs.Prelude.{◌≡◌, ◌≤◌, ◌<◌, ◌+◌, set, take, OnOk, OnErr};
+ghost use Rattle.std.specs.Prelude.{◌≡◌, ◌≤◌, ◌<◌, ◌+◌, ◌-◌, set, take, OnOk, OnErr};
 ghost use Rattle.std.specs.Io.KnownBytes.{Appends};
 ghost use Rattle.script_lines.specs.Output.{place_of, glyph_of};
 
@@ -40,10 +40,13 @@ impl<W: Write> Output<W> {
         Ok(())
     }
 
+    // What stands in the room is passed on only where the room is full, and only there a write can fail.
     pub fn put(&mut self, byte: u8) -> io::Result<()>
         ensures place { OnOk result (self.new.at ≡ place_of self.old.at + 1) }
         ensures byte { OnOk result (self.new.room ≡ set self.old.room (place_of self.old.at) byte) }
+        ensures passed_on { OnOk result (Appends (W.contents self.old.to) (W.contents self.new.to) (take (self.old.at - place_of self.old.at) self.old.room)) }
         ensures unwritten { OnErr result ((self.new.at ≡ self.old.at) × (self.new.room ≡ self.old.room)) }
+        ensures full { OnErr result (self.old.at ≡ 65536) }
     {
         if self.at == ROOM {
             self.flush()?;
