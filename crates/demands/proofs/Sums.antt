@@ -4,41 +4,26 @@ use mathlib.Core.Bool.{true, false}
 use mathlib.Core.List.{List, [], ◌∷◌, append_cancel_left}
 use Prim.Native.Nat.{ℕ}
 use native.Mathlib.Omega.{arith}
-use borrow.Author.Tests.{eqb-true, eqb-false, eq-eqb}
+use borrow.Author.Tests.{eqb-true, eqb-false}
 use lib.Dec.{eqb}
 use lib.ListN.{drop, get_or}
-use Rattle.document.specs.Numbers.{is_in, done, sum_wrong, is_error}
+use Rattle.document.specs.Numbers.{done, sum_wrong, is_error}
 use Rattle.document.specs.Message.{Message, sum_right, finished_by}
 use Rattle.document.specs.Answer.{Answer, answer_on_wire}
 use Rattle.document.specs.Gate.{Gate, Outcome}
-use Rattle.document.specs.Refusals.{Refusal, order, table, first_of, refusal}
+use Rattle.document.specs.Refusals.{order, table, refusal}
 use Rattle.document.specs.Commands.{answered}
 use Rattle.document.specs.Happenings.{Since, after}
 use Rattle.document.specs.Happenings.Happening.{byte}
-use Rattle.document.proofs.Cases.{split, neither, none_of}
-use Rattle.document.proofs.Order.{in_order, table_in_order}
+use Rattle.document.proofs.Cases.{split, neither}
+use Rattle.document.proofs.Order.{table_in_order}
 use Rattle.document_outcomes.proofs.Answered.{accepted_right}
+use Rattle.laws_captures.proofs.Statuses.{never_first}
 use Rattle.demands.specs.Board.{Board, gate_in}
 use Rattle.demands.specs.AsDefined.{AsDefined}
 use Rattle.demands.specs.Sums.{sum_answer, SumExactly}
 use Rattle.demands.proofs.Wire.{wire_refused, sum_refused_lem}
 use Rattle.demands.proofs.Applying.{answers_then, only_said}
-
--- lines in an order that does not name a status never say it
-never_first : (x : ℕ) → (done ≡ x → ⊥) → (ss : List ℕ) (rs : List Refusal) → in_order ss rs ≡ true → is_in x ss ≡ false → first_of rs ≡ x → ⊥
-never_first x some [] [] ordered other is = some is
-never_first x some [] (r ∷ rs) ordered other is = neither ordered
-never_first x some (s ∷ ss) [] ordered other is = some is
-never_first x some (s ∷ ss) (r ∷ rs) ordered other is =
-    let rest = none_of (eqb x s) (is_in x ss) other in
-    split (eqb s r.status)
-    (λ here.
-    split r.applies
-    (λ applies.
-    let same : s ≡ x = eqb-true s r.status here ∙ rw applies at is in
-    neither (sym rest.0 ∙ eq-eqb x s (sym same)))
-    (λ no. never_first x some ss rs (rw here at ordered) rest.1 (rw no at is)))
-    (λ later. never_first x some ss (r ∷ rs) (rw later at ordered) rest.1 is)
 
 module _ (g : Gate) (m : Message) where
   right_refusal : sum_right m ≡ true → refusal g m ≡ sum_wrong → ⊥

@@ -18,7 +18,7 @@ use Rattle.document_captures.specs.Captures.{class_of}
 use Rattle.laws_captures.specs.Answered.{class_shown}
 
 -- lines in an order that does not name a status never say it
-never_first : (x : ℕ) → (done ≡ x → ⊥) → (ss : List ℕ) (rs : List Refusal) → in_order ss rs ≡ true → is_in x ss ≡ false → first_of rs ≡ x → ⊥
+pub never_first : (x : ℕ) → (done ≡ x → ⊥) → (ss : List ℕ) (rs : List Refusal) → in_order ss rs ≡ true → is_in x ss ≡ false → first_of rs ≡ x → ⊥
 never_first x some [] [] ordered other is = some is
 never_first x some [] (r ∷ rs) ordered other is = neither ordered
 never_first x some (s ∷ ss) [] ordered other is = some is
