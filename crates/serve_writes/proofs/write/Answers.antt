@@ -51,7 +51,8 @@ overflow_add-to c =
 
 pub slice_bounds-copy_in-end : goal.slice_bounds-copy_in-end
 slice_bounds-copy_in-end c =
-    fits c.args.service c.args.body.now c.block_in-block.result c.block_in-block.ensures c.write_status-status.result c.write_status-status.ensures c.if-status-ne-DONE.false
+    let whole = fits c.args.service c.args.body.now c.block_in-block.result c.block_in-block.ensures c.write_status-status.result c.write_status-status.ensures c.if-status-ne-DONE.false in
+    omega (arith, whole)
 
 pub copy_in-requires : goal.copy_in-requires
 copy_in-requires c =
