@@ -19,6 +19,41 @@ use Rattle.state_block.specs.Places.{scope_place}
 use Rattle.serve_scope.proofs.Walked.{left_at, few, all_left, all_may_lem, may_first, values_first, put_progress, put_buffer}
 use Rattle.serve_scope.proofs.values.put_values.Goals as goal
 
+-- ---- a turn: the block, how many definitions are left in it and from where, and what the first of them says
+module _ (block : List ℕ) (left at : ℕ) (some : 0 < left) (size address : ℕ) (es : size ≡ get_or block at 0) (ea : address ≡ number (bytes_at block (at + 1) 4)) where
+  may : all_may may_be_read (left_at block left at) ≡ true → (address + size ≤ memory_end) × (all_may may_be_read (left_at block (left - 1) (at + 5)) ≡ true)
+  may e = may_first block left at some size address es ea e
+
+  module _ (memory : List ℕ) where
+    abbrev here : List ℕ
+    here = bytes_at memory address size
+
+    abbrev rest : List ℕ
+    rest = values_of memory (left_at block (left - 1) (at + 5))
+
+    part : take (address + size - address) (drop address memory) ≡ here
+    part = let e : address + size - address ≡ size = omega arith in ap (λ (n : ℕ). take n (drop address memory)) e
+
+    values : values_of memory (left_at block left at) ≡ here ++ rest
+    values = values_first block left at some size address es ea memory
+
+    -- this one's part of what is to be put
+    within : length (stuffed (take (address + size - address) (drop address memory))) ≤ length (stuffed (values_of memory (left_at block left at)))
+    within =
+        let more = ap (λ (bs : List ℕ). length (stuffed bs)) values ∙ ap length (stuffed_append here rest) ∙ length-append (stuffed here) (stuffed rest) in
+        omega (arith, more, ap (λ (bs : List ℕ). length (stuffed bs)) part)
+
+    -- it is put
+    module _ (p q : Progress) (before after : List ℕ) (put : Put p (take (address + size - address) (drop address memory)) before q after) where
+      done : Put p here before q after
+      done = subst (λ (bs : List ℕ). Put p bs before q after) part put
+
+      progress_kept : progressed q rest ≡ progressed p (values_of memory (left_at block left at))
+      progress_kept = put_progress p q here rest before after done ∙ ap (progressed p) (sym values)
+
+      buffer_kept : sets after q.at (stuffed rest) ≡ sets before p.at (stuffed (values_of memory (left_at block left at)))
+      buffer_kept = put_buffer p q here rest before after done ∙ ap (λ (bs : List ℕ). sets before p.at (stuffed bs)) (sym values)
+
 pub loop-left-init : goal.loop-left-init
 loop-left-init c =
     let block = c.args.block.now in
@@ -37,30 +72,28 @@ loop-left-init c =
 
 pub overflow_add-end : goal.overflow_add-end
 overflow_add-end c =
-    let some : 0 < (c.loop-left.left) = omega arith in
-    let is_address : (c.usize_of_u32-start.result) ≡ number (bytes_at (c.args.block.now) ((c.loop-left.at) + 1) 4) = c.usize_of_u32-start.ensures.0 ∙ c.long_at.ensures in
-    let may : ((c.usize_of_u32-start.result) + (c.usize_of_u8.result) ≤ memory_end) × (all_may may_be_read (left_at (c.args.block.now) ((c.loop-left.left) - 1) ((c.loop-left.at) + 5)) ≡ true) = may_first (c.args.block.now) (c.loop-left.left) (c.loop-left.at) some (c.usize_of_u8.result) (c.usize_of_u32-start.result) c.usize_of_u8.ensures.0 is_address c.loop-left.invariant.4 in
-    record { fits = omega (arith, may.0) }
+    let l = c.loop-left in
+    let size = c.usize_of_u8.result in
+    let address = c.usize_of_u32-start.result in
+    let is_address = c.usize_of_u32-start.ensures.0 ∙ c.long_at.ensures in
+    record { fits = omega (arith, (may c.args.block.now l.left l.at c.loop-left-test.true size address c.usize_of_u8.ensures.0 is_address l.invariant.4).0) }
 
 pub slice_bounds-put_all-end : goal.slice_bounds-put_all-end
 slice_bounds-put_all-end c =
-    let some : 0 < (c.loop-left.left) = omega arith in
-    let is_address : (c.usize_of_u32-start.result) ≡ number (bytes_at (c.args.block.now) ((c.loop-left.at) + 1) 4) = c.usize_of_u32-start.ensures.0 ∙ c.long_at.ensures in
-    let may : ((c.usize_of_u32-start.result) + (c.usize_of_u8.result) ≤ memory_end) × (all_may may_be_read (left_at (c.args.block.now) ((c.loop-left.left) - 1) ((c.loop-left.at) + 5)) ≡ true) = may_first (c.args.block.now) (c.loop-left.left) (c.loop-left.at) some (c.usize_of_u8.result) (c.usize_of_u32-start.result) c.usize_of_u8.ensures.0 is_address c.loop-left.invariant.4 in
-    omega (arith, may.0, c.requires.2)
+    let l = c.loop-left in
+    let size = c.usize_of_u8.result in
+    let address = c.usize_of_u32-start.result in
+    let is_address = c.usize_of_u32-start.ensures.0 ∙ c.long_at.ensures in
+    omega (arith, (may c.args.block.now l.left l.at c.loop-left-test.true size address c.usize_of_u8.ensures.0 is_address l.invariant.4).0, c.requires.2)
 
 pub put_all-progress-requires : goal.put_all-progress-requires
 put_all-progress-requires c =
-    let some : 0 < (c.loop-left.left) = omega arith in
-    let is_address : (c.usize_of_u32-start.result) ≡ number (bytes_at (c.args.block.now) ((c.loop-left.at) + 1) 4) = c.usize_of_u32-start.ensures.0 ∙ c.long_at.ensures in
-    let part : take ((c.usize_of_u32-start.result) + (c.usize_of_u8.result) - (c.usize_of_u32-start.result)) (drop (c.usize_of_u32-start.result) (c.args.memory.now)) ≡ bytes_at (c.args.memory.now) (c.usize_of_u32-start.result) (c.usize_of_u8.result) = let e : (c.usize_of_u32-start.result) + (c.usize_of_u8.result) - (c.usize_of_u32-start.result) ≡ (c.usize_of_u8.result) = omega arith in ap (λ (n : ℕ). take n (drop (c.usize_of_u32-start.result) (c.args.memory.now))) e in
-    let values : values_of (c.args.memory.now) (left_at (c.args.block.now) (c.loop-left.left) (c.loop-left.at)) ≡ bytes_at (c.args.memory.now) (c.usize_of_u32-start.result) (c.usize_of_u8.result) ++ values_of (c.args.memory.now) (left_at (c.args.block.now) ((c.loop-left.left) - 1) ((c.loop-left.at) + 5)) = values_first (c.args.block.now) (c.loop-left.left) (c.loop-left.at) some (c.usize_of_u8.result) (c.usize_of_u32-start.result) c.usize_of_u8.ensures.0 is_address (c.args.memory.now) in
     let l = c.loop-left in
+    let size = c.usize_of_u8.result in
+    let address = c.usize_of_u32-start.result in
+    let is_address = c.usize_of_u32-start.ensures.0 ∙ c.long_at.ensures in
     let at = ap (λ (p : Progress). p.at) l.invariant.5 in
-    let here = bytes_at (c.args.memory.now) (c.usize_of_u32-start.result) (c.usize_of_u8.result) in
-    let rest = values_of (c.args.memory.now) (left_at (c.args.block.now) ((c.loop-left.left) - 1) ((c.loop-left.at) + 5)) in
-    let more = ap (λ (bs : List ℕ). length (stuffed bs)) values ∙ ap length (stuffed_append here rest) ∙ length-append (stuffed here) (stuffed rest) in
-    omega (arith, at, more, ap (λ (bs : List ℕ). length (stuffed bs)) part, l.invariant.2, c.requires.3)
+    omega (arith, at, within c.args.block.now l.left l.at c.loop-left-test.true size address c.usize_of_u8.ensures.0 is_address c.args.memory.now, l.invariant.2, c.requires.3)
 
 pub returns : goal.returns
 returns c =
@@ -70,21 +103,15 @@ returns c =
 
 pub loop-left-preserved : goal.loop-left-preserved
 loop-left-preserved c =
-    let some : 0 < (c.loop-left.left) = omega arith in
-    let is_address : (c.usize_of_u32-start.result) ≡ number (bytes_at (c.args.block.now) ((c.loop-left.at) + 1) 4) = c.usize_of_u32-start.ensures.0 ∙ c.long_at.ensures in
-    let may : ((c.usize_of_u32-start.result) + (c.usize_of_u8.result) ≤ memory_end) × (all_may may_be_read (left_at (c.args.block.now) ((c.loop-left.left) - 1) ((c.loop-left.at) + 5)) ≡ true) = may_first (c.args.block.now) (c.loop-left.left) (c.loop-left.at) some (c.usize_of_u8.result) (c.usize_of_u32-start.result) c.usize_of_u8.ensures.0 is_address c.loop-left.invariant.4 in
-    let part : take ((c.usize_of_u32-start.result) + (c.usize_of_u8.result) - (c.usize_of_u32-start.result)) (drop (c.usize_of_u32-start.result) (c.args.memory.now)) ≡ bytes_at (c.args.memory.now) (c.usize_of_u32-start.result) (c.usize_of_u8.result) = let e : (c.usize_of_u32-start.result) + (c.usize_of_u8.result) - (c.usize_of_u32-start.result) ≡ (c.usize_of_u8.result) = omega arith in ap (λ (n : ℕ). take n (drop (c.usize_of_u32-start.result) (c.args.memory.now))) e in
-    let values : values_of (c.args.memory.now) (left_at (c.args.block.now) (c.loop-left.left) (c.loop-left.at)) ≡ bytes_at (c.args.memory.now) (c.usize_of_u32-start.result) (c.usize_of_u8.result) ++ values_of (c.args.memory.now) (left_at (c.args.block.now) ((c.loop-left.left) - 1) ((c.loop-left.at) + 5)) = values_first (c.args.block.now) (c.loop-left.left) (c.loop-left.at) some (c.usize_of_u8.result) (c.usize_of_u32-start.result) c.usize_of_u8.ensures.0 is_address (c.args.memory.now) in
     let l = c.loop-left in
-    let here = bytes_at (c.args.memory.now) (c.usize_of_u32-start.result) (c.usize_of_u8.result) in
-    let rest = values_of (c.args.memory.now) (left_at (c.args.block.now) ((c.loop-left.left) - 1) ((c.loop-left.at) + 5)) in
-    let done : Put l.progress (bytes_at (c.args.memory.now) (c.usize_of_u32-start.result) (c.usize_of_u8.result)) l.out c.put_all-progress.result c.put_all-progress.new.out =
-    subst (λ (bs : List ℕ). Put l.progress bs l.out c.put_all-progress.result c.put_all-progress.new.out) part c.put_all-progress.ensures in (
+    let size = c.usize_of_u8.result in
+    let address = c.usize_of_u32-start.result in
+    let is_address = c.usize_of_u32-start.ensures.0 ∙ c.long_at.ensures in (
       omega arith,
-      omega (arith, some),
+      omega (arith, c.loop-left-test.true),
       c.put_all-progress.auto.out ∙ l.invariant.2,
       omega arith,
-      may.1,
-      put_progress l.progress c.put_all-progress.result here rest _ _ done ∙ ap (progressed l.progress) (sym values) ∙ l.invariant.5,
-      put_buffer l.progress c.put_all-progress.result here rest _ _ done ∙ ap (λ (bs : List ℕ). sets l.out l.progress.at (stuffed bs)) (sym values) ∙ l.invariant.6,
+      (may c.args.block.now l.left l.at c.loop-left-test.true size address c.usize_of_u8.ensures.0 is_address l.invariant.4).1,
+      progress_kept c.args.block.now l.left l.at c.loop-left-test.true size address c.usize_of_u8.ensures.0 is_address c.args.memory.now l.progress c.put_all-progress.result l.out c.put_all-progress.new.out c.put_all-progress.ensures ∙ l.invariant.5,
+      buffer_kept c.args.block.now l.left l.at c.loop-left-test.true size address c.usize_of_u8.ensures.0 is_address c.args.memory.now l.progress c.put_all-progress.result l.out c.put_all-progress.new.out c.put_all-progress.ensures ∙ l.invariant.6,
     )
