@@ -1,5 +1,8 @@
 // The statuses of an answer, named as the definitions name them.
+ghost use Rattle.std.specs.Prelude.{◌≡◌};
+ghost use Rattle.codes_table.specs.Statuses.{status_number, outcome_number};
 
+// The status where nothing else is to be said: it stands for an `Ok`.
 pub const DONE: u8 = 0x00;
 
 pub const RECORDER_RUNS: u8 = 0x01;
@@ -23,3 +26,37 @@ pub const BUSY: u8 = 0x87;
 pub const NOT_SET_UP: u8 = 0x88;
 
 pub const RANGE_WRONG: u8 = 0x89;
+
+// Why a command changes nothing: each status but that for done.
+#[derive(Clone, Copy, PartialEq, Eq)]
+pub enum Status {
+    RecorderRuns = 0x01,
+    RecorderStopped = 0x02,
+    NotServed = 0x81,
+    SumWrong = 0x82,
+    MessageTooLong = 0x83,
+    AnswerTooLong = 0x84,
+    LayoutWrong = 0x85,
+    SizeWrong = 0x86,
+    Busy = 0x87,
+    NotSetUp = 0x88,
+    RangeWrong = 0x89,
+}
+
+impl From<Status> for u8 {
+    ghost from_gives = { λ status byte. byte ≡ status_number status };
+
+    fn from(status: Status) -> u8 {
+        status as u8
+    }
+}
+
+// The status byte that tells what a command came to.
+pub fn outcome_number(outcome: Result<(), Status>) -> u8
+    ensures { result ≡ outcome_number outcome }
+{
+    match outcome {
+        Ok(()) => DONE,
+        Err(status) => u8::from(status),
+    }
+}
