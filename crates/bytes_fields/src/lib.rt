@@ -1,6 +1,8 @@
 // The fields of a block of bytes: numbers lowest byte first, at a width that is known, read and written without a loop.
 #![tactic(auto)]
 
+mod fields;
+
 ghost use Rattle.std.specs.Prelude.{◌≡◌, true, [], ◌∷◌, ◌+◌, ◌≤◌, ◌<◌, length, set, replicate};
 ghost use Rattle.std.proofs.lemmas.List.Edits.{sets};
 ghost use Rattle.document.specs.Areas.{bytes_at};
@@ -8,6 +10,7 @@ ghost use Rattle.document.specs.Values.{number, little_endian};
 ghost use Rattle.document.specs.Variables.{definition_width};
 
 use bytes_widths::{u16_of_u8, u32_of_u8};
+pub use fields::Field;
 
 // A stored definition: its size, and its address in four bytes, as an EX setup's data part has them.
 pub const DEFINITION_WIDTH: usize = 5;
