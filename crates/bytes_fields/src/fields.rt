@@ -26,12 +26,13 @@ impl Field for u16 {
     ghost value = { λ x. x };
 
     fn at(block: &[u8], place: usize) -> u16 {
-        u16::from(block[place]) + 256 * u16::from(block[place + 1])
+        u16::from_le_bytes([block[place], block[place + 1]])
     }
 
     fn put(self, block: &mut [u8], place: usize) {
-        block[place] = (self % 256) as u8;
-        block[place + 1] = (self / 256 % 256) as u8;
+        let [low, high] = self.to_le_bytes();
+        block[place] = low;
+        block[place + 1] = high;
     }
 }
 
@@ -41,16 +42,19 @@ impl Field for u32 {
     ghost value = { λ x. x };
 
     fn at(block: &[u8], place: usize) -> u32 {
-        u32::from(block[place])
-            + 256 * u32::from(block[place + 1])
-            + 65536 * u32::from(block[place + 2])
-            + 16777216 * u32::from(block[place + 3])
+        u32::from_le_bytes([
+            block[place],
+            block[place + 1],
+            block[place + 2],
+            block[place + 3],
+        ])
     }
 
     fn put(self, block: &mut [u8], place: usize) {
-        block[place] = (self % 256) as u8;
-        block[place + 1] = (self / 256 % 256) as u8;
-        block[place + 2] = (self / 256 / 256 % 256) as u8;
-        block[place + 3] = (self / 256 / 256 / 256 % 256) as u8;
+        let [first, second, third, last] = self.to_le_bytes();
+        block[place] = first;
+        block[place + 1] = second;
+        block[place + 2] = third;
+        block[place + 3] = last;
     }
 }
