@@ -1,38 +1,45 @@
 -- Behind the lines of the fields themselves stand those that ask for the range: the first of all of them that applies.
-use mathlib.Core.Path.{◌≡◌, refl, sym, ap, ◌∙◌}
-use mathlib.Core.Bool.{true, false, cond}
+use mathlib.Core.Path.{◌≡◌, refl, sym, ◌∙◌}
 use mathlib.Core.List.{List, ◌++◌}
 use Prim.Native.Nat.{ℕ}
-use borrow.Author.Tests.{eqb-true}
-use lib.Dec.{eqb}
+use native.Mathlib.Omega.{arith}
+use borrow.Author.Tests.{eq-eqb, ne_eqb}
+use Rattle.codes_table.specs.Statuses.{status_number}
+use Rattle.codes_table.specs.declared.statuses.Status.{Status}
+use Rattle.codes_table.specs.declared.statuses.Status.TheVariants.{RecorderRuns, RecorderStopped, NotServed, SumWrong, MessageTooLong, AnswerTooLong, LayoutWrong, SizeWrong, Busy, NotSetUp, RangeWrong}
 use Rattle.document.specs.Numbers.{done}
 use Rattle.document.specs.Fields.{size_field, address_field}
 use Rattle.document.specs.Refusals.{Refusal, first_of}
 use Rattle.document.specs.declared.Service.{Service}
-use Rattle.document.proofs.Cases.{split}
 use Rattle.document_outcomes.proofs.Firsts.{first_append}
 use Rattle.serve_fields.specs.declared.Fields.{Fields}
 use Rattle.serve_fields.specs.Found.{own_lines, AreFields}
 
--- what is not refused is not refused by its own fields
-pub own_right : (own rest : ℕ) → cond (eqb own done) rest own ≡ done → own ≡ done
-own_right own rest e = split (eqb own done) (λ right. eqb-true own done right) (λ wrong. rw wrong at e)
+-- no status of an `Err` says that it is done
+pub never_done : (status : Status) → status_number status ≡ done → ⊥
+never_done RecorderRuns e = omega (arith, e)
+never_done RecorderStopped e = omega (arith, e)
+never_done NotServed e = omega (arith, e)
+never_done SumWrong e = omega (arith, e)
+never_done MessageTooLong e = omega (arith, e)
+never_done AnswerTooLong e = omega (arith, e)
+never_done LayoutWrong e = omega (arith, e)
+never_done SizeWrong e = omega (arith, e)
+never_done Busy e = omega (arith, e)
+never_done NotSetUp e = omega (arith, e)
+never_done RangeWrong e = omega (arith, e)
 
-module _ (s : Service) (body : List ℕ) (n : ℕ) (b : Fields) (found : AreFields s body n b) where
-  behind : (rest : ℕ → ℕ → List Refusal) →
-      cond (eqb b.status done) (first_of (rest b.address b.size)) b.status
-      ≡ cond (eqb (first_of (own_lines s body n)) done) (first_of (rest (address_field s body) (size_field s body))) (first_of (own_lines s body n))
-  behind rest =
-      split (eqb b.status done)
-      (λ right.
-      let own : eqb (first_of (own_lines s body n)) done ≡ true = ap (λ (k : ℕ). eqb k done) (sym found.status) ∙ right in
-      rw (right, own) (λ i. first_of (rest (found.address (eqb-true b.status done right) i) (found.size i))))
-      (λ wrong.
-      let own : eqb (first_of (own_lines s body n)) done ≡ false = ap (λ (k : ℕ). eqb k done) (sym found.status) ∙ wrong in
-      rw (wrong, own) found.status)
+module _ (s : Service) (body : List ℕ) (n : ℕ) where
+  -- what the fields themselves refuse
+  pub own_first : (status : Status) (rest : List Refusal) → status_number status ≡ first_of (own_lines s body n) → status_number status ≡ first_of (own_lines s body n ++ rest)
+  own_first status rest said =
+      sym (first_append (own_lines s body n) rest (refl, refl, (refl, refl, tt))
+      ∙ rw (ne_eqb (first_of (own_lines s body n)) done (λ e. never_done status (said ∙ e))) (sym said))
 
-  pub first_behind : (rest : ℕ → ℕ → List Refusal) →
-      cond (eqb b.status done) (first_of (rest b.address b.size)) b.status
-      ≡ first_of (own_lines s body n ++ rest (address_field s body) (size_field s body))
-  first_behind rest =
-      behind rest ∙ sym (first_append (own_lines s body n) (rest (address_field s body) (size_field s body)) (refl, refl, (refl, refl, tt)))
+  -- what they do not refuse is refused by the lines behind them alone
+  pub first_behind : (b : Fields) (rest : ℕ → ℕ → List Refusal) → AreFields s body n b →
+      first_of (rest b.address b.size) ≡ first_of (own_lines s body n ++ rest (address_field s body) (size_field s body))
+  first_behind b rest found =
+      (λ i. first_of (rest (found.address i) (found.size i)))
+      ∙ sym (first_append (own_lines s body n) (rest (address_field s body) (size_field s body)) (refl, refl, (refl, refl, tt))
+      ∙ rw (eq-eqb (first_of (own_lines s body n)) done found.unrefused) refl)

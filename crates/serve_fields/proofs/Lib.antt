@@ -1,4 +1,3 @@
 -- The laws, lowest first.
-pub mod Fits
 pub mod Behind
 pub mod Framing

@@ -19,12 +19,12 @@ own_status s size length given =
 abbrev pub OwnFits : Service → ℕ → List ℕ → Type 0
 OwnFits s parts body = has_size s ≡ false → data_place s + parts * s.size ≤ length body
 
+-- fields that their own lines do not refuse, of n bytes behind the address: they lie within the data
 pub record AreFields (s : Service) (body : List ℕ) (n : ℕ) (b : Fields) : Type 0 where
-  pub status : b.status ≡ first_of (own_lines s body n)
+  pub unrefused : first_of (own_lines s body n) ≡ done
   pub size : b.size ≡ size_field s body
   pub small : b.size < 256
   pub place : b.place ≡ data_place s
   pub near : b.place ≤ 5
-  -- not refused, they lie within the data
-  pub address : b.status ≡ done → b.address ≡ address_field s body
-  pub fits : b.status ≡ done → data_place s + n ≤ length body
+  pub address : b.address ≡ address_field s body
+  pub fits : data_place s + n ≤ length body

@@ -1,6 +1,6 @@
 -- The status of a read, from its fields and what is asked of the memory.
-use Rattle.std.specs.Prelude.{cond, not, List, [], ◌∷◌, ℕ, eqb, ltb}
-use Rattle.document.specs.Numbers.{most_data, done, answer_too_long, range_wrong}
+use Rattle.std.specs.Prelude.{not, List, [], ◌∷◌, ℕ, ltb}
+use Rattle.document.specs.Numbers.{most_data, answer_too_long, range_wrong}
 use Rattle.document.specs.Areas.{may_be_read}
 use Rattle.document.specs.Refusals.{Refusal, when, first_of}
 use Rattle.serve_fields.specs.declared.Fields.{Fields}
@@ -11,4 +11,4 @@ range_lines address size =
     when answer_too_long (ltb most_data size) ∷ when range_wrong (not (may_be_read address size)) ∷ []
 
 abbrev pub read_status : Fields → ℕ
-read_status b = cond (eqb b.status done) (first_of (range_lines b.address b.size)) b.status
+read_status b = first_of (range_lines b.address b.size)
