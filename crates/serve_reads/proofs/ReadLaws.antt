@@ -4,6 +4,8 @@ use mathlib.Core.List.{List, []}
 use Prim.Native.Nat.{ℕ, ◌+◌, ◌≤◌}
 use native.Mathlib.Omega.{arith}
 use borrow.Author.Tests.{ltb-false, leb-true, not-false}
+use Rattle.codes_table.specs.declared.statuses.Status.{Status}
+use Rattle.codes_table.specs.Statuses.{status_number}
 use Rattle.document.specs.Numbers.{most_data, done}
 use Rattle.document.specs.Areas.{memory_end, bytes_at}
 use Rattle.document.specs.Fields.{size_field, address_field}
@@ -16,37 +18,32 @@ use Rattle.document_outcomes.specs.Known.{known_as}
 use Rattle.document_outcomes.proofs.Firsts.{NoneApplies, none_applies, unless_refused, unless_none}
 use Rattle.serve_fields.specs.declared.Fields.{Fields}
 use Rattle.serve_fields.specs.Found.{AreFields}
-use Rattle.serve_reads.specs.ReadStatus.{range_lines, read_status}
-use Rattle.serve_fields.proofs.Behind.{own_right, first_behind}
+use Rattle.serve_fields.proofs.Behind.{never_done, first_behind}
+use Rattle.serve_reads.specs.ReadStatus.{range_lines, read_status, IsRead}
 
-module _ (s : Service) (body : List ℕ) (b : Fields) (found : AreFields s body 0 b) (status : ℕ) (said : status ≡ read_status b) where
-  first : status ≡ first_of (read_lines s body)
-  first = said ∙ first_behind s body 0 b found range_lines
-
-  pub read_refused : (g : Gate) → (status ≡ done → ⊥) → record { status = status; body = [] } ≡ (served g (known_as Read s) body).answer
+module _ (s : Service) (body : List ℕ) where
+  pub read_refused : (g : Gate) (status : Status) → status_number status ≡ first_of (read_lines s body)
+      → record { status = status_number status; body = [] } ≡ (served g (known_as Read s) body).answer
   unfolding served
-  read_refused g wrong =
-      (λ i. record { status = first i; body = [] })
-      ∙ sym (ap (λ (o : Outcome). o.answer) (unless_refused g (read_lines s body) (read_answer g s body) (λ e. wrong (first ∙ e))))
+  read_refused g status said =
+      (λ i. record { status = said i; body = [] })
+      ∙ sym (ap (λ (o : Outcome). o.answer) (unless_refused g (read_lines s body) (read_answer g s body) (λ e. never_done status (said ∙ e))))
 
-  module _ (right : status ≡ done) where
-    none : first_of (read_lines s body) ≡ done
-    none = sym first ∙ right
-
-    clear : NoneApplies (read_lines s body)
-    clear = none_applies (read_lines s body) (refl, refl, (refl, refl, (refl, refl, (refl, refl, tt)))) none
-
-    own : b.status ≡ done
-    own = own_right b.status _ (sym said ∙ right)
-
-    pub read_few : b.size ≤ most_data
-    read_few = omega (arith, found.size, ltb-false most_data (size_field s body) clear.1.1.0)
-
-    pub read_inside : b.address + b.size ≤ memory_end
-    read_inside = omega (arith, found.address own, found.size, leb-true (address_field s body + size_field s body) memory_end (not-false _ clear.1.1.1.0))
-
-    pub read_done : (g : Gate) → record { status = status; body = bytes_at g.memory b.address b.size } ≡ (served g (known_as Read s) body).answer
+  module _ (b : Fields) where
+    pub read_done : (g : Gate) → IsRead s body b → record { status = done; body = bytes_at g.memory b.address b.size } ≡ (served g (known_as Read s) body).answer
     unfolding served
-    read_done g =
-        (λ i. record { status = right i; body = bytes_at g.memory (found.address own i) (found.size i) })
-        ∙ sym (ap (λ (o : Outcome). o.answer) (unless_none g (read_lines s body) (read_answer g s body) none))
+    read_done g read =
+        (λ i. record { status = done; body = bytes_at g.memory (read.address i) (read.size i) })
+        ∙ sym (ap (λ (o : Outcome). o.answer) (unless_none g (read_lines s body) (read_answer g s body) read.unrefused))
+
+    pub is_read : AreFields s body 0 b → read_status b ≡ done → IsRead s body b
+    is_read found right =
+        let none : first_of (read_lines s body) ≡ done = sym (first_behind s body 0 b range_lines found) ∙ right in
+        let clear : NoneApplies (read_lines s body) = none_applies (read_lines s body) (refl, refl, (refl, refl, (refl, refl, (refl, refl, tt)))) none in
+        record {
+          unrefused = none;
+          address = found.address;
+          size = found.size;
+          few = omega (arith, found.size, ltb-false most_data (size_field s body) clear.1.1.0);
+          inside = omega (arith, found.address, found.size, leb-true (address_field s body + size_field s body) memory_end (not-false _ clear.1.1.1.0));
+        }

@@ -1,1 +1,2 @@
 pub mod ReadStatus
+pub mod Measured

@@ -5,6 +5,8 @@ use Prim.Native.Nat.{ℕ, ◌+◌, ◌-◌, ◌≤◌}
 use native.Mathlib.Omega.{arith}
 use borrow.Author.Tests.{not-false}
 use lib.ListN.{length, take, drop}
+use Rattle.codes_table.specs.declared.statuses.Status.{Status}
+use Rattle.codes_table.specs.Statuses.{status_number}
 use Rattle.document.specs.Numbers.{done}
 use Rattle.document.specs.Areas.{variables_end}
 use Rattle.document.specs.Fields.{size_field, address_field, data_field, mask_field}
@@ -15,10 +17,10 @@ use Rattle.document.specs.declared.Service.{Service}
 use Rattle.document_outcomes.proofs.Firsts.{none_applies, unless_refused, unless_none}
 use Rattle.document_outcomes.proofs.Permitted.{written_variables}
 use Rattle.serve_fields.specs.declared.Fields.{Fields}
-use Rattle.serve_fields.specs.Found.{AreFields}
-use Rattle.serve_writes.specs.WriteStatus.{permission_lines, write_status}
+use Rattle.serve_fields.specs.Found.{own_lines, AreFields}
+use Rattle.serve_writes.specs.WriteStatus.{permission_lines, write_status, IsWritten, IsUnwritten}
 use Rattle.serve_writes.specs.Wrote.{Wrote}
-use Rattle.serve_fields.proofs.Behind.{own_right, first_behind}
+use Rattle.serve_fields.proofs.Behind.{never_done, own_first, first_behind}
 
 -- ---- the parts of the message that are handed on
 
@@ -33,44 +35,41 @@ module _ (s : Service) (body : List ℕ) (n : ℕ) (b : Fields) (found : AreFiel
       let width : b.place + b.size + b.size - (b.place + b.size) ≡ size_field s body = omega (arith, found.size) in
       λ i. take (width i) (drop (found.place i + found.size i) body)
 
--- ---- the status
+-- ---- a status, from the fields or from the range
 
-module _ (s : Service) (body : List ℕ) (n : ℕ) (b : Fields) (found : AreFields s body n b) (status : ℕ) (said : (g : Gate) → status ≡ write_status g b) where
-  first : (g : Gate) → status ≡ first_of (write_lines g s body n)
-  first g = said g ∙ first_behind s body n b found (permission_lines g)
+module _ (s : Service) (body : List ℕ) (n : ℕ) where
+  pub unwritten_by_fields : (status : Status) → status_number status ≡ first_of (own_lines s body n) → IsUnwritten s body n status
+  unwritten_by_fields status said = λ g. own_first s body n status (permission_lines g (address_field s body) (size_field s body)) said
 
-  pub wrote_refused : (g : Gate) (o : Outcome) (memory : List ℕ) → g.memory ≡ memory → (status ≡ done → ⊥) → Wrote (unless g (write_lines g s body n) o) status memory
-  wrote_refused g o memory same wrong =
-      let says = unless_refused g (write_lines g s body n) o (λ e. wrong (first g ∙ e)) in
+  pub unwritten_by_range : (status : Status) (b : Fields) → AreFields s body n b → ((g : Gate) → status_number status ≡ write_status g b) → IsUnwritten s body n status
+  unwritten_by_range status b found said = λ g. said g ∙ first_behind s body n b (permission_lines g) found
+
+  pub is_written : (b : Fields) → AreFields s body n b → ((g : Gate) → done ≡ write_status g b) → IsWritten s body n b
+  is_written b found right =
+      let none : (g : Gate) → first_of (write_lines g s body n) ≡ done = λ g. sym (right g ∙ first_behind s body n b (permission_lines g) found) in
+      let may = (none_applies (write_lines (fresh []) s body n) (refl, refl, (refl, refl, (refl, refl, tt))) (none (fresh []))).1.1.0 in
+      record {
+        found = found;
+        unrefused = none;
+        inside = omega (arith, found.address, found.size, written_variables (fresh []) (address_field s body) (size_field s body) (not-false _ may));
+      }
+
+  -- ---- what is left
+
+  pub wrote_refused : (status : Status) (g : Gate) (o : Outcome) (memory : List ℕ) → g.memory ≡ memory → IsUnwritten s body n status
+      → Wrote (unless g (write_lines g s body n) o) (status_number status) memory
+  wrote_refused status g o memory same first =
+      let says = unless_refused g (write_lines g s body n) o (λ e. never_done status (first g ∙ e)) in
       record {
         answer = ap (λ (q : Outcome). q.answer) says ∙ (λ i. record { status = sym (first g) i; body = [] });
         memory = sym same ∙ sym (ap (λ (q : Outcome). q.gate.memory) says);
       }
 
-  module _ (right : status ≡ done) where
-    none : (g : Gate) → first_of (write_lines g s body n) ≡ done
-    none g = sym (first g) ∙ right
-
-    own : b.status ≡ done
-    own = own_right b.status _ (sym (said (fresh [])) ∙ right)
-
-    pub wrote_done : (g : Gate) (o : Outcome) (after : List ℕ) → o.answer ≡ record { status = done; body = [] } → after ≡ o.gate.memory
-        → Wrote (unless g (write_lines g s body n) o) status after
-    wrote_done g o after silent left =
-        let carried = unless_none g (write_lines g s body n) o (none g) in
-        record {
-          answer = ap (λ (q : Outcome). q.answer) carried ∙ silent ∙ (λ i. record { status = sym right i; body = [] });
-          memory = left ∙ sym (ap (λ (q : Outcome). q.gate.memory) carried);
-        }
-
-    -- the range may be written, and data and mask lie within the message
-    pub written_inside : b.address + b.size ≤ variables_end
-    written_inside =
-        let may = (none_applies (write_lines (fresh []) s body n) (refl, refl, (refl, refl, (refl, refl, tt))) (none (fresh []))).1.1.0 in
-        omega (arith, found.address own, found.size, written_variables (fresh []) (address_field s body) (size_field s body) (not-false _ may))
-
-    pub parts_inside : b.place + n ≤ length body
-    parts_inside = omega (arith, found.place, found.fits own)
-
-    pub address_is : b.address ≡ address_field s body
-    address_is = found.address own
+  pub wrote_done : (b : Fields) → IsWritten s body n b → (g : Gate) (o : Outcome) (after : List ℕ) → o.answer ≡ record { status = done; body = [] } → after ≡ o.gate.memory
+      → Wrote (unless g (write_lines g s body n) o) done after
+  wrote_done b written g o after silent left =
+      let carried = unless_none g (write_lines g s body n) o (written.unrefused g) in
+      record {
+        answer = ap (λ (q : Outcome). q.answer) carried ∙ silent;
+        memory = left ∙ sym (ap (λ (q : Outcome). q.gate.memory) carried);
+      }

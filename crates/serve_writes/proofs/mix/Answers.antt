@@ -21,5 +21,5 @@ returns-then-values-eq2 c =
     c.store_masked_word.ensures
     ∙ (λ i.
     mask_stored a.memory.now a.at
-    (whole a.values.now c.word_at-value.result (λ k. (c.shared_slice_known-1.given k).fits) c.if-values-eq2.true c.word_at-value.ensures i)
-    (whole a.masks.now c.word_at-mask.result (λ k. (c.shared_slice_known-2-1.given k).fits) (c.requires.1 ∙ c.if-values-eq2.true) c.word_at-mask.ensures i))
+    (whole a.values.now c.at-value.result (λ k. (c.shared_slice_known-1.given k).fits) c.if-values-eq2.true c.at-value.ensures i)
+    (whole a.masks.now c.at-mask.result (λ k. (c.shared_slice_known-2-1.given k).fits) (c.requires.1 ∙ c.if-values-eq2.true) c.at-mask.ensures i))

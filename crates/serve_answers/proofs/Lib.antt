@@ -1,0 +1,2 @@
+-- What follows from how words stand in bytes.
+pub mod Worded

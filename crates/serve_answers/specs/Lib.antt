@@ -1,0 +1,2 @@
+-- What stands in the answers that are told.
+pub mod Words
