@@ -14,10 +14,9 @@ ghost use Rattle.state_parts.specs.State.{gate_of};
 ghost use Rattle.state_block.specs.Places.{body_place, scope_place, state_length};
 ghost use Rattle.state_block.specs.Layout.{data_to, decoded_tables, decoded_instruments};
 
-use bytes_fields::word_at;
-use bytes_widths::{usize_of_u8, usize_of_u16};
+use bytes_fields::Field;
 use codes_table::LAYOUT_WRONG;
-use serve_answers::{done_three_words, status_alone};
+use serve_answers::{done_words, status_alone};
 use state_block::{BODY, LIST, TABLES};
 use tables_state::{MOST_TABLES, PAIR};
 
@@ -26,10 +25,7 @@ fn is_listed(state: &[u8], index: usize) -> bool
     requires { state_length ≤ length state.now }
     ensures { result ≡ ltb index (decoded_tables state.now).count && ltb index most_tables }
 {
-    if index >= usize_of_u8(state[TABLES]) {
-        return false;
-    }
-    index < usize_of_u8(MOST_TABLES)
+    index < usize::from(state[TABLES]) && index < usize::from(MOST_TABLES)
 }
 
 // Flags 2, then size and address as the list has them; zeros beyond the last.
@@ -38,10 +34,10 @@ fn tell_listed(state: &[u8], index: usize, out: &mut [u8]) -> usize
     ensures { Told (record { status = done; body = table_answer (tables_of (decoded_tables state.now)) index }) out.old result out.new }
 {
     if !is_listed(state, index) {
-        return done_three_words(0, 0, 0, out);
+        return done_words(&[0, 0, 0], out);
     }
     let at = LIST + index * PAIR;
-    done_three_words(2, word_at(state, at + 2), word_at(state, at), out)
+    done_words(&[2, u16::at(state, at + 2), u16::at(state, at)], out)
 }
 
 // The message's data, which stand in the block up to a place, are the index.
@@ -52,5 +48,5 @@ pub fn tell_table(state: &[u8], to: usize, out: &mut [u8]) -> usize
     if to != BODY + 2 {
         return status_alone(LAYOUT_WRONG, out);
     }
-    tell_listed(state, usize_of_u16(word_at(state, BODY)), out)
+    tell_listed(state, usize::from(u16::at(state, BODY)), out)
 }

@@ -1,14 +1,13 @@
 -- What a write answers and leaves: its status alone, and the memory with its range stored where nothing refuses it.
 use mathlib.Core.Path.{◌≡◌, refl, sym, ap, ◌∙◌}
 use mathlib.Core.List.{List, []}
-use Prim.Native.Nat.{ℕ, ◌+◌, ◌-◌, ◌≤◌}
+use Prim.Native.Nat.{ℕ, ◌+◌, ◌-◌}
 use native.Mathlib.Omega.{arith}
 use borrow.Author.Tests.{not-false}
-use lib.ListN.{length, take, drop}
+use lib.ListN.{take, drop}
 use Rattle.codes_table.specs.declared.statuses.Status.{Status}
 use Rattle.codes_table.specs.Statuses.{status_number}
 use Rattle.document.specs.Numbers.{done}
-use Rattle.document.specs.Areas.{variables_end}
 use Rattle.document.specs.Fields.{size_field, address_field, data_field, mask_field}
 use Rattle.document.specs.Gate.{Gate, Outcome, fresh}
 use Rattle.document.specs.Refusals.{first_of, write_lines}

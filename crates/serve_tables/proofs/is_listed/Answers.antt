@@ -1,20 +1,16 @@
 -- Each is a case of the definition.
 use mathlib.Core.Path.{refl}
-use native.Mathlib.Omega.{arith}
 use borrow.Author.Tests.{lt-ltb, le-ltb}
-use lib.ListN.{get_or}
-use Rattle.state_block.specs.Places.{tables_place}
+use native.Mathlib.Omega.{arith}
+use Rattle.document.specs.Tables.{most_tables}
 use Rattle.state_block.specs.Layout.{decoded_tables}
 use Rattle.serve_tables.proofs.is_listed.Goals as goal
 
-pub returns-then-index-usize_of_u8 : goal.returns-then-index-usize_of_u8
+pub returns-then-index-from : goal.returns-then-index-from
 unfolding decoded_tables
-returns-then-index-usize_of_u8 c =
-    let a = c.args in
-    rw (le-ltb a.index (get_or a.state.now tables_place 0) (omega (arith, c.if-index-usize_of_u8.true, c.usize_of_u8.ensures.0))) refl
+returns-then-index-from c = rw (c.from-then-index-from.ensures, lt-ltb c.args.index (decoded_tables c.args.state.now).count (omega (arith, c.if-index-from.true, c.from.ensures))) refl
 
-pub returns : goal.returns
+pub returns-else-index-from : goal.returns-else-index-from
 unfolding decoded_tables
-returns c =
-    let a = c.args in
-    rw (lt-ltb a.index (get_or a.state.now tables_place 0) (omega (arith, c.if-index-usize_of_u8.false, c.usize_of_u8.ensures.0)), c.usize_of_u8-2.ensures.0) refl
+returns-else-index-from c =
+    rw (le-ltb c.args.index c.from.result c.if-index-from.false, le-ltb c.args.index (decoded_tables c.args.state.now).count (omega (arith, c.if-index-from.false, c.from.ensures))) refl

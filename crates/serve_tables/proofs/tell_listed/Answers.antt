@@ -18,7 +18,7 @@ pub returns-then-not-is_listed : goal.returns-then-not-is_listed
 returns-then-not-is_listed c =
     told_as _ _
     (ap said (not_listed c.args.state.now c.args.index c.requires.0 (sym c.is_listed.ensures ∙ c.if-not-is_listed.true)))
-    c.done_three_words.ensures
+    c.done_words.ensures
 
 pub overflow_mul-at : goal.overflow_mul-at
 overflow_mul-at c =
@@ -35,13 +35,13 @@ overflow_add-at-2 c =
     let below : (c.args.index < (decoded_tables c.args.state.now).count) × (c.args.index < most_tables) = listed_below c.args.state.now c.args.index (sym c.is_listed.ensures ∙ c.if-not-is_listed.false) in
     record { fits = omega (arith, below.1) }
 
-pub word_at-requires : goal.word_at-requires
-word_at-requires c =
+pub at-requires : goal.at-requires
+at-requires c =
     let below : (c.args.index < (decoded_tables c.args.state.now).count) × (c.args.index < most_tables) = listed_below c.args.state.now c.args.index (sym c.is_listed.ensures ∙ c.if-not-is_listed.false) in
     omega (arith, below.1, c.requires.0)
 
-pub word_at-requires-2 : goal.word_at-requires-2
-word_at-requires-2 c =
+pub at-requires-2 : goal.at-requires-2
+at-requires-2 c =
     let below : (c.args.index < (decoded_tables c.args.state.now).count) × (c.args.index < most_tables) = listed_below c.args.state.now c.args.index (sym c.is_listed.ensures ∙ c.if-not-is_listed.false) in
     omega (arith, below.1, c.requires.0)
 
@@ -51,5 +51,5 @@ returns c =
     told_as _ _
     (ap said
     (at_index c.args.state.now c.args.index c.requires.0 (λ i. (c.shared_slice_known-1.given i).fits) below.1 below.0 _ _ _ refl
-    c.word_at.ensures c.word_at-2.ensures))
-    c.done_three_words-2.ensures
+    c.at.ensures c.at-2.ensures))
+    c.done_words-2.ensures

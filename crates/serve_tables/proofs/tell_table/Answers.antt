@@ -30,8 +30,8 @@ returns c =
     let data-length : length (data_to c.args.state.now c.args.to) ≡ c.args.to - body_place = bytes_length c.args.state.now body_place (c.args.to - body_place) (omega (arith, c.requires.0, c.requires.1, c.requires.2)) in
     let block = c.args.state.now in
     let two : c.args.to - body_place ≡ 2 = omega (arith, c.if-to.false) in
-    let index : c.usize_of_u16.result ≡ number (data_to block c.args.to) =
-    c.usize_of_u16.ensures.0 ∙ c.word_at.ensures ∙ ap (λ (n : ℕ). number (bytes_at block body_place n)) (sym two) in
+    let index : c.from.result ≡ number (data_to block c.args.to) =
+    c.from.ensures ∙ c.at.ensures ∙ ap (λ (n : ℕ). number (bytes_at block body_place n)) (sym two) in
     λ memory service.
     told_as _ _
     (ap (λ (n : ℕ). record { status = done; body = table_answer (tables_of (decoded_tables block)) n }) index

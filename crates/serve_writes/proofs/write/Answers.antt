@@ -1,15 +1,13 @@
 -- Refused before a byte is touched, or the data stored at the address, for every gate that has this memory.
-use mathlib.Core.Path.{◌≡◌, refl, sym, ◌∙◌}
-use mathlib.Core.List.{List}
-use Prim.Native.Nat.{ℕ, ◌+◌, ◌*◌, ◌≤◌}
+use mathlib.Core.Path.{refl, sym, ◌∙◌}
 use native.Mathlib.Nat.{one-mul}
 use native.Mathlib.Omega.{arith}
 use Rattle.std.proofs.lemmas.Result.{err_from_is_err_and}
-use lib.ListN.{length, length-take}
+use lib.ListN.{length-take}
 use Rattle.document.specs.Stores.{stored}
 use Rattle.document.specs.Fields.{size_field}
 use Rattle.document.specs.Commands.{written, served}
-use Rattle.serve_writes.specs.WriteStatus.{IsWritten, IsUnwritten}
+use Rattle.serve_writes.specs.WriteStatus.{IsWritten}
 use Rattle.serve_writes.proofs.WriteLaws.{values_are, wrote_refused, wrote_done}
 use Rattle.serve_writes.proofs.write.Goals as goal
 

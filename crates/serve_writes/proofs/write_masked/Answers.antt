@@ -1,14 +1,13 @@
 -- Refused before a byte is touched, or the data mixed in by the mask, for every gate that has this memory.
-use mathlib.Core.Path.{◌≡◌, refl, sym, ◌∙◌}
-use mathlib.Core.List.{List}
-use Prim.Native.Nat.{ℕ, ◌+◌, ◌*◌, ◌≤◌}
+use mathlib.Core.Path.{refl, sym, ◌∙◌}
+use Prim.Native.Nat.{◌*◌}
 use native.Mathlib.Omega.{arith}
 use Rattle.std.proofs.lemmas.Result.{err_from_is_err_and}
-use lib.ListN.{length, length-take, length-drop}
+use lib.ListN.{length-take, length-drop}
 use Rattle.document.specs.Stores.{mask_stored}
 use Rattle.document.specs.Fields.{size_field}
 use Rattle.document.specs.Commands.{written_masked, served}
-use Rattle.serve_writes.specs.WriteStatus.{IsWritten, IsUnwritten}
+use Rattle.serve_writes.specs.WriteStatus.{IsWritten}
 use Rattle.serve_writes.proofs.WriteLaws.{values_are, masks_are, wrote_refused, wrote_done}
 use Rattle.serve_writes.proofs.write_masked.Goals as goal
 

@@ -1,16 +1,11 @@
 -- Front, one word behind the other, sum byte.
-use mathlib.Core.Path.{◌≡◌, sym, subst, ap, ◌∙◌}
-use mathlib.Core.List.{List, [], ◌∷◌}
-use Prim.Native.Nat.{ℕ, ◌+◌, ◌*◌, ◌≤◌}
+use mathlib.Core.Path.{sym}
+use mathlib.Core.List.{[], ◌∷◌}
 use native.Mathlib.Omega.{arith}
-use lib.ListN.{length, take, length-take}
 use lib.Seq.{take_all}
 use Rattle.document.specs.Numbers.{done}
 use Rattle.document.specs.Sum.{sum_byte_of}
-use Rattle.document.specs.Values.{little_endian}
-use Rattle.line_wire.specs.Told.{Telling}
 use Rattle.line_wire.proofs.Writing.{put_append, telling_room, word_room, told_in_parts}
-use Rattle.serve_answers.specs.Words.{words_of}
 use Rattle.serve_answers.proofs.Worded.{words_step, words_few, words_fewer}
 use Rattle.serve_answers.proofs.words.done_words.Goals as goal
 

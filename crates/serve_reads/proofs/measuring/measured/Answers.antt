@@ -4,10 +4,9 @@ use mathlib.Core.Bool.{true}
 use mathlib.Core.List.{List}
 use Prim.Native.Nat.{ℕ, ◌+◌, ◌≤◌}
 use native.Mathlib.Omega.{arith}
-use borrow.Author.Tests.{leb-true}
 use lib.ListN.{length}
 use Rattle.document.specs.Numbers.{done}
-use Rattle.document.specs.Areas.{memory_end, may_be_read}
+use Rattle.document.specs.Areas.{may_be_read}
 use Rattle.document.specs.Values.{number, little_endian}
 use Rattle.document.specs.Variables.{address_width}
 use Rattle.document.specs.Strings.{string_length, string_ends}
