@@ -17,24 +17,26 @@ pub struct Collected {
 pub fn collect(state: &mut [u8], out: &mut [u8]) -> Collected
     ensures { CollectDone state.old out.old result state.new out.new }
 {
-    let refusal = collect_refusal(state, out);
-    if refusal != TAKEN {
-        return Collected { refusal, length: 0 };
-    }
-    let length = application_block::collect(state, out);
-    Collected {
-        refusal: TAKEN,
-        length,
+    match collect_refusal(state, out) {
+        Ok(()) => Collected {
+            refusal: TAKEN,
+            length: application_block::collect(state, out),
+        },
+        Err(refusal) => Collected {
+            refusal: u8::from(refusal),
+            length: 0,
+        },
     }
 }
 
 pub fn report(state: &mut [u8], res: u8) -> u8
     ensures { ReportDone state.old res result state.new }
 {
-    let refusal = report_refusal(state, res);
-    if refusal != TAKEN {
-        return refusal;
+    match report_refusal(state, res) {
+        Ok(()) => {
+            application_block::report(state, res);
+            TAKEN
+        }
+        Err(refusal) => u8::from(refusal),
     }
-    application_block::report(state, res);
-    TAKEN
 }

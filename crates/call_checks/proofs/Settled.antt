@@ -8,6 +8,9 @@ use borrow.Author.Tests.{le-leb, lt-leb, leb-true}
 use lib.Dec.{leb}
 use lib.ListN.{length}
 use lib.Seq.{sets}
+use Rattle.codes_table.specs.declared.calls.Refusal.{Refusal}
+use Rattle.codes_table.specs.Calls.{refusal_number}
+use Rattle.codes_table.proofs.Outcomes.{never_taken}
 use Rattle.document.specs.Numbers.{taken, state_refused}
 use Rattle.document.proofs.Cases.{split, and_left, and_right}
 use Rattle.state_parts.specs.Bounds.{sound, fresh}
@@ -31,6 +34,9 @@ module _ (block : List ℕ) where
       split (block_sound block)
       (λ ok. block_known ok)
       (λ bad. let e : ◌≡◌ {A = ℕ} state_refused taken = rw bad at fine in let z : ⊥ = omega arith in absurd z)
+
+  pub panel_outside : (refusal : Refusal) → refusal_number refusal ≡ panel_number block → block_sound block ≡ false
+  panel_outside refusal said = split (block_sound block) (λ ok. absurd (never_taken refusal (rw ok at said))) (λ bad. bad)
 
   pub checked : (t : Bool) → t ≡ block_sound block → Checked block (cond t taken state_refused)
   checked t e = record { result = ap (λ (k : Bool). cond k taken state_refused) e }

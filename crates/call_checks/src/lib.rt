@@ -1,15 +1,14 @@
-// A state begun, and looked at: reset, check, and the numbers with which the calls that take a state refuse.
+// A state begun, and looked at: reset, check, and what the calls that take a state refuse.
 #![tactic(auto)]
 
 ghost use Rattle.std.specs.Prelude.{◌≡◌};
+ghost use Rattle.codes_table.specs.Calls.{taken_number};
 ghost use Rattle.document.specs.Calls.{byte_refusal, tick_refusal};
-ghost use Rattle.call_checks.specs.Promises.{block_sound, ResetDone, Checked, collect_number, report_number};
+ghost use Rattle.call_checks.specs.Promises.{block_sound, ResetDone, Checked, panel_number, collect_number, report_number};
 
 use application_block::is_collected;
 use application_state::MOST_RESULT;
-use codes_table::{
-    ANSWER_ROOM, MEMORY_REFUSED, MOST_DATA, RESULT_REFUSED, ROOM_REFUSED, STATE_REFUSED, TAKEN,
-};
+use codes_table::{ANSWER_ROOM, MOST_DATA, Refusal, TAKEN, taken_number};
 use memory_ranges::MEMORY_END;
 use state_block::is_long_enough;
 
@@ -17,7 +16,7 @@ pub fn reset(state: &mut [u8]) -> u8
     ensures { ResetDone state.old result state.new }
 {
     if !is_long_enough(state) {
-        return STATE_REFUSED;
+        return u8::from(Refusal::State);
     }
     state_block::reset(state);
     TAKEN
@@ -26,70 +25,65 @@ pub fn reset(state: &mut [u8]) -> u8
 fn is_sound(state: &[u8]) -> bool
     ensures { result ≡ block_sound state.now }
 {
-    if !is_long_enough(state) {
-        return false;
+    is_long_enough(state) && state_bounds::is_sound(state)
+}
+
+// What every call that takes a state refuses first, and a call of the panel alone.
+pub fn panel_refusal(state: &[u8]) -> Result<(), Refusal>
+    ensures { taken_number result ≡ panel_number state.now }
+{
+    if is_sound(state) {
+        return Ok(());
     }
-    state_bounds::is_sound(state)
+    Err(Refusal::State)
 }
 
 pub fn check(state: &[u8]) -> u8
     ensures { Checked state.now result }
 {
-    if is_sound(state) {
-        return TAKEN;
-    }
-    STATE_REFUSED
+    taken_number(panel_refusal(state))
 }
 
-// The number that a byte and a tick ask for first.
-pub fn tick_refusal(state: &[u8], memory: &[u8]) -> u8
-    ensures { result ≡ tick_refusal (block_sound state.now) memory.now }
+// What a byte and a tick refuse first.
+pub fn tick_refusal(state: &[u8], memory: &[u8]) -> Result<(), Refusal>
+    ensures { taken_number result ≡ tick_refusal (block_sound state.now) memory.now }
 {
-    if !is_sound(state) {
-        return STATE_REFUSED;
-    }
+    panel_refusal(state)?;
     if memory.len() != MEMORY_END {
-        return MEMORY_REFUSED;
+        return Err(Refusal::Memory);
     }
-    TAKEN
+    Ok(())
 }
 
-pub fn byte_refusal(state: &[u8], memory: &[u8], answer: &[u8]) -> u8
-    ensures { result ≡ byte_refusal (block_sound state.now) memory.now answer.now }
+pub fn byte_refusal(state: &[u8], memory: &[u8], answer: &[u8]) -> Result<(), Refusal>
+    ensures { taken_number result ≡ byte_refusal (block_sound state.now) memory.now answer.now }
 {
-    let refusal = tick_refusal(state, memory);
-    if refusal != TAKEN {
-        return refusal;
-    }
+    tick_refusal(state, memory)?;
     if answer.len() < ANSWER_ROOM {
-        return ROOM_REFUSED;
+        return Err(Refusal::Room);
     }
-    TAKEN
+    Ok(())
 }
 
-pub fn collect_refusal(state: &[u8], out: &[u8]) -> u8
-    ensures { result ≡ collect_number state.now out.now }
+pub fn collect_refusal(state: &[u8], out: &[u8]) -> Result<(), Refusal>
+    ensures { taken_number result ≡ collect_number state.now out.now }
 {
-    if !is_sound(state) {
-        return STATE_REFUSED;
-    }
+    panel_refusal(state)?;
     if out.len() < MOST_DATA {
-        return ROOM_REFUSED;
+        return Err(Refusal::Room);
     }
-    TAKEN
+    Ok(())
 }
 
-pub fn report_refusal(state: &[u8], res: u8) -> u8
-    ensures { result ≡ report_number state.now res }
+pub fn report_refusal(state: &[u8], res: u8) -> Result<(), Refusal>
+    ensures { taken_number result ≡ report_number state.now res }
 {
-    if !is_sound(state) {
-        return STATE_REFUSED;
-    }
+    panel_refusal(state)?;
     if res > MOST_RESULT {
-        return RESULT_REFUSED;
+        return Err(Refusal::Report);
     }
     if !is_collected(state) {
-        return RESULT_REFUSED;
+        return Err(Refusal::Report);
     }
-    TAKEN
+    Ok(())
 }

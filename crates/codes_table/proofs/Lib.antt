@@ -2,3 +2,4 @@
 pub mod Entries
 pub mod Commands
 pub mod Numbering
+pub mod Outcomes

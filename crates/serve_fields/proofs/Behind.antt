@@ -2,11 +2,10 @@
 use mathlib.Core.Path.{◌≡◌, refl, sym, ◌∙◌}
 use mathlib.Core.List.{List, ◌++◌}
 use Prim.Native.Nat.{ℕ}
-use native.Mathlib.Omega.{arith}
 use borrow.Author.Tests.{eq-eqb, ne_eqb}
 use Rattle.codes_table.specs.Statuses.{status_number}
 use Rattle.codes_table.specs.declared.statuses.Status.{Status}
-use Rattle.codes_table.specs.declared.statuses.Status.TheVariants.{RecorderRuns, RecorderStopped, NotServed, SumWrong, MessageTooLong, AnswerTooLong, LayoutWrong, SizeWrong, Busy, NotSetUp, RangeWrong}
+use Rattle.codes_table.proofs.Outcomes.{never_done}
 use Rattle.document.specs.Numbers.{done}
 use Rattle.document.specs.Fields.{size_field, address_field}
 use Rattle.document.specs.Refusals.{Refusal, first_of}
@@ -14,20 +13,6 @@ use Rattle.document.specs.declared.Service.{Service}
 use Rattle.document_outcomes.proofs.Firsts.{first_append}
 use Rattle.serve_fields.specs.declared.Fields.{Fields}
 use Rattle.serve_fields.specs.Found.{own_lines, AreFields}
-
--- no status of an `Err` says that it is done
-pub never_done : (status : Status) → status_number status ≡ done → ⊥
-never_done RecorderRuns e = omega (arith, e)
-never_done RecorderStopped e = omega (arith, e)
-never_done NotServed e = omega (arith, e)
-never_done SumWrong e = omega (arith, e)
-never_done MessageTooLong e = omega (arith, e)
-never_done AnswerTooLong e = omega (arith, e)
-never_done LayoutWrong e = omega (arith, e)
-never_done SizeWrong e = omega (arith, e)
-never_done Busy e = omega (arith, e)
-never_done NotSetUp e = omega (arith, e)
-never_done RangeWrong e = omega (arith, e)
 
 module _ (s : Service) (body : List ℕ) (n : ℕ) where
   -- what the fields themselves refuse

@@ -6,6 +6,7 @@ use native.Mathlib.Omega.{arith}
 use borrow.Author.Tests.{ltb-false, leb-true, not-false}
 use Rattle.codes_table.specs.declared.statuses.Status.{Status}
 use Rattle.codes_table.specs.Statuses.{status_number}
+use Rattle.codes_table.proofs.Outcomes.{never_done}
 use Rattle.document.specs.Numbers.{most_data, done}
 use Rattle.document.specs.Areas.{memory_end, bytes_at}
 use Rattle.document.specs.Fields.{size_field, address_field}
@@ -18,7 +19,7 @@ use Rattle.document_outcomes.specs.Known.{known_as}
 use Rattle.document_outcomes.proofs.Firsts.{NoneApplies, none_applies, unless_refused, unless_none}
 use Rattle.serve_fields.specs.declared.Fields.{Fields}
 use Rattle.serve_fields.specs.Found.{AreFields}
-use Rattle.serve_fields.proofs.Behind.{never_done, first_behind}
+use Rattle.serve_fields.proofs.Behind.{first_behind}
 use Rattle.serve_reads.specs.ReadStatus.{range_lines, read_status, IsRead}
 
 module _ (s : Service) (body : List ℕ) where

@@ -2,7 +2,8 @@
 use mathlib.Core.Path.{◌≡◌, sym, ap, ◌∙◌}
 use mathlib.Core.Bool.{true, not}
 use mathlib.Core.List.{List, ◌∷◌, ◌++◌}
-use Prim.Native.Nat.{ℕ, ◌+◌, ◌-◌, ◌<◌, ◌≤◌}
+use Prim.Native.Nat.{ℕ, ◌+◌, ◌-◌, ◌*◌, ◌<◌, ◌≤◌}
+use native.Mathlib.Omega.{arith}
 use lib.Dec.{leb}
 use lib.ListN.{get_or, drop}
 use lib.Seq.{sets}
@@ -31,6 +32,16 @@ module _ (block : List ℕ) where
   -- so many definitions from a place on
   abbrev pub left_at : ℕ → ℕ → List Variable
   left_at left at = definitions_in true left (drop at block)
+
+  -- what is left of the scope's definitions behind the first i
+  abbrev pub left_behind : ℕ → List Variable
+  left_behind i = left_at (scope_count - i) (scope_place + 1 + i * 5)
+
+  pub behind_next : (i : ℕ) → i < scope_count → left_at (scope_count - i - 1) (scope_place + 1 + i * 5 + 5) ≡ left_behind (i + 1)
+  behind_next i h =
+      let left : scope_count - i - 1 ≡ scope_count - (i + 1) = omega arith in
+      let at : scope_place + 1 + i * 5 + 5 ≡ scope_place + 1 + (i + 1) * 5 = omega arith in
+      λ j. left_at (left j) (at j)
 
   pub few : sound (decoded_scope block) ≡ true → scope_count ≤ 8
   unfolding sound decoded_scope

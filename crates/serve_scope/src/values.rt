@@ -9,8 +9,7 @@ ghost use Rattle.scope_state.specs.State.{sound};
 ghost use Rattle.state_block.specs.Places.{state_length};
 ghost use Rattle.state_block.specs.Layout.{decoded_scope};
 
-use bytes_fields::{DEFINITION_WIDTH, long_at};
-use bytes_widths::{usize_of_u8, usize_of_u32};
+use bytes_fields::{DEFINITION_WIDTH, Field};
 use line_wire::doubling::{Progress, put_all};
 use state_block::{SCOPE, SCOPE_DEFINITIONS};
 
@@ -20,14 +19,11 @@ pub(crate) fn put_values(block: &[u8], memory: &[u8], from: Progress, out: &mut 
     ensures { Put from (values_of memory.now (variables_of (decoded_scope block.now).variables)) out.old result out.new }
 {
     let mut progress = from;
-    let mut at = SCOPE_DEFINITIONS;
-    let mut left = usize_of_u8(block[SCOPE]);
-    while 0 < left {
-        let start = usize_of_u32(long_at(block, at + 1));
-        let end = start + usize_of_u8(block[at]);
+    for i in 0..usize::from(block[SCOPE]) {
+        let at = SCOPE_DEFINITIONS + i * DEFINITION_WIDTH;
+        let start = u32::at(block, at + 1) as usize;
+        let end = start + usize::from(block[at]);
         progress = put_all(progress, &memory[start..end], out);
-        at += DEFINITION_WIDTH;
-        left -= 1;
     }
     progress
 }

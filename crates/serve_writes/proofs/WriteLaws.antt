@@ -7,6 +7,7 @@ use borrow.Author.Tests.{not-false}
 use lib.ListN.{take, drop}
 use Rattle.codes_table.specs.declared.statuses.Status.{Status}
 use Rattle.codes_table.specs.Statuses.{status_number}
+use Rattle.codes_table.proofs.Outcomes.{never_done}
 use Rattle.document.specs.Numbers.{done}
 use Rattle.document.specs.Fields.{size_field, address_field, data_field, mask_field}
 use Rattle.document.specs.Gate.{Gate, Outcome, fresh}
@@ -19,7 +20,7 @@ use Rattle.serve_fields.specs.declared.Fields.{Fields}
 use Rattle.serve_fields.specs.Found.{own_lines, AreFields}
 use Rattle.serve_writes.specs.WriteStatus.{permission_lines, write_status, IsWritten, IsUnwritten}
 use Rattle.serve_writes.specs.Wrote.{Wrote}
-use Rattle.serve_fields.proofs.Behind.{never_done, own_first, first_behind}
+use Rattle.serve_fields.proofs.Behind.{own_first, first_behind}
 
 -- ---- the parts of the message that are handed on
 

@@ -15,24 +15,25 @@ use Rattle.variables_list.proofs.Values.{values_length}
 use Rattle.scope_state.specs.Read.{read_status}
 use Rattle.scope_state.proofs.Given.{no_bytes, all_bytes}
 use Rattle.state_block.specs.Layout.{decoded_scope, decoded_instruments}
+use Rattle.codes_table.proofs.Outcomes.{never_done}
 use Rattle.serve_scope.proofs.Statuses.{scope_read_lem, some, short}
 use Rattle.serve_scope.proofs.Walked.{all_may_lem}
 use Rattle.serve_scope.proofs.reading.read_scope.Goals as goal
 
-pub returns-then-status-ne-DONE : goal.returns-then-status-ne-DONE
-returns-then-status-ne-DONE c =
+pub returns-in-Err : goal.returns-in-Err
+returns-in-Err c =
     let block = c.args.state.now in
     let memory = c.args.memory.now in
-    let wrong : read_status (decoded_scope block) ≡ done → ⊥ = λ e. c.if-status-ne-DONE.true (c.read_status-status.ensures ∙ e) in
+    let wrong : read_status (decoded_scope block) ≡ done → ⊥ = λ e. never_done c.in-Err.status (c.in-Err.ensures ∙ e) in
     λ s body.
     told_as _ _
-    ((λ i. record { status = c.read_status-status.ensures i; body = sym (no_bytes (decoded_scope block) memory wrong) i })
+    ((λ i. record { status = (c.from.ensures ∙ c.in-Err.ensures) i; body = sym (no_bytes (decoded_scope block) memory wrong) i })
     ∙ scope_read_lem (decoded_instruments block) memory s body)
     c.status_alone.ensures
 
 pub put_values-behind-requires : goal.put_values-behind-requires
 put_values-behind-requires c =
-    let given : read_status (decoded_scope (c.args.state.now)) ≡ done = sym c.read_status-status.ensures ∙ c.if-status-ne-DONE.false in
+    let given : read_status (decoded_scope (c.args.state.now)) ≡ done = sym c.in-Ok.ensures in
     let fits : length (values_of c.args.memory.now (variables_of (decoded_scope (c.args.state.now)).variables)) ≤ 64 = omega (
       arith,
       values_length c.args.memory.now memory_end (variables_of (decoded_scope (c.args.state.now)).variables) (all_may_lem (c.args.state.now) c.requires.1) (omega (arith, c.requires.2)),
@@ -42,7 +43,7 @@ put_values-behind-requires c =
 
 pub put_sum-requires : goal.put_sum-requires
 put_sum-requires c =
-    let given : read_status (decoded_scope (c.args.state.now)) ≡ done = sym c.read_status-status.ensures ∙ c.if-status-ne-DONE.false in
+    let given : read_status (decoded_scope (c.args.state.now)) ≡ done = sym c.in-Ok.ensures in
     let fits : length (values_of c.args.memory.now (variables_of (decoded_scope (c.args.state.now)).variables)) ≤ 64 = omega (
       arith,
       values_length c.args.memory.now memory_end (variables_of (decoded_scope (c.args.state.now)).variables) (all_may_lem (c.args.state.now) c.requires.1) (omega (arith, c.requires.2)),
@@ -51,9 +52,9 @@ put_sum-requires c =
     let telling : Telling done (values_of c.args.memory.now (variables_of (decoded_scope (c.args.state.now)).variables)) c.args.out.now c.put_values-behind.result c.put_values-behind.new.out = put_append _ _ _ [] (values_of c.args.memory.now (variables_of (decoded_scope (c.args.state.now)).variables)) _ _ _ c.begin-front.ensures c.put_values-behind.ensures in
     telling_room done (values_of c.args.memory.now (variables_of (decoded_scope (c.args.state.now)).variables)) c.args.out.now c.put_values-behind.result _ telling c.requires.3 (sum_byte_of (c.put_values-behind.result.sum ∷ []) ∷ []) (omega (arith, fits))
 
-pub returns : goal.returns
-returns c =
-    let given : read_status (decoded_scope (c.args.state.now)) ≡ done = sym c.read_status-status.ensures ∙ c.if-status-ne-DONE.false in
+pub returns-in-Ok : goal.returns-in-Ok
+returns-in-Ok c =
+    let given : read_status (decoded_scope (c.args.state.now)) ≡ done = sym c.in-Ok.ensures in
     let telling : Telling done (values_of c.args.memory.now (variables_of (decoded_scope (c.args.state.now)).variables)) c.args.out.now c.put_values-behind.result c.put_values-behind.new.out = put_append _ _ _ [] (values_of c.args.memory.now (variables_of (decoded_scope (c.args.state.now)).variables)) _ _ _ c.begin-front.ensures c.put_values-behind.ensures in
     let memory = c.args.memory.now in
     λ s body.

@@ -13,16 +13,16 @@ use Rattle.serve_scope.proofs.reading.read_status.Goals as goal
 
 pub returns-then-count-eq0 : goal.returns-then-count-eq0
 unfolding decoded_scope
-returns-then-count-eq0 c = sym (absent_status (decoded_scope c.args.block.now) (omega (arith, c.if-count-eq0.true, c.usize_of_u8-count.ensures.0)))
+returns-then-count-eq0 c = sym (absent_status (decoded_scope c.args.block.now) (omega (arith, c.if-count-eq0.true, c.from-count.ensures)))
 
 pub set_size-requires : goal.set_size-requires
 set_size-requires c =
-    (omega (arith, few c.args.block.now c.requires.1, c.usize_of_u8-count.ensures.0), omega (arith, c.requires.0))
+    (omega (arith, few c.args.block.now c.requires.1, c.from-count.ensures), omega (arith, c.requires.0))
 
 pub returns-then-set_size-gt-MOST_DATA : goal.returns-then-set_size-gt-MOST_DATA
 unfolding decoded_scope
 returns-then-set_size-gt-MOST_DATA c =
-    let counted : c.usize_of_u8-count.result ≡ get_or (c.args.block.now) scope_place 0 = c.usize_of_u8-count.ensures.0 in
+    let counted : c.from-count.result ≡ get_or (c.args.block.now) scope_place 0 = c.from-count.ensures in
     let some : (decoded_scope (c.args.block.now)).variables.count ≡ 0 → ⊥ = λ none. c.if-count-eq0.false (counted ∙ none) in
     let size : c.set_size.result ≡ set_size (variables_of (decoded_scope (c.args.block.now)).variables) = c.set_size.ensures.0
     ∙ ap (λ (n : ℕ). set_size (left_at (c.args.block.now) n (scope_place + 1))) counted
@@ -32,7 +32,7 @@ returns-then-set_size-gt-MOST_DATA c =
 pub returns : goal.returns
 unfolding decoded_scope
 returns c =
-    let counted : c.usize_of_u8-count.result ≡ get_or (c.args.block.now) scope_place 0 = c.usize_of_u8-count.ensures.0 in
+    let counted : c.from-count.result ≡ get_or (c.args.block.now) scope_place 0 = c.from-count.ensures in
     let some : (decoded_scope (c.args.block.now)).variables.count ≡ 0 → ⊥ = λ none. c.if-count-eq0.false (counted ∙ none) in
     let size : c.set_size.result ≡ set_size (variables_of (decoded_scope (c.args.block.now)).variables) = c.set_size.ensures.0
     ∙ ap (λ (n : ℕ). set_size (left_at (c.args.block.now) n (scope_place + 1))) counted

@@ -2,7 +2,7 @@
 use mathlib.Core.Path.{◌≡◌, refl, sym, ap, subst, ◌∙◌}
 use mathlib.Core.Bool.{true}
 use mathlib.Core.List.{List, ◌++◌}
-use Prim.Native.Nat.{ℕ, ◌+◌, ◌-◌, ◌<◌, ◌≤◌}
+use Prim.Native.Nat.{ℕ, ◌+◌, ◌-◌, ◌*◌, ◌<◌, ◌≤◌}
 use native.Mathlib.Omega.{arith}
 use lib.ListN.{length, get_or, take, drop, length-append}
 use lib.Seq.{sets}
@@ -16,7 +16,7 @@ use Rattle.line_wire.specs.Put.{progressed, Put}
 use Rattle.line_wire.proofs.Stuffed.{stuffed_append}
 use Rattle.line_wire.proofs.Writing.{progressed_none}
 use Rattle.state_block.specs.Places.{scope_place}
-use Rattle.serve_scope.proofs.Walked.{left_at, few, all_left, all_may_lem, may_first, values_first, put_progress, put_buffer}
+use Rattle.serve_scope.proofs.Walked.{scope_count, left_at, behind_next, few, all_left, all_may_lem, may_first, values_first, put_progress, put_buffer}
 use Rattle.serve_scope.proofs.values.put_values.Goals as goal
 
 -- ---- a turn: the block, how many definitions are left in it and from where, and what the first of them says
@@ -54,15 +54,12 @@ module _ (block : List ℕ) (left at : ℕ) (some : 0 < left) (size address : �
       buffer_kept : sets after q.at (stuffed rest) ≡ sets before p.at (stuffed (values_of memory (left_at block left at)))
       buffer_kept = put_buffer p q here rest before after done ∙ ap (λ (bs : List ℕ). sets before p.at (stuffed bs)) (sym values)
 
-pub loop-left-init : goal.loop-left-init
-loop-left-init c =
+pub loop-i-init : goal.loop-i-init
+loop-i-init c =
     let block = c.args.block.now in
     let memory = c.args.memory.now in
-    let count : c.usize_of_u8-left.result ≡ get_or block scope_place 0 = c.usize_of_u8-left.ensures.0 in
-    let short : get_or block scope_place 0 ≤ 8 = few block c.requires.1 in
-    let all = all_left block short ∙ ap (λ (n : ℕ). left_at block n (scope_place + 1)) (sym count) in (
-      omega (arith, count, short),
-      omega (arith, count, short, c.requires.0),
+    let whole : scope_count block ≡ scope_count block - 0 = omega arith in
+    let all = all_left block (few block c.requires.1) ∙ ap (λ (n : ℕ). left_at block n (scope_place + 1)) whole in (
       refl,
       omega arith,
       ap (all_may may_be_read) (sym all) ∙ all_may_lem block c.requires.1,
@@ -70,48 +67,53 @@ loop-left-init c =
       ap (λ (vs : List Variable). sets c.args.out.now c.args.from.at (stuffed (values_of memory vs))) (sym all),
     )
 
-pub overflow_add-end : goal.overflow_add-end
-overflow_add-end c =
-    let l = c.loop-left in
-    let size = c.usize_of_u8.result in
-    let address = c.usize_of_u32-start.result in
-    let is_address = c.usize_of_u32-start.ensures.0 ∙ c.long_at.ensures in
-    record { fits = omega (arith, (may c.args.block.now l.left l.at c.loop-left-test.true size address c.usize_of_u8.ensures.0 is_address l.invariant.4).0) }
+pub at-start-requires : goal.at-start-requires
+at-start-requires c = omega (arith, c.loop-i-test.true, c.from-i-end.ensures, few c.args.block.now c.requires.1, c.requires.0)
+
+pub bounds-block-at : goal.bounds-block-at
+bounds-block-at c = omega (arith, c.loop-i-test.true, c.from-i-end.ensures, few c.args.block.now c.requires.1, c.requires.0)
 
 pub slice_bounds-put_all-end : goal.slice_bounds-put_all-end
 slice_bounds-put_all-end c =
-    let l = c.loop-left in
-    let size = c.usize_of_u8.result in
-    let address = c.usize_of_u32-start.result in
-    let is_address = c.usize_of_u32-start.ensures.0 ∙ c.long_at.ensures in
-    omega (arith, (may c.args.block.now l.left l.at c.loop-left-test.true size address c.usize_of_u8.ensures.0 is_address l.invariant.4).0, c.requires.2)
+    let block = c.args.block.now in
+    let l = c.loop-i in
+    let inside : l.i < scope_count block = omega (arith, c.loop-i-test.true, c.from-i-end.ensures) in
+    let some : 0 < scope_count block - l.i = omega (arith, inside) in
+    let at = scope_place + 1 + l.i * 5 in
+    omega (arith, (may block (scope_count block - l.i) at some c.from.result c.at-start.result c.from.ensures c.at-start.ensures l.invariant.2).0, c.requires.2)
 
 pub put_all-progress-requires : goal.put_all-progress-requires
 put_all-progress-requires c =
-    let l = c.loop-left in
-    let size = c.usize_of_u8.result in
-    let address = c.usize_of_u32-start.result in
-    let is_address = c.usize_of_u32-start.ensures.0 ∙ c.long_at.ensures in
-    let at = ap (λ (p : Progress). p.at) l.invariant.5 in
-    omega (arith, at, within c.args.block.now l.left l.at c.loop-left-test.true size address c.usize_of_u8.ensures.0 is_address c.args.memory.now, l.invariant.2, c.requires.3)
+    let block = c.args.block.now in
+    let l = c.loop-i in
+    let inside : l.i < scope_count block = omega (arith, c.loop-i-test.true, c.from-i-end.ensures) in
+    let some : 0 < scope_count block - l.i = omega (arith, inside) in
+    let at = scope_place + 1 + l.i * 5 in
+    let place = ap (λ (p : Progress). p.at) l.invariant.3 in
+    omega (arith, place, within block (scope_count block - l.i) at some c.from.result c.at-start.result c.from.ensures c.at-start.ensures c.args.memory.now, l.invariant.0, c.requires.3)
+
+pub loop-i-preserved : goal.loop-i-preserved
+loop-i-preserved c =
+    let block = c.args.block.now in
+    let l = c.loop-i in
+    let inside : l.i < scope_count block = omega (arith, c.loop-i-test.true, c.from-i-end.ensures) in
+    let some : 0 < scope_count block - l.i = omega (arith, inside) in
+    let at = scope_place + 1 + l.i * 5 in
+    let memory = c.args.memory.now in
+    let next = behind_next block l.i inside in (
+      c.put_all-progress.auto.out ∙ l.invariant.0,
+      omega arith,
+      rw next at (may block (scope_count block - l.i) at some c.from.result c.at-start.result c.from.ensures c.at-start.ensures l.invariant.2).1,
+      rw next at (progress_kept block (scope_count block - l.i) at some c.from.result c.at-start.result c.from.ensures c.at-start.ensures memory l.progress c.put_all-progress.result l.out c.put_all-progress.new.out c.put_all-progress.ensures ∙ l.invariant.3),
+      rw next at (buffer_kept block (scope_count block - l.i) at some c.from.result c.at-start.result c.from.ensures c.at-start.ensures memory l.progress c.put_all-progress.result l.out c.put_all-progress.new.out c.put_all-progress.ensures ∙ l.invariant.4),
+    )
 
 pub returns : goal.returns
 returns c =
-    let l = c.loop-left in
-    let none : l.left ≡ 0 = omega arith in
-    record { progress = sym (progressed_none l.progress l.invariant.3) ∙ rw none at l.invariant.5; buffer = rw none at l.invariant.6 }
-
-pub loop-left-preserved : goal.loop-left-preserved
-loop-left-preserved c =
-    let l = c.loop-left in
-    let size = c.usize_of_u8.result in
-    let address = c.usize_of_u32-start.result in
-    let is_address = c.usize_of_u32-start.ensures.0 ∙ c.long_at.ensures in (
-      omega arith,
-      omega (arith, c.loop-left-test.true),
-      c.put_all-progress.auto.out ∙ l.invariant.2,
-      omega arith,
-      (may c.args.block.now l.left l.at c.loop-left-test.true size address c.usize_of_u8.ensures.0 is_address l.invariant.4).1,
-      progress_kept c.args.block.now l.left l.at c.loop-left-test.true size address c.usize_of_u8.ensures.0 is_address c.args.memory.now l.progress c.put_all-progress.result l.out c.put_all-progress.new.out c.put_all-progress.ensures ∙ l.invariant.5,
-      buffer_kept c.args.block.now l.left l.at c.loop-left-test.true size address c.usize_of_u8.ensures.0 is_address c.args.memory.now l.progress c.put_all-progress.result l.out c.put_all-progress.new.out c.put_all-progress.ensures ∙ l.invariant.6,
-    )
+    let block = c.args.block.now in
+    let l = c.loop-i in
+    let none : scope_count block - l.i ≡ 0 = omega (arith, c.loop-i-test.false, c.from-i-end.ensures) in
+    record {
+      progress = sym (progressed_none l.progress l.invariant.1) ∙ rw none at l.invariant.3;
+      buffer = rw none at l.invariant.4;
+    }
