@@ -7,7 +7,7 @@ ghost use Rattle.document.specs.Values.{little_endian};
 ghost use Rattle.document.specs.Variables.{address_width};
 ghost use Rattle.document.specs.Recorder.{is_running};
 ghost use Rattle.document.specs.Commands.{served};
-ghost use Rattle.document.specs.declared.Operation.TheVariants.{PrepareAndStart, Start, Stop, Status, QueryBuffer};
+ghost use Rattle.document.specs.declared.Operation.TheVariants.{PrepareAndStart, Start, Stop, Status as StatusAsked, QueryBuffer};
 ghost use Rattle.document.specs.declared.Service.{Service};
 ghost use Rattle.document_outcomes.specs.Known.{known_as};
 ghost use Rattle.codes_table.specs.Statuses.{status_number, outcome_number};
@@ -70,7 +70,7 @@ pub fn stop(state: &mut [u8]) -> Result<(), Status>
 
 pub fn status(state: &[u8]) -> Status
     requires { state_length ≤ length state.now }
-    ensures { (memory : List ℕ) (s : Service) (body : List ℕ) → status_alone (status_number result) ≡ (served (gate_of (decoded_instruments state.now) memory) (known_as Status s) body).answer }
+    ensures { (memory : List ℕ) (s : Service) (body : List ℕ) → status_alone (status_number result) ≡ (served (gate_of (decoded_instruments state.now) memory) (known_as StatusAsked s) body).answer }
 {
     recorder_in(state).status()
 }
