@@ -31,24 +31,20 @@ fn is_size_sound(mode: u8, size: u8) -> bool
     ensures { result ≡ size_sound mode size }
 {
     if mode == 0 {
-        return size == 0;
+        size == 0
+    } else {
+        is_trigger_size(size)
     }
-    is_trigger_size(size)
 }
 
 // A trigger of any numbers may come.
 pub fn is_trigger_sound(trigger: Trigger) -> bool
     ensures { result ≡ trigger_sound trigger.mode trigger.size trigger.sign trigger.address trigger.threshold }
 {
-    if trigger.mode > 2 {
-        return false;
-    }
-    if !is_size_sound(trigger.mode, trigger.size) {
-        return false;
-    }
-    if trigger.sign > 1 {
-        return false;
-    }
     let bytes = usize::from(trigger.size);
-    may_be_recorded(trigger.address, bytes) && does_fit(bytes, trigger.threshold)
+    trigger.mode <= 2
+        && is_size_sound(trigger.mode, trigger.size)
+        && trigger.sign <= 1
+        && may_be_recorded(trigger.address, bytes)
+        && does_fit(bytes, trigger.threshold)
 }
