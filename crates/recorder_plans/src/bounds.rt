@@ -3,8 +3,8 @@ ghost use Rattle.std.specs.Prelude.{◌≡◌, [], ◌∷◌, ◌*◌, ◌^◌, 
 ghost use Rattle.document.specs.Numbers.{is_in};
 ghost use Rattle.recorder_plans.specs.Bounds.{fits, size_sound, trigger_sound};
 
-use bytes_widths::{u64_of_u32, usize_of_u8};
 use memory_ranges::may_be_recorded;
+use recorder_triggers::Trigger;
 
 // The first number that takes more than so many bytes.
 fn too_large(size: usize) -> u64
@@ -18,48 +18,33 @@ pub fn does_fit(size: usize, x: u32) -> bool
     requires { size ≤ 4 }
     ensures { result ≡ fits size x }
 {
-    u64_of_u32(x) < too_large(size)
+    u64::from(x) < too_large(size)
 }
 
 pub fn is_trigger_size(size: u8) -> bool
     ensures { result ≡ is_in size (1 ∷ 2 ∷ 4 ∷ []) }
 {
-    if size == 1 {
-        return true;
-    }
-    if size == 2 {
-        return true;
-    }
-    if size == 4 {
-        return true;
-    }
-    false
+    matches!(size, 1 | 2 | 4)
 }
 
 fn is_size_sound(mode: u8, size: u8) -> bool
     ensures { result ≡ size_sound mode size }
 {
     if mode == 0 {
-        return size == 0;
+        size == 0
+    } else {
+        is_trigger_size(size)
     }
-    is_trigger_size(size)
 }
 
-pub fn is_trigger_sound(mode: u8, size: u8, sign: u8, address: u32, threshold: u32) -> bool
-    ensures { result ≡ trigger_sound mode size sign address threshold }
+// A trigger of any numbers may come.
+pub fn is_trigger_sound(trigger: Trigger) -> bool
+    ensures { result ≡ trigger_sound trigger.mode trigger.size trigger.sign trigger.address trigger.threshold }
 {
-    if mode > 2 {
-        return false;
-    }
-    if !is_size_sound(mode, size) {
-        return false;
-    }
-    if sign > 1 {
-        return false;
-    }
-    let bytes = usize_of_u8(size);
-    if !may_be_recorded(address, bytes) {
-        return false;
-    }
-    does_fit(bytes, threshold)
+    let bytes = usize::from(trigger.size);
+    trigger.mode <= 2
+        && is_size_sound(trigger.mode, trigger.size)
+        && trigger.sign <= 1
+        && may_be_recorded(trigger.address, bytes)
+        && does_fit(bytes, trigger.threshold)
 }

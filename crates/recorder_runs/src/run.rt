@@ -27,23 +27,25 @@ pub struct Run {
 
 impl Run {
     // Every field is set, so that nothing of the run before is left.
-    pub fn prepared(mut self) -> Run
+    pub fn prepared(self) -> Run
         ensures { result ≡ run_kept prepared }
     {
-        self.running = 0;
-        self.full = 0;
-        self.watch = UNPRIMED;
-        self.wait = 0;
-        self.place = 0;
-        self.value = 0;
-        self
+        Run {
+            running: 0,
+            full: 0,
+            watch: UNPRIMED,
+            wait: 0,
+            place: 0,
+            value: 0,
+        }
     }
 
     pub fn restarted(self) -> Run
         ensures { result ≡ run_kept started }
     {
-        let mut run = self.prepared();
-        run.running = 1;
-        run
+        Run {
+            running: 1,
+            ..self.prepared()
+        }
     }
 }

@@ -8,9 +8,7 @@ ghost use Rattle.recorder_plans.specs.Bounds.{plan_sound};
 ghost use Rattle.recorder_runs.specs.Bounds.{run_sound, Looking};
 
 use crate::run::{PREVIOUS, Run, TRIGGERED, UNPRIMED};
-use bytes_widths::{u32_of_u16, usize_of_u8};
 use recorder_plans::Plan;
-use recorder_triggers::{comes, is_beyond};
 
 impl Run {
     fn next_place(mut self, samples: u16) -> Run
@@ -20,9 +18,9 @@ impl Run {
         if self.place + 1 == samples {
             self.place = 0;
             self.full = 1;
-            return self;
+        } else {
+            self.place += 1;
         }
-        self.place += 1;
         self
     }
 
@@ -44,7 +42,6 @@ impl Run {
         self.value = left;
         if left == 0 {
             self.running = 0;
-            return self;
         }
         self
     }
@@ -54,18 +51,12 @@ impl Run {
         requires { Looking plan self value × (self.watch ≡ 2 → ⊥) }
         ensures { result ≡ comes (trigger_of plan) (watch_of self.watch self.value) value }
     {
-        let size = usize_of_u8(plan.size);
+        let trigger = plan.trigger();
         if self.watch == UNPRIMED {
-            return is_beyond(plan.mode, plan.sign, size, plan.threshold, value);
+            trigger.is_beyond(value)
+        } else {
+            trigger.comes(self.value, value)
         }
-        comes(
-            plan.mode,
-            plan.sign,
-            size,
-            plan.threshold,
-            self.value,
-            value,
-        )
     }
 
     // The trigger variable held `value` at the set just taken.
@@ -74,12 +65,12 @@ impl Run {
         ensures { result ≡ watching self (watched (plan_of plan) (watch_of self.watch self.value) value) }
     {
         if self.watch == TRIGGERED {
-            return self.counting(self.value - 1);
+            self.counting(self.value - 1)
+        } else if self.does_come(plan, value) {
+            self.counting(u32::from(plan.post_trigger))
+        } else {
+            self.primed(value)
         }
-        if self.does_come(plan, value) {
-            return self.counting(u32_of_u16(plan.post_trigger));
-        }
-        self.primed(value)
     }
 
     // A set is taken, at which the trigger variable held `value`. The tick, which calls this, has a state within its bounds.

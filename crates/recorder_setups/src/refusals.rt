@@ -4,11 +4,13 @@ ghost use Rattle.document.specs.Numbers.{is_in};
 ghost use Rattle.document.specs.Areas.{may_be_recorded};
 ghost use Rattle.document.specs.Variables.{length_given};
 ghost use Rattle.document.specs.Plan.{head_width, variables_part, recorder_layout_wrong};
+ghost use Rattle.codes_table.specs.Statuses.{outcome_number};
 ghost use Rattle.recorder_setups.specs.Setup.{seen_size_wrong, seen_range_wrong, body_status};
 
 use crate::fields::head_width;
 use bytes_fields::word_at;
 use bytes_widths::{usize_of_u8, usize_of_u16};
+use codes_table::Status;
 use memory_ranges::{BUFFER_SIZE, RECORDED_END, may_be_recorded, number_at};
 use recorder_plans::is_trigger_size;
 use variables_definitions::address_width;
@@ -97,22 +99,22 @@ fn is_range_wrong(ex: bool, body: &[u8], seen: Surveyed) -> bool
 }
 
 // Any data part will do.
-pub fn setup_status(ex: bool, body: &[u8]) -> u8
-    ensures { result ≡ body_status ex body.now }
+pub fn setup_status(ex: bool, body: &[u8]) -> Result<(), Status>
+    ensures { outcome_number result ≡ body_status ex body.now }
 {
     if is_layout_wrong(ex, body) {
-        return codes_table::LAYOUT_WRONG;
+        return Err(Status::LayoutWrong);
     }
     let head = head_width(ex);
     if is_count_wrong(body[head]) {
-        return codes_table::SIZE_WRONG;
+        return Err(Status::SizeWrong);
     }
     let seen = survey(&body[head..], ex, RECORDED_END);
     if is_size_wrong(ex, body, seen) {
-        return codes_table::SIZE_WRONG;
+        return Err(Status::SizeWrong);
     }
     if is_range_wrong(ex, body, seen) {
-        return codes_table::RANGE_WRONG;
+        return Err(Status::RangeWrong);
     }
-    codes_table::DONE
+    Ok(())
 }

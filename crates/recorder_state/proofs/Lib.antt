@@ -1,6 +1,5 @@
 -- The laws and theorems, lowest first.
 pub mod Readings
-pub mod Settled
 pub mod Keeps
 pub mod Meanings
 pub mod Answers

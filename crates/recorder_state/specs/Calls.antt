@@ -1,13 +1,15 @@
--- What the recorder's calls promise: each its status, and the whole state that it hands back.
-use Rattle.std.specs.Prelude.{◌≡◌, cond, ℕ, eqb}
+-- What the recorder's calls promise: each its status, and the whole state that it leaves.
+use Rattle.std.specs.Prelude.{◌≡◌, ⊤, cond, ℕ, eqb}
+use Rattle.std.specs.declared.result.Result.{Result}
+use Rattle.std.specs.declared.result.Result.TheVariants.{Ok, Err}
 use Rattle.document.specs.Numbers.{done, recorder_runs, recorder_stopped, busy, not_set_up}
 use Rattle.document.specs.Run.{started, start_index}
 use Rattle.document.specs.Recorder.{Recorder, recorder_absent, is_running}
 use Rattle.document.specs.Recorder.Recorder.{absent, planned}
+use Rattle.codes_table.specs.declared.statuses.Status.{Status}
+use Rattle.codes_table.specs.Statuses.{status_number, outcome_number}
 use Rattle.recorder_runs.specs.State.{halted_run}
 use Rattle.recorder_state.specs.declared.state.Recorder.{Recorder as RecorderState}
-use Rattle.recorder_state.specs.declared.calls.Answered.{Answered}
-use Rattle.recorder_state.specs.declared.calls.Queried.{Queried}
 use Rattle.recorder_state.specs.State.{recorder_of, with_run}
 
 -- "start, stop, status or buffer query with no accepted recorder setup since reset", before all else
@@ -23,9 +25,9 @@ start_status r = or_not_set_up r (cond (is_running r) recorder_runs done)
 abbrev pub started_state : RecorderState → RecorderState
 started_state r = cond (eqb (start_status (recorder_of r)) done) (with_run r started) r
 
-pub record StartSettled (self : RecorderState) (answer : Answered) : Type 0 where
-  pub status : answer.status ≡ start_status (recorder_of self)
-  pub next : answer.next ≡ started_state self
+pub record StartSettled (old : RecorderState) (outcome : Result ⊤ Status) (new : RecorderState) : Type 0 where
+  pub status : outcome_number outcome ≡ start_status (recorder_of old)
+  pub next : new ≡ started_state old
 
 -- ---- stop
 
@@ -37,9 +39,9 @@ abbrev pub halted_state : RecorderState → RecorderState
 halted_state r =
     cond (eqb (stop_status (recorder_of r)) done) (record { ready = r.ready; plan = r.plan; run = halted_run r.run }) r
 
-pub record StopSettled (self : RecorderState) (answer : Answered) : Type 0 where
-  pub status : answer.status ≡ stop_status (recorder_of self)
-  pub next : answer.next ≡ halted_state self
+pub record StopSettled (old : RecorderState) (outcome : Result ⊤ Status) (new : RecorderState) : Type 0 where
+  pub status : outcome_number outcome ≡ stop_status (recorder_of old)
+  pub next : new ≡ halted_state old
 
 -- ---- status and buffer query
 
@@ -56,7 +58,16 @@ abbrev pub index_of : Recorder → ℕ
 index_of absent = 0
 index_of (planned p r) = start_index r
 
+-- the status of an answered query, and its index, 0 where there is none
+abbrev pub asked_number : Result ℕ Status → ℕ
+asked_number (Ok _) = done
+asked_number (Err status) = status_number status
+
+abbrev pub asked_index : Result ℕ Status → ℕ
+asked_index (Ok index) = index
+asked_index (Err _) = 0
+
 -- "buffer address 12,288 and start index": the index, 0 where the query is refused
-pub record QuerySettled (self : RecorderState) (answer : Queried) : Type 0 where
-  pub status : answer.status ≡ query_status (recorder_of self)
-  pub index : answer.index ≡ cond (eqb (query_status (recorder_of self)) done) (index_of (recorder_of self)) 0
+pub record QuerySettled (self : RecorderState) (answer : Result ℕ Status) : Type 0 where
+  pub status : asked_number answer ≡ query_status (recorder_of self)
+  pub index : asked_index answer ≡ cond (eqb (query_status (recorder_of self)) done) (index_of (recorder_of self)) 0

@@ -5,6 +5,5 @@ mod calls;
 mod preparing;
 mod state;
 
-pub use calls::{Answered, Queried};
 pub use preparing::prepare_status;
 pub use state::Recorder;

@@ -4,4 +4,4 @@
 mod edges;
 mod signed;
 
-pub use edges::{comes, is_beyond};
+pub use edges::Trigger;

@@ -2,8 +2,6 @@
 ghost use Rattle.std.specs.Prelude.{◌≡◌, ◌-◌, ◌*◌, ◌^◌, ◌≤◌, ◌<◌};
 ghost use Rattle.document.specs.Values.{twos_complement, signed_value};
 
-use bytes_widths::u64_of_u32;
-
 // The first number of `size` bytes whose top bit is set.
 fn half(size: usize) -> u64
     requires { (1 ≤ size) × (size ≤ 4) }
@@ -30,7 +28,7 @@ pub(crate) fn signed_value(sign: u8, size: usize, x: u32) -> i64
     ensures { result ≡ signed_value sign size x }
 {
     if sign == 1 {
-        return twos_complement(size, u64_of_u32(x));
+        return twos_complement(size, u64::from(x));
     }
-    x as i64
+    i64::from(x)
 }

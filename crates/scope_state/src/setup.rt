@@ -1,23 +1,26 @@
 // The scope's setup: the first refusal that applies.
 ghost use Rattle.std.specs.Prelude.{◌≡◌};
+ghost use Rattle.codes_table.specs.Statuses.{outcome_number};
 ghost use Rattle.scope_state.specs.Setup.{set_up_status};
 
+use codes_table::Status;
+
 // Any data part will do.
-pub fn set_up_status(ex: bool, body: &[u8]) -> u8
-    ensures { result ≡ set_up_status ex body.now }
+pub fn set_up_status(ex: bool, body: &[u8]) -> Result<(), Status>
+    ensures { outcome_number result ≡ set_up_status ex body.now }
 {
     if !variables_surveys::is_whole(body, ex) {
-        return codes_table::LAYOUT_WRONG;
+        return Err(Status::LayoutWrong);
     }
     if variables_list::is_count_wrong(body[0]) {
-        return codes_table::SIZE_WRONG;
+        return Err(Status::SizeWrong);
     }
     let seen = variables_surveys::survey(body, ex, memory_ranges::MEMORY_END);
     if seen.zero {
-        return codes_table::SIZE_WRONG;
+        return Err(Status::SizeWrong);
     }
     if !seen.within {
-        return codes_table::RANGE_WRONG;
+        return Err(Status::RangeWrong);
     }
-    codes_table::DONE
+    Ok(())
 }

@@ -8,6 +8,7 @@ ghost use Rattle.document.specs.Commands.{served};
 ghost use Rattle.document.specs.declared.Operation.TheVariants.{SendCommand, CommandResult};
 ghost use Rattle.document.specs.declared.Service.{Service};
 ghost use Rattle.document_outcomes.specs.Known.{known_as};
+ghost use Rattle.codes_table.specs.Statuses.{outcome_number};
 ghost use Rattle.line_wire.specs.Told.{Told};
 ghost use Rattle.application_state.specs.State.{application_of};
 ghost use Rattle.state_parts.specs.State.{gate_of};
@@ -18,23 +19,23 @@ ghost use Rattle.serve_recorder.specs.Operates.{Settles};
 
 use application_block::{is_pending, send};
 use application_state::{NO_COMMAND, NO_RESULT, NONE};
-use codes_table::{BUSY, DONE, LAYOUT_WRONG};
+use codes_table::Status;
 use serve_answers::done_with;
 use state_block::{APPLICATION, BODY, RESULT};
 
 // The message's data stand in the block, up to a place. What is refused stores nothing.
-pub fn send_command(state: &mut [u8], to: usize) -> u8
+pub fn send_command(state: &mut [u8], to: usize) -> Result<(), Status>
     requires { (state_length ≤ length state.old) × (body_place ≤ to) × (to ≤ scope_place) }
-    ensures { (memory : List ℕ) (s : Service) → Settles (served (gate_of (decoded_instruments state.old) memory) (known_as SendCommand s) (data_to state.old to)) (instruments_after SendCommand (decoded_instruments state.old) s (data_to state.old to)) state.old result state.new memory }
+    ensures { (memory : List ℕ) (s : Service) → Settles (served (gate_of (decoded_instruments state.old) memory) (known_as SendCommand s) (data_to state.old to)) (instruments_after SendCommand (decoded_instruments state.old) s (data_to state.old to)) state.old (outcome_number result) state.new memory }
 {
     if is_pending(state) {
-        return BUSY;
+        return Err(Status::Busy);
     }
     if to == BODY {
-        return LAYOUT_WRONG;
+        return Err(Status::LayoutWrong);
     }
     send(state, to);
-    DONE
+    Ok(())
 }
 
 // One byte: whether there was a command, whether its result is in, or the result.

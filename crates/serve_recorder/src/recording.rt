@@ -7,9 +7,10 @@ ghost use Rattle.document.specs.Values.{little_endian};
 ghost use Rattle.document.specs.Variables.{address_width};
 ghost use Rattle.document.specs.Recorder.{is_running};
 ghost use Rattle.document.specs.Commands.{served};
-ghost use Rattle.document.specs.declared.Operation.TheVariants.{PrepareAndStart, Start, Stop, Status, QueryBuffer};
+ghost use Rattle.document.specs.declared.Operation.TheVariants.{PrepareAndStart, Start, Stop, Status as StatusAsked, QueryBuffer};
 ghost use Rattle.document.specs.declared.Service.{Service};
 ghost use Rattle.document_outcomes.specs.Known.{known_as};
+ghost use Rattle.codes_table.specs.Statuses.{status_number, outcome_number};
 ghost use Rattle.line_wire.specs.Told.{Told};
 ghost use Rattle.recorder_state.specs.State.{recorder_of};
 ghost use Rattle.recorder_state.specs.Preparing.{prepare_status, prepared_state};
@@ -19,7 +20,7 @@ ghost use Rattle.state_block.specs.Places.{body_place, scope_place, state_length
 ghost use Rattle.state_block.specs.Layout.{data_to, decoded_recorder, decoded_instruments, encoded_instruments};
 ghost use Rattle.serve_recorder.specs.Operates.{status_alone, Settles};
 
-use codes_table::DONE;
+use codes_table::Status;
 use document::Service;
 use memory_ranges::BUFFER_BEGIN;
 use recorder_state::prepare_status;
@@ -28,54 +29,48 @@ use state_block::{BODY, put_run, recorder_in, recorder_runs};
 use state_setups::store_prepared;
 
 // The message's data stand in the block, up to a place. What is refused stores nothing.
-fn prepare(state: &mut [u8], ex: bool, to: usize) -> u8
+fn prepare(state: &mut [u8], ex: bool, to: usize) -> Result<(), Status>
     requires { (state_length ≤ length state.old) × (body_place ≤ to) × (to ≤ scope_place) }
-    ensures { (result ≡ prepare_status (is_running (recorder_of (decoded_recorder state.old))) ex (data_to state.old to)) × (state.new ≡ cond (eqb result done) (sets state.old scope_place (encoded_instruments (with_recorder (decoded_instruments state.old) (prepared_state ex (data_to state.old to))))) state.old) }
+    ensures { (outcome_number result ≡ prepare_status (is_running (recorder_of (decoded_recorder state.old))) ex (data_to state.old to)) × (state.new ≡ cond (eqb (outcome_number result) done) (sets state.old scope_place (encoded_instruments (with_recorder (decoded_instruments state.old) (prepared_state ex (data_to state.old to))))) state.old) }
 {
-    let status = prepare_status(recorder_runs(state), ex, &state[BODY..to]);
-    if status != DONE {
-        return status;
-    }
+    prepare_status(recorder_runs(state), ex, &state[BODY..to])?;
     store_prepared(state, ex, to);
-    DONE
+    Ok(())
 }
 
 // The two in a row.
-pub fn prepare_and_start(state: &mut [u8], service: Service, to: usize) -> u8
+pub fn prepare_and_start(state: &mut [u8], service: Service, to: usize) -> Result<(), Status>
     requires { (state_length ≤ length state.old) × (body_place ≤ to) × (to ≤ scope_place) }
-    ensures { (memory : List ℕ) → Settles (served (gate_of (decoded_instruments state.old) memory) (known_as PrepareAndStart service) (data_to state.old to)) (instruments_after PrepareAndStart (decoded_instruments state.old) service (data_to state.old to)) state.old result state.new memory }
+    ensures { (memory : List ℕ) → Settles (served (gate_of (decoded_instruments state.old) memory) (known_as PrepareAndStart service) (data_to state.old to)) (instruments_after PrepareAndStart (decoded_instruments state.old) service (data_to state.old to)) state.old (outcome_number result) state.new memory }
 {
-    let status = prepare(state, service.ex, to);
-    if status != DONE {
-        return status;
-    }
+    prepare(state, service.ex, to)?;
     start(state)
 }
 
 // A start and a stop leave the plan as it is.
-pub fn start(state: &mut [u8]) -> u8
+pub fn start(state: &mut [u8]) -> Result<(), Status>
     requires { state_length ≤ length state.old }
-    ensures { (memory : List ℕ) (s : Service) (body : List ℕ) → Settles (served (gate_of (decoded_instruments state.old) memory) (known_as Start s) body) (instruments_after Start (decoded_instruments state.old) s body) state.old result state.new memory }
+    ensures { (memory : List ℕ) (s : Service) (body : List ℕ) → Settles (served (gate_of (decoded_instruments state.old) memory) (known_as Start s) body) (instruments_after Start (decoded_instruments state.old) s body) state.old (outcome_number result) state.new memory }
 {
-    let started = recorder_in(state).start();
-    let next = started.next;
-    put_run(state, next.run);
-    started.status
+    let mut recorder = recorder_in(state);
+    recorder.start()?;
+    put_run(state, recorder.run);
+    Ok(())
 }
 
-pub fn stop(state: &mut [u8]) -> u8
+pub fn stop(state: &mut [u8]) -> Result<(), Status>
     requires { state_length ≤ length state.old }
-    ensures { (memory : List ℕ) (s : Service) (body : List ℕ) → Settles (served (gate_of (decoded_instruments state.old) memory) (known_as Stop s) body) (instruments_after Stop (decoded_instruments state.old) s body) state.old result state.new memory }
+    ensures { (memory : List ℕ) (s : Service) (body : List ℕ) → Settles (served (gate_of (decoded_instruments state.old) memory) (known_as Stop s) body) (instruments_after Stop (decoded_instruments state.old) s body) state.old (outcome_number result) state.new memory }
 {
-    let stopped = recorder_in(state).stop();
-    let next = stopped.next;
-    put_run(state, next.run);
-    stopped.status
+    let mut recorder = recorder_in(state);
+    recorder.stop()?;
+    put_run(state, recorder.run);
+    Ok(())
 }
 
-pub fn status(state: &[u8]) -> u8
+pub fn status(state: &[u8]) -> Status
     requires { state_length ≤ length state.now }
-    ensures { (memory : List ℕ) (s : Service) (body : List ℕ) → status_alone result ≡ (served (gate_of (decoded_instruments state.now) memory) (known_as Status s) body).answer }
+    ensures { (memory : List ℕ) (s : Service) (body : List ℕ) → status_alone (status_number result) ≡ (served (gate_of (decoded_instruments state.now) memory) (known_as StatusAsked s) body).answer }
 {
     recorder_in(state).status()
 }
@@ -84,11 +79,10 @@ pub fn query_buffer(state: &[u8], service: Service, out: &mut [u8]) -> usize
     requires { (state_length ≤ length state.now) × (answer_room ≤ length out.old) }
     ensures { (memory : List ℕ) (body : List ℕ) → Told (served (gate_of (decoded_instruments state.now) memory) (known_as QueryBuffer service) body).answer out.old result out.new }
 {
-    let queried = recorder_in(state).query();
-    if queried.status != DONE {
-        return status_alone(queried.status, out);
+    match recorder_in(state).query() {
+        Ok(index) => buffer_from(service.ex, index, out),
+        Err(status) => status_alone(u8::from(status), out),
     }
-    buffer_from(service.ex, queried.index, out)
 }
 
 // Where the buffer begins, in two words or one, and the index of its oldest set.

@@ -1,22 +1,21 @@
 -- Reading definitions: a turn takes the next one, which begins where the one before it ended.
-use mathlib.Core.Path.{◌≡◌, refl, sym, ap}
-use mathlib.Core.Bool.{Bool, true, false}
+use mathlib.Core.Path.{◌≡◌, refl, ap}
+use mathlib.Core.Bool.{Bool, true}
 use mathlib.Core.List.{List, ◌∷◌}
 use Prim.Native.Nat.{ℕ, zero, suc, ◌+◌, ◌-◌, ◌*◌, ◌<◌, ◌≤◌}
 use native.Mathlib.Nat.{suc-mul, mul-le-mul_right, add-zero}
 use native.Mathlib.Numerals.{add-one}
 use native.Mathlib.Omega.{arith}
-use lib.Dec.{ltb}
 use lib.ListN.{length, get_or, drop}
 use lib.Seq.{drop-drop, get_or-drop, sets-eq, take-append_seam}
-use borrow.Author.Tests.{le-leb, lt-leb, ltb-true, ltb-false}
+use borrow.Author.Tests.{le-leb}
 use Rattle.document.specs.declared.Variable.{Variable}
 use Rattle.document.specs.Areas.{bytes_at}
 use Rattle.document.specs.Values.{number}
-use Rattle.document.specs.Variables.{address_width, definition_width, definitions_in}
-use Rattle.variables_definitions.specs.declared.reader.Definition.TheVariants.{Found}
+use Rattle.document.specs.Variables.{address_width, definition_width, definition_in, definitions_in}
+use Rattle.std.proofs.Common.{Some}
 use Rattle.variables_list.specs.State.{variables_of, no_variables, kept}
-use Rattle.variables_definitions.specs.Parts.{is_there, definition_at, place_behind, variable_of}
+use Rattle.variables_definitions.specs.Parts.{is_there, definition_at, place_behind}
 
 module _ (part : List ℕ) (ex : Bool) (at k count : ℕ) (h : k < count) (place : at ≡ 1 + k * definition_width ex) (whole : 1 + count * definition_width ex ≤ length part) where
   next_place : at + definition_width ex ≡ 1 + (k + 1) * definition_width ex
@@ -29,25 +28,21 @@ module _ (part : List ℕ) (ex : Bool) (at k count : ℕ) (h : k < count) (place
   pub place_next : place_behind ex part at ≡ 1 + (k + 1) * definition_width ex
   place_next = rw there next_place
 
-  -- what is found there is the first of those that are left
+  -- a definition is there
+  pub found_there : definition_at ex part at ≡ Some (definition_in ex (drop at part))
+  found_there = rw there
+
+  -- it is the first of those that are left
   pub found_next : definitions_in ex (count - k) (drop at part)
-      ≡ variable_of (definition_at ex part at) ∷ definitions_in ex (count - (k + 1)) (drop (place_behind ex part at) part)
+      ≡ definition_in ex (drop at part) ∷ definitions_in ex (count - (k + 1)) (drop (place_behind ex part at) part)
   found_next =
       let m : count - k ≡ suc (count - (k + 1)) = omega arith in
       rw (there, m, drop-drop (definition_width ex) at part)
 
--- the code's test, behind the one that the place lies in the part, is that of the document
-pub there_by_test : (part : List ℕ) (ex : Bool) (at width : ℕ) → width ≡ address_width ex → at < length part → ltb width (length part - at) ≡ is_there ex part at
-there_by_test part ex at width e h = by_test (ltb width (length part - at)) refl
-  where
-    by_test : (t : Bool) → ltb width (length part - at) ≡ t → t ≡ is_there ex part at
-    by_test true f = sym (le-leb (at + definition_width ex) (length part) (omega (arith, ltb-true width (length part - at) f)))
-    by_test false f = sym (lt-leb (at + definition_width ex) (length part) (omega (arith, ltb-false width (length part - at) f)))
-
 -- what the code makes of the bytes at a place is the definition there
 pub found_at : (part : List ℕ) (ex : Bool) (at width address : ℕ) → width ≡ address_width ex → is_there ex part at ≡ true
     → address ≡ number (bytes_at part (at + 1) width)
-    → Found (record { address = address; size = get_or part at 0 }) ≡ definition_at ex part at
+    → Some (record { address = address; size = get_or part at 0 }) ≡ definition_at ex part at
 found_at part ex at width address ew is-there ea =
     rw (ea, ew, is-there, get_or-drop at part 0 0, add-zero at, drop-drop 1 at part)
 

@@ -3,4 +3,4 @@
 
 mod reader;
 
-pub use reader::{Definition, Reader, address_width, variable_of};
+pub use reader::{Reader, address_width};

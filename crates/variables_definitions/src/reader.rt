@@ -1,14 +1,9 @@
 // The small reader: a data part, and the place where the next definition begins.
 ghost use Rattle.std.specs.Prelude.{◌≡◌, ◌≤◌};
 ghost use Rattle.document.specs.Variables.{address_width};
-ghost use Rattle.variables_definitions.specs.Parts.{is_there, definition_at, place_behind, moved_behind, variable_of};
+ghost use Rattle.variables_definitions.specs.Parts.{is_there, definition_at, place_behind, moved_behind};
 
-// What stands at a place of a part: a definition, or too few bytes.
-#[derive(Clone, Copy)]
-pub enum Definition {
-    Found(document::Variable),
-    Short,
-}
+use document::Variable;
 
 // An address takes so many bytes, here and wherever else a message holds one.
 pub fn address_width(ex: bool) -> usize
@@ -20,21 +15,18 @@ pub fn address_width(ex: bool) -> usize
 fn is_there(part: &[u8], at: usize, ex: bool) -> bool
     ensures { result ≡ is_there ex part.now at }
 {
-    if part.len() <= at {
-        return false;
-    }
-    part.len() - at > address_width(ex)
+    part.len().saturating_sub(at) > address_width(ex)
 }
 
-fn definition_at(part: &[u8], at: usize, ex: bool) -> Definition
+// A definition, or nothing where too few bytes are left.
+fn definition_at(part: &[u8], at: usize, ex: bool) -> Option<Variable>
     ensures { result ≡ definition_at ex part.now at }
 {
     if !is_there(part, at, ex) {
-        return Definition::Short;
+        return None;
     }
-    let address = memory_ranges::number_at(part, at + 1, address_width(ex));
-    Definition::Found(document::Variable {
-        address,
+    Some(Variable {
+        address: memory_ranges::number_at(part, at + 1, address_width(ex)),
         size: part[at],
     })
 }
@@ -57,24 +49,11 @@ pub struct Reader<'a> {
 
 impl<'a> Reader<'a> {
     // Each definition begins where the one before it ended: the reader moves behind the one that it gives.
-    pub fn next(&mut self, ex: bool) -> Definition
+    pub fn next(&mut self, ex: bool) -> Option<Variable>
         ensures { (result ≡ definition_at ex self.old.part.now self.old.at) × (self.new ≡ moved_behind ex self.old) }
     {
         let found = definition_at(self.part, self.at, ex);
         self.at = place_behind(self.part, self.at, ex);
         found
-    }
-}
-
-// What was found, or where nothing was, a variable of no bytes.
-pub fn variable_of(found: Definition) -> document::Variable
-    ensures { result ≡ variable_of found }
-{
-    match found {
-        Definition::Found(variable) => variable,
-        Definition::Short => document::Variable {
-            address: 0,
-            size: 0,
-        },
     }
 }

@@ -1,12 +1,12 @@
 -- A set into its place: turns of the copy, which reads below the place and writes in it.
 use mathlib.Core.Path.{◌≡◌, sym, ap, ◌∙◌}
 use mathlib.Core.Bool.{Bool, true}
-use mathlib.Core.List.{List, ◌∷◌, ◌++◌}
+use mathlib.Core.List.{List, ◌∷◌}
 use Prim.Native.Nat.{ℕ, ◌+◌, ◌-◌, ◌<◌, ◌≤◌}
 use native.Mathlib.Numerals.{add-one}
 use native.Mathlib.Omega.{arith}
-use lib.ListN.{length, get_or, set, take, drop, length-set, take-append-drop}
-use lib.Seq.{drop-cons, drop-set-add, drop-set-lt, get_or-drop, get_or-take, take-set-le, take-set-lt}
+use lib.ListN.{length, get_or, set, take, drop, length-set}
+use lib.Seq.{drop-cons, get_or-drop, get_or-take, take-set-le}
 use Rattle.document.specs.Areas.{bytes_at}
 use Rattle.document.specs.Values.{number}
 use Rattle.document.specs.Stores.{stored}
@@ -19,30 +19,22 @@ use Rattle.bytes_fields.proofs.Definitions.{definitions_first}
 
 -- ---- one byte
 
--- a store in a part that comes back is a store in the whole
-pub part_set : (memory : List ℕ) (at k j b : ℕ) → j < k
-    → take at memory ++ (set (take k (drop at memory)) j b ++ drop k (drop at memory)) ≡ set memory (at + j) b
-part_set m a k j b h =
-    rw (← take-set-le a m (a + j) b (omega arith), ← take-set-lt k (drop a m) j b h, ← drop-set-lt k (drop a m) j b h, ← drop-set-add a m j b)
-    (ap (λ (r : List ℕ). take a (set m (a + j) b) ++ r) (take-append-drop k (drop a (set m (a + j) b))) ∙ take-append-drop a (set m (a + j) b))
-
 byte_next : (m₀ m : List ℕ) (from size i o b : ℕ) → i < size → from + size ≤ length m₀ → b ≡ get_or m₀ (from + i) 0
     → stored (set m o b) (o + 1) (drop (i + 1) (bytes_at m₀ from size)) ≡ stored m o (drop i (bytes_at m₀ from size))
 byte_next m₀ m from size i o b h r e =
     let l : i < length (bytes_at m₀ from size) = rw (bytes_length m₀ from size r) h in
     rw (add-one i, add-one o, e, drop-cons (bytes_at m₀ from size) i 0 l, get_or-take size (drop from m₀) i 0 h, get_or-drop from m₀ i 0)
 
-module _ (m₀ m m' : List ℕ) (at done from size i b : ℕ) (h : i < size) (below : from + size ≤ at) (fits : at ≤ length m₀) where
-  pub byte_kept : m' ≡ set m (at + (done + i)) b → b ≡ get_or m (from + i) 0 → take at m ≡ take at m₀
+module _ (m₀ m m' : List ℕ) (at from size i b : ℕ) (h : i < size) (below : from + size ≤ at) (fits : at ≤ length m₀) where
+  pub byte_kept : m' ≡ set m (at + i) b → b ≡ get_or m (from + i) 0 → take at m ≡ take at m₀
       → (length m' ≡ length m)
       × (take at m' ≡ take at m₀)
-      × (stored m' (at + done + (i + 1)) (drop (i + 1) (bytes_at m₀ from size)) ≡ stored m (at + done + i) (drop i (bytes_at m₀ from size)))
+      × (stored m' (at + (i + 1)) (drop (i + 1) (bytes_at m₀ from size)) ≡ stored m (at + i) (drop i (bytes_at m₀ from size)))
   byte_kept e eb t =
-      let o : at + (done + i) ≡ at + done + i = omega arith in
-      let p : at + done + (i + 1) ≡ at + done + i + 1 = omega arith in (
-        ap length e ∙ length-set m (at + (done + i)) b,
-        ap (take at) e ∙ take-set-le at m (at + (done + i)) b (omega arith) ∙ t,
-        rw (e, o, p) (byte_next m₀ m from size i (at + done + i) b h (omega arith) (eb ∙ byte_agree m m₀ at (from + i) t (omega arith))),
+      let p : at + (i + 1) ≡ at + i + 1 = omega arith in (
+        ap length e ∙ length-set m (at + i) b,
+        ap (take at) e ∙ take-set-le at m (at + i) b (omega arith) ∙ t,
+        rw (e, p) (byte_next m₀ m from size i (at + i) b h (omega arith) (eb ∙ byte_agree m m₀ at (from + i) t (omega arith))),
       )
 
 -- ---- one variable

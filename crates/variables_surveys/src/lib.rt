@@ -3,12 +3,12 @@
 
 ghost use Rattle.std.specs.Prelude.{◌≡◌, true, ◌+◌, ◌*◌, ◌≤◌, length, drop};
 ghost use Rattle.document.specs.Variables.{definition_width, definitions_in, count_in, variables_in};
-ghost use Rattle.variables_definitions.specs.Parts.{variable_of, is_whole};
+ghost use Rattle.variables_definitions.specs.Parts.{is_whole};
 ghost use Rattle.variables_surveys.specs.Survey.{looked_at, surveyed};
 
-use bytes_widths::usize_of_u8;
+use document::Variable;
 use memory_ranges::within;
-use variables_definitions::{Definition, Reader, address_width, variable_of};
+use variables_definitions::{Reader, address_width};
 
 // Whether a size is 0, whether each variable ends at or below a limit, and the sum of the sizes.
 #[derive(Clone, Copy)]
@@ -25,19 +25,18 @@ pub fn is_whole(part: &[u8], ex: bool) -> bool
     if part.len() == 0 {
         return false;
     }
-    part.len() == 1 + usize_of_u8(part[0]) * (1 + address_width(ex))
+    part.len() == 1 + usize::from(part[0]) * (1 + address_width(ex))
 }
 
 // With one definition more. Seven before it add up to no more than 1,785 bytes.
-fn looked_at(before: Surveyed, found: Definition, limit: usize) -> Surveyed
+fn looked_at(before: Surveyed, found: Variable, limit: usize) -> Surveyed
     requires { before.size ≤ 1785 }
-    ensures { (result ≡ looked_at limit before (variable_of found)) × (result.size ≤ before.size + 255) }
+    ensures { (result ≡ looked_at limit before found) × (result.size ≤ before.size + 255) }
 {
-    let v = variable_of(found);
-    let size = usize_of_u8(v.size);
+    let size = usize::from(found.size);
     Surveyed {
         zero: before.zero || size == 0,
-        within: before.within && within(v.address, size, limit),
+        within: before.within && within(found.address, size, limit),
         size: before.size + size,
     }
 }
@@ -53,10 +52,9 @@ fn survey_all(part: &[u8], count: usize, ex: bool, limit: usize) -> Surveyed
         within: true,
         size: 0,
     };
-    let mut k = 0;
-    while k < count {
-        seen = looked_at(seen, reader.next(ex), limit);
-        k += 1;
+    for _ in 0..count {
+        let found = reader.next(ex).unwrap();
+        seen = looked_at(seen, found, limit);
     }
     seen
 }
@@ -66,5 +64,5 @@ pub fn survey(part: &[u8], ex: bool, limit: usize) -> Surveyed
     requires { (is_whole ex part.now ≡ true) × (count_in part.now ≤ 8) }
     ensures { (result ≡ surveyed limit (variables_in ex part.now)) × (result.size ≤ 2040) }
 {
-    survey_all(part, usize_of_u8(part[0]), ex, limit)
+    survey_all(part, usize::from(part[0]), ex, limit)
 }

@@ -1,10 +1,11 @@
 -- What is left to copy gives the whole: one variable a turn; below the place nothing changes.
 use mathlib.Core.Bool.{true}
+use mathlib.Core.List.{List}
 use mathlib.Core.Path.{◌≡◌, refl, ◌∙◌}
-use Prim.Native.Nat.{◌+◌, ◌-◌, ◌<◌, ◌≤◌}
+use Prim.Native.Nat.{ℕ, ◌+◌, ◌-◌, ◌*◌, ◌<◌, ◌≤◌}
 use native.Mathlib.Nat.{add-zero}
 use native.Mathlib.Omega.{arith}
-use lib.ListN.{drop}
+use lib.ListN.{drop, get_or}
 use borrow.Author.Tests.{leb-true}
 use Rattle.document.specs.Areas.{recorded_end, may_be_recorded, bytes_at}
 use Rattle.document.specs.Values.{number}
@@ -15,49 +16,69 @@ use Rattle.variables_sets.proofs.copy_set.Goals as goal
 
 -- ---- a turn that has read its definition
 
-pub loop-left-init : goal.loop-left-init
-loop-left-init c =
-    let pre = c.requires in
-    (omega arith, refl, refl, refl, pre.recordable.may, omega arith, refl, rw add-zero)
+record Turn (block : List ℕ) (from k count done total width address : ℕ) : Type 0 where
+  below : address + width ≤ recorded_end
+  may : all_may may_be_recorded (definitions_in true (count - (k + 1)) (drop (from + (k + 1) * 5) block)) ≡ true
+  sized : done + width + set_size (definitions_in true (count - (k + 1)) (drop (from + (k + 1) * 5) block)) ≡ total
+
+turn : (block : List ℕ) (from k count done total width address : ℕ) → k < count → width ≡ get_or block (from + k * 5) 0
+    → address ≡ number (bytes_at block (from + k * 5 + 1) 4)
+    → all_may may_be_recorded (definitions_in true (count - k) (drop (from + k * 5) block)) ≡ true
+    → done + set_size (definitions_in true (count - k) (drop (from + k * 5) block)) ≡ total
+    → Turn block from k count done total width address
+turn block from k count done total width address h ew ea may sized =
+    let some : 0 < count - k = omega arith in
+    let left : count - (k + 1) ≡ count - k - 1 = omega arith in
+    let behind : from + (k + 1) * 5 ≡ from + k * 5 + 5 = omega arith in
+    let first = may_first block (from + k * 5) (count - k) width address some ew ea may_be_recorded may in
+    record {
+      below = leb-true _ _ first.0;
+      may = rw (left, behind) first.1;
+      sized = rw (left, behind) (omega (arith, size_first block (from + k * 5) (count - k) width address some ew ea, sized));
+    }
+
+pub loop-k-init : goal.loop-k-init
+loop-k-init c =
+    let all : c.args.count - 0 ≡ c.args.count = omega arith in
+    let here : c.args.from + 0 * 5 ≡ c.args.from = omega arith in
+    record {
+      long = refl;
+      below = refl;
+      may = rw (all, here) c.requires.recordable.may;
+      sized = rw (all, here) (omega arith);
+      gives = rw (all, here, add-zero);
+    }
 
 pub copy_variable-requires : goal.copy_variable-requires
 copy_variable-requires c =
-    let some : 0 < c.loop-left.left = omega arith in
-    let defined : (c.usize_of_u32-address.result) ≡ number (bytes_at (c.args.block.now) (c.loop-left.next + 1) 4) = c.usize_of_u32-address.ensures.0 ∙ c.long_at.ensures in
-    let may : (may_be_recorded (c.usize_of_u32-address.result) (c.usize_of_u8-width.result) ≡ true) × (all_may may_be_recorded (definitions_in true (c.loop-left.left - 1) (drop (c.loop-left.next + 5) (c.args.block.now))) ≡ true) = may_first (c.args.block.now) c.loop-left.next c.loop-left.left (c.usize_of_u8-width.result) (c.usize_of_u32-address.result) some c.usize_of_u8-width.ensures.0 defined may_be_recorded c.loop-left.invariant.4 in
-    let below : (c.usize_of_u32-address.result) + (c.usize_of_u8-width.result) ≤ recorded_end = leb-true _ _ may.0 in
-    let more : c.loop-left.done + (c.usize_of_u8-width.result) + set_size (definitions_in true (c.loop-left.left - 1) (drop (c.loop-left.next + 5) (c.args.block.now))) ≡ c.args.size = omega (arith, size_first (c.args.block.now) c.loop-left.next c.loop-left.left (c.usize_of_u8-width.result) (c.usize_of_u32-address.result) some c.usize_of_u8-width.ensures.0 defined, c.loop-left.invariant.5) in
-    (omega (arith, below), omega (arith, more), omega arith)
+    let a = c.args in
+    let l = c.loop-k in
+    let t = turn a.block.now a.from l.k a.count l.done a.size c.from-width.result c.at-address.result (omega arith) c.from-width.ensures c.at-address.ensures l.invariant.may l.invariant.sized in
+    (omega (arith, t.below), omega (arith, t.sized))
 
-pub overflow_add-done : goal.overflow_add-done
-overflow_add-done c =
-    let some : 0 < c.loop-left.left = omega arith in
-    let defined : (c.usize_of_u32-address.result) ≡ number (bytes_at (c.args.block.now) (c.loop-left.next + 1) 4) = c.usize_of_u32-address.ensures.0 ∙ c.long_at.ensures in
-    let more : c.loop-left.done + (c.usize_of_u8-width.result) + set_size (definitions_in true (c.loop-left.left - 1) (drop (c.loop-left.next + 5) (c.args.block.now))) ≡ c.args.size = omega (arith, size_first (c.args.block.now) c.loop-left.next c.loop-left.left (c.usize_of_u8-width.result) (c.usize_of_u32-address.result) some c.usize_of_u8-width.ensures.0 defined, c.loop-left.invariant.5) in
-    record { fits = omega (arith, more) }
-
-pub loop-left-preserved : goal.loop-left-preserved
-loop-left-preserved c =
-    let some : 0 < c.loop-left.left = omega arith in
-    let defined : (c.usize_of_u32-address.result) ≡ number (bytes_at (c.args.block.now) (c.loop-left.next + 1) 4) = c.usize_of_u32-address.ensures.0 ∙ c.long_at.ensures in
-    let may : (may_be_recorded (c.usize_of_u32-address.result) (c.usize_of_u8-width.result) ≡ true) × (all_may may_be_recorded (definitions_in true (c.loop-left.left - 1) (drop (c.loop-left.next + 5) (c.args.block.now))) ≡ true) = may_first (c.args.block.now) c.loop-left.next c.loop-left.left (c.usize_of_u8-width.result) (c.usize_of_u32-address.result) some c.usize_of_u8-width.ensures.0 defined may_be_recorded c.loop-left.invariant.4 in
-    let below : (c.usize_of_u32-address.result) + (c.usize_of_u8-width.result) ≤ recorded_end = leb-true _ _ may.0 in
-    let more : c.loop-left.done + (c.usize_of_u8-width.result) + set_size (definitions_in true (c.loop-left.left - 1) (drop (c.loop-left.next + 5) (c.args.block.now))) ≡ c.args.size = omega (arith, size_first (c.args.block.now) c.loop-left.next c.loop-left.left (c.usize_of_u8-width.result) (c.usize_of_u32-address.result) some c.usize_of_u8-width.ensures.0 defined, c.loop-left.invariant.5) in
-    let l = c.loop-left in
+pub loop-k-preserved : goal.loop-k-preserved
+loop-k-preserved c =
+    let a = c.args in
+    let l = c.loop-k in
     let v = c.copy_variable in
-    let bytes = bytes_at l.memory (c.usize_of_u32-address.result) (c.usize_of_u8-width.result) in (
-      omega arith,
-      omega arith,
-      stored_length l.memory v.new.memory bytes (c.args.at + l.done) v.ensures ∙ l.invariant.2,
-      stored_front l.memory v.new.memory bytes c.args.at (c.args.at + l.done) (omega arith) v.ensures ∙ l.invariant.3,
-      may.1,
-      more,
-      refl,
-      variable_kept c.args.block.now l.next l.left (c.usize_of_u8-width.result) (c.usize_of_u32-address.result) some c.usize_of_u8-width.ensures.0 defined c.args.memory.now l.memory v.new.memory c.args.at l.done (omega (arith, below)) (omega (arith, below)) l.invariant.3 v.ensures ∙ l.invariant.7,
-    )
+    let block = a.block.now in
+    let bytes = bytes_at l.memory c.at-address.result c.from-width.result in
+    let t = turn block a.from l.k a.count l.done a.size c.from-width.result c.at-address.result (omega arith) c.from-width.ensures c.at-address.ensures l.invariant.may l.invariant.sized in
+    let left : a.count - (l.k + 1) ≡ a.count - l.k - 1 = omega arith in
+    let behind : a.from + (l.k + 1) * 5 ≡ a.from + l.k * 5 + 5 = omega arith in
+    record {
+      long = stored_length l.memory v.new.memory bytes (a.at + l.done) v.ensures ∙ l.invariant.long;
+      below = stored_front l.memory v.new.memory bytes a.at (a.at + l.done) (omega arith) v.ensures ∙ l.invariant.below;
+      may = t.may;
+      sized = t.sized;
+      gives =
+          rw (left, behind)
+          (variable_kept block (a.from + l.k * 5) (a.count - l.k) c.from-width.result c.at-address.result (omega arith) c.from-width.ensures c.at-address.ensures a.memory.now l.memory v.new.memory a.at l.done
+          (omega (arith, t.below)) (omega (arith, t.below)) l.invariant.below v.ensures ∙ l.invariant.gives);
+    }
 
 pub returns : goal.returns
 returns c =
-    let l = c.loop-left in
-    let none : l.left ≡ 0 = omega arith in
-    rw none at l.invariant.7
+    let l = c.loop-k in
+    let none : c.args.count - l.k ≡ 0 = omega arith in
+    rw none at l.invariant.gives

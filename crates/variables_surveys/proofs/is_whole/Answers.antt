@@ -14,13 +14,13 @@ returns-then-part-eq0 c =
 
 pub overflow_mul-result : goal.overflow_mul-result
 overflow_mul-result c =
-    let few : c.usize_of_u8.result * (1 + c.address_width.result) ≤ 255 * 5 = mul-le-mul {n₂ = 255} {m₂ = 5} (omega arith) (omega arith) in
+    let few : c.from.result * (1 + c.address_width.result) ≤ 255 * 5 = mul-le-mul {n₂ = 255} {m₂ = 5} (omega arith) (omega arith) in
     record { fits = omega (arith, few) }
 
 pub overflow_add-result-2 : goal.overflow_add-result-2
 overflow_add-result-2 c =
-    let few : c.usize_of_u8.result * (1 + c.address_width.result) ≤ 255 * 5 = mul-le-mul {n₂ = 255} {m₂ = 5} (omega arith) (omega arith) in
+    let few : c.from.result * (1 + c.address_width.result) ≤ 255 * 5 = mul-le-mul {n₂ = 255} {m₂ = 5} (omega arith) (omega arith) in
     record { fits = omega (arith, few) }
 
 pub returns : goal.returns
-returns c = rw (c.usize_of_u8.ensures.0, c.address_width.ensures.0)
+returns c = rw (c.from.ensures, c.address_width.ensures.0)

@@ -17,12 +17,12 @@ pub survey_all-requires : goal.survey_all-requires
 survey_all-requires c =
     let right : length c.args.part.now ≡ length_given c.args.ex c.args.part.now = eqb-true _ _ c.requires.0 in (
       omega (arith, c.requires.1),
-      omega (arith, right, ap (λ (n : ℕ). n * definition_width c.args.ex) c.usize_of_u8.ensures.0),
+      omega (arith, right, ap (λ (n : ℕ). n * definition_width c.args.ex) c.from.ensures),
     )
 
 pub returns : goal.returns
 returns c = (
   c.survey_all.ensures.0
-      ∙ ap (λ (n : ℕ). surveyed c.args.limit (definitions_in c.args.ex n (drop 1 c.args.part.now))) c.usize_of_u8.ensures.0,
+      ∙ ap (λ (n : ℕ). surveyed c.args.limit (definitions_in c.args.ex n (drop 1 c.args.part.now))) c.from.ensures,
   c.survey_all.ensures.1,
 )

@@ -5,16 +5,12 @@ use Rattle.variables_surveys.specs.Survey.{surveyed}
 use Rattle.variables_surveys.proofs.Joined.{joined}
 use Rattle.variables_surveys.proofs.survey_all.Given as goal
 
-abbrev pub invariant-loop-k : goal.invariant-loop-k
-invariant-loop-k l =
+abbrev pub invariant-loop : goal.invariant-loop
+invariant-loop l =
     record {
-      some_left : l.k ≤ l.count;
       part : l.reader.part.now ≡ l.fn.part;
-      place : l.reader.at ≡ 1 + l.k * definition_width l.ex;
-      small : l.seen.size ≤ 255 * l.k;
-      gives : joined l.limit l.seen (definitions_in l.ex (l.count - l.k) (drop l.reader.at l.fn.part))
+      place : l.reader.at ≡ 1 + l.counter * definition_width l.ex;
+      small : l.seen.size ≤ 255 * l.counter;
+      gives : joined l.limit l.seen (definitions_in l.ex (l.count - l.counter) (drop l.reader.at l.fn.part))
           ≡ surveyed l.limit (definitions_in l.ex l.count (drop 1 l.fn.part));
     }
-
-abbrev pub decreases-loop-k : goal.decreases-loop-k
-decreases-loop-k l = l.count - l.k

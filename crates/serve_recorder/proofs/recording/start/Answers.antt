@@ -1,6 +1,7 @@
 -- The recorder says its status, and its run is stored as it is then.
 use mathlib.Core.Path.{refl, ap, ◌∙◌}
 use lib.Seq.{sets}
+use Rattle.std.proofs.lemmas.Result.{err_from_is_err_and}
 use Rattle.document.specs.declared.Operation.TheVariants.{Start}
 use Rattle.recorder_state.specs.declared.state.Recorder.{Recorder}
 use Rattle.recorder_state.specs.State.{recorder_of}
@@ -11,20 +12,31 @@ use Rattle.state_block.specs.Layout.{decoded_recorder, decoded_instruments, enco
 use Rattle.state_block.proofs.Stored.{run_stored}
 use Rattle.serve_recorder.specs.Operates.{status_alone}
 use Rattle.serve_recorder.proofs.Statuses.{recorder_started_lem}
-use Rattle.serve_recorder.proofs.Changing.{settles, started_run}
+use Rattle.serve_recorder.proofs.Changing.{settles, start_refused, started_run}
 use Rattle.serve_recorder.proofs.recording.start.Goals as goal
+
+pub returns-in_err-start : goal.returns-in_err-start
+returns-in_err-start c =
+    let block = c.args.state.now in
+    let refused = err_from_is_err_and c.from_residual.result c.from_residual.ensures.1 in
+    let status = c.in_err-start.ensures.status ∙ ap (λ (q : Recorder). start_status (recorder_of q)) c.recorder_in-recorder.ensures in
+    λ memory s body.
+    rw (refused.1, refused.2)
+    (settles Start refl block memory s body _ _
+    (ap status_alone status ∙ recorder_started_lem (gate_of (decoded_instruments block) memory) s body)
+    (start_refused block c.requires (λ i. (c.slice_known-1.given i).fits) c.in_err-start.field-0.0 status))
 
 pub returns : goal.returns
 returns c =
     let block = c.args.state.now in
-    let is = c.recorder_in.ensures in
-    let status = c.start-started.ensures.status ∙ ap (λ (q : Recorder). start_status (recorder_of q)) is in
-    let next = c.start-started.ensures.next ∙ ap started_state is in
+    let is = c.recorder_in-recorder.ensures in
+    let status = c.in_ok-start.ensures.status ∙ ap (λ (q : Recorder). start_status (recorder_of q)) is in
+    let next = c.in_ok-start.ensures.next ∙ ap started_state is in
     let stored =
     c.put_run.ensures
     ∙ (λ i. sets block run_place (encoded_run (next i).run))
     ∙ run_stored block c.requires (λ i. (c.slice_known-1.given i).fits) (started_state (decoded_recorder block)).run
     ∙ (λ i. sets block scope_place (encoded_instruments (with_recorder (decoded_instruments block) (started_run (decoded_recorder block) i)))) in
     λ memory s body.
-    settles Start refl block memory s body c.start-started.result.status _
+    settles Start refl block memory s body 0 _
     (ap status_alone status ∙ recorder_started_lem (gate_of (decoded_instruments block) memory) s body) stored

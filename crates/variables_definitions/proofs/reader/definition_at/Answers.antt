@@ -20,8 +20,8 @@ overflow_add-at c =
     let fits : let a = c.args in a.at + definition_width a.ex ≤ length a.part.now = leb-true _ _ there in
     record { fits = omega (arith, fits) }
 
-pub number_at-address-requires : goal.number_at-address-requires
-number_at-address-requires c =
+pub number_at-requires : goal.number_at-requires
+number_at-requires c =
     let there : let a = c.args in is_there a.ex a.part.now a.at ≡ true = sym c.is_there.ensures ∙ c.if-not-is_there.false in
     let fits : let a = c.args in a.at + definition_width a.ex ≤ length a.part.now = leb-true _ _ there in
     (search rules, omega (arith, fits, c.address_width.ensures.0))
@@ -36,4 +36,4 @@ pub returns : goal.returns
 returns c =
     let there : let a = c.args in is_there a.ex a.part.now a.at ≡ true = sym c.is_there.ensures ∙ c.if-not-is_there.false in
     let w = c.address_width in
-    found_at c.args.part.now c.args.ex c.args.at w.result c.number_at-address.result w.ensures.0 there c.number_at-address.ensures.value
+    found_at c.args.part.now c.args.ex c.args.at w.result c.number_at.result w.ensures.0 there c.number_at.ensures.value

@@ -33,13 +33,13 @@ returns-then-does_come c =
     awaits p.size p.post_trigger r.running r.watch r.value c.requires.0.watch n in
     let r = c.args.self in
     c.counting-then-does_come.ensures
-    ∙ ap (λ (k : ℕ). watching r (triggered k)) c.u32_of_u16.ensures.0
+    ∙ ap (λ (k : ℕ). watching r (triggered k)) c.from.ensures
     ∙ looked_set (plan_of c.args.plan) r c.args.value true
     (awaited c.if-self-eq-TRIGGERED.false)
     (sym c.if-does_come.true ∙ c.does_come.ensures)
 
-pub returns : goal.returns
-returns c =
+pub returns-else-does_come : goal.returns-else-does_come
+returns-else-does_come c =
     let awaited : (c.args.self.watch ≡ 2 → ⊥) → c.args.self.watch ≤ 1 = λ n. let p = c.args.plan in
     let r = c.args.self in
     awaits p.size p.post_trigger r.running r.watch r.value c.requires.0.watch n in

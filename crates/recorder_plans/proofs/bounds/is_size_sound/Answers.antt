@@ -1,9 +1,0 @@
--- Without a trigger no size, else one of three.
-use borrow.Author.Tests.{eq-eqb, ne_eqb}
-use Rattle.recorder_plans.proofs.bounds.is_size_sound.Goals as goal
-
-pub returns-then-mode-eq0 : goal.returns-then-mode-eq0
-returns-then-mode-eq0 c = rw (eq-eqb c.args.mode 0 c.if-mode-eq0.true)
-
-pub returns : goal.returns
-returns c = rw (ne_eqb c.args.mode 0 c.if-mode-eq0.false) c.is_trigger_size.ensures
