@@ -116,12 +116,3 @@ module _ (bytes : List ℕ) (from at : ℕ) (block memory buffer : List ℕ) (lo
             inside = omega (arith, more);
             room = omega (arith, room, done.length, turn_fits (decoded between) byte memory (drop at buffer));
           }
-
-    -- which gets no answer
-    pub quiet_more : next < length bytes → get_or bytes next 0 < 256 → (after : List ℕ)
-        → Turned (turn (decoded between) (get_or bytes next 0) memory (drop at buffer)) between 0 after memory (drop at buffer)
-        → TookNext bytes from at (record { taken = next + 1; written = at }) block memory buffer after memory buffer
-    quiet_more more byte_small after done =
-        subst (λ (n : ℕ). TookNext bytes from at (record { taken = next + 1; written = n }) block memory buffer after memory buffer) (add-zero at)
-        (subst (λ (l : List ℕ). TookNext bytes from at (record { taken = next + 1; written = at + 0 }) block memory buffer after memory l) (take-append-drop at buffer)
-        (one_more more byte_small 0 after memory (drop at buffer) done))

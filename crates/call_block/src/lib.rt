@@ -9,11 +9,10 @@ ghost use Rattle.state_block.specs.Layout.{decoded};
 ghost use Rattle.call_block.specs.Going.{TookNext, Gone};
 ghost use Rattle.call_block.specs.Promises.{BlockDone};
 
-use call_byte::{Heard, hear};
+use call_byte::take;
 use call_checks::byte_refusal;
 use call_quiet::pass_over;
 use codes_table::{ANSWER_ROOM, TAKEN};
-use serve_message::respond;
 
 // The number with which a block is refused, or 0; how many of its bytes were taken, and how many bytes of answers were written.
 #[repr(C)]
@@ -31,71 +30,62 @@ struct Going {
     written: usize,
 }
 
-// The bytes from a place on that only count, or do nothing, and behind them one more, whose answer stands behind those before it.
+// The bytes behind those taken so far that only count, or do nothing, and behind them one more, whose answer stands behind those before it.
 fn take_next(
     state: &mut [u8],
     bytes: &[u8],
-    from: usize,
+    so_far: Going,
     memory: &mut [u8],
     answers: &mut [u8],
-    at: usize,
 ) -> Going
-    requires { (state_length ≤ length state.old) × Within (decoded state.old) memory.old × (from < length bytes.now) × (at + answer_room ≤ length answers.old) }
-    ensures { TookNext bytes.now from at result state.old memory.old answers.old state.new memory.new answers.new }
+    requires { (state_length ≤ length state.old) × Within (decoded state.old) memory.old × (so_far.taken < length bytes.now) × (so_far.written + answer_room ≤ length answers.old) }
+    ensures { TookNext bytes.now so_far.taken so_far.written result state.old memory.old answers.old state.new memory.new answers.new }
 {
-    let next = pass_over(state, bytes, from);
+    let next = pass_over(state, bytes, so_far.taken);
     if next == bytes.len() {
         return Going {
             taken: next,
-            written: at,
+            written: so_far.written,
         };
     }
-    let heard = hear(state, bytes[next]);
-    match heard {
-        Heard::Quiet => Going {
-            taken: next + 1,
-            written: at,
-        },
-        Heard::Message(whole) => {
-            let length = respond(whole, state, memory, &mut answers[at..]);
-            Going {
-                taken: next + 1,
-                written: at + length,
-            }
-        }
+    let length = take(state, bytes[next], memory, &mut answers[so_far.written..]);
+    Going {
+        taken: next + 1,
+        written: so_far.written + length,
     }
 }
 
-// "It takes bytes while 132 bytes of room are left, and no longer"
+// "It takes bytes while 132 bytes of room are left, and no longer". A turn takes as many bytes as it can, so no iterator counts the turns.
 fn take_while_room(state: &mut [u8], bytes: &[u8], memory: &mut [u8], answers: &mut [u8]) -> Going
     requires { (state_length ≤ length state.old) × Within (decoded state.old) memory.old }
     ensures { Gone bytes.now result state.old memory.old answers.old state.new memory.new answers.new }
 {
-    let mut taken = 0;
-    let mut written = 0;
-    while taken < bytes.len() && ANSWER_ROOM <= answers.len() - written {
-        let going = take_next(state, bytes, taken, memory, answers, written);
-        taken = going.taken;
-        written = going.written;
+    let mut going = Going {
+        taken: 0,
+        written: 0,
+    };
+    while going.taken < bytes.len() && ANSWER_ROOM <= answers.len() - going.written {
+        going = take_next(state, bytes, going, memory, answers);
     }
-    Going { taken, written }
+    going
 }
 
 pub fn block(state: &mut [u8], bytes: &[u8], memory: &mut [u8], answers: &mut [u8]) -> BlockTaken
     ensures { BlockDone state.old bytes.now memory.old answers.old result state.new memory.new answers.new }
 {
-    let refusal = byte_refusal(state, memory, answers);
-    if refusal != TAKEN {
-        return BlockTaken {
-            refusal,
+    match byte_refusal(state, memory, answers) {
+        Ok(()) => {
+            let going = take_while_room(state, bytes, memory, answers);
+            BlockTaken {
+                refusal: TAKEN,
+                taken: going.taken,
+                written: going.written,
+            }
+        }
+        Err(refusal) => BlockTaken {
+            refusal: u8::from(refusal),
             taken: 0,
             written: 0,
-        };
-    }
-    let going = take_while_room(state, bytes, memory, answers);
-    BlockTaken {
-        refusal: TAKEN,
-        taken: going.taken,
-        written: going.written,
+        },
     }
 }

@@ -26,8 +26,7 @@ use Rattle.state_block.specs.Layout.{decoded_receiver, decoded_body, decoded_ins
 use Rattle.state_block.specs.Places.{state_length}
 use Rattle.state_block.proofs.Back.{stored_decoded}
 use Rattle.state_block.proofs.Stored.{instruments_stored}
-use Rattle.call_byte.specs.declared.hearing.Heard.{Heard}
-use Rattle.call_byte.specs.declared.hearing.Heard.TheVariants.{Quiet, Message as Brings}
+use Rattle.std.specs.Prelude.{Option, None, Some}
 use Rattle.call_byte.specs.Heard.{heard_of, answered_by, Hears, is_framed}
 use Rattle.call_byte.specs.Promises.{Turned}
 use Rattle.call_byte.proofs.Stores.{target_over}
@@ -43,7 +42,7 @@ heard_turn t b memory buffer = by (stepped t.receiver b).event refl
     by (Whole c n s) h = rw h (sym (by_event t b memory buffer (Whole c n s) h))
 
 module _ (block : List ℕ) (b : ℕ) (memory : List ℕ) (long : state_length ≤ length block) (small : (i : ℕ) → get_or block i 0 < 256) (b-small : b < 256) (within : Within (decoded block) memory)
-    (heard : Heard) (between : List ℕ) (same : length between ≡ length block) (hears : Hears block b heard between) where
+    (heard : Option Message) (between : List ℕ) (same : length between ≡ length block) (hears : Hears block b heard between) where
   fits : TargetFits (hearing (decoded block) b)
   fits = hearing_fits (decoded block) b (within_fits (decoded block) memory within)
 
@@ -51,12 +50,12 @@ module _ (block : List ℕ) (b : ℕ) (memory : List ℕ) (long : state_length �
   decoded_heard = ap decoded hears.state ∙ stored_decoded block (hearing (decoded block) b) long fits
 
   -- what the turn is, by what was heard
-  turn_of : (h : Heard) → heard ≡ h → (buffer : List ℕ) → answered_by (decoded between) h memory buffer ≡ turn (decoded block) b memory buffer
+  turn_of : (h : Option Message) → heard ≡ h → (buffer : List ℕ) → answered_by (decoded between) h memory buffer ≡ turn (decoded block) b memory buffer
   turn_of h e buffer = (λ i. answered_by (decoded_heard i) ((sym e ∙ hears.brought) i) memory buffer) ∙ heard_turn (decoded block) b memory buffer
 
-  pub quiet_turned : heard ≡ Quiet → (buffer : List ℕ) → Turned (turn (decoded block) b memory buffer) block 0 between memory buffer
+  pub quiet_turned : heard ≡ None → (buffer : List ℕ) → Turned (turn (decoded block) b memory buffer) block 0 between memory buffer
   quiet_turned e buffer =
-      let whole = turn_of Quiet e buffer in
+      let whole = turn_of None e buffer in
       record {
         length = ap (λ (u : Turn). u.length) whole;
         state = hears.state ∙ ap (λ (t : Target). sets block 0 (encoded t)) (sym decoded_heard) ∙ ap (λ (u : Turn). sets block 0 (encoded u.next)) whole;
@@ -64,7 +63,7 @@ module _ (block : List ℕ) (b : ℕ) (memory : List ℕ) (long : state_length �
         buffer_told = ap (λ (u : Turn). u.buffer) whole;
       }
 
-  module _ (message : Message) (e : heard ≡ Brings message) where
+  module _ (message : Message) (e : heard ≡ Some message) where
     length_small : (decoded_receiver block).length ≤ 255
     unfolding decoded_receiver
     length_small = omega (arith, small 3)
@@ -90,7 +89,7 @@ module _ (block : List ℕ) (b : ℕ) (memory : List ℕ) (long : state_length �
         → Responds message between memory buffer written sent after left
         → Turned (turn (decoded block) b memory buffer) block written after left sent
     message_turned buffer after left sent written between-small done =
-        let whole = turn_of (Brings message) e buffer in
+        let whole = turn_of (Some message) e buffer in
         let u = turn (decoded block) b memory buffer in
         let next_fits = within_fits u.next u.memory (byte_keeps (decoded block) memory buffer within b b-small) in
         let behind : after ≡ sets between 0 (encoded (turn (decoded block) b memory buffer).next) =

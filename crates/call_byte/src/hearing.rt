@@ -3,40 +3,30 @@ ghost use Rattle.std.specs.Prelude.{◌≤◌, length};
 ghost use Rattle.state_block.specs.Places.{state_length};
 ghost use Rattle.call_byte.specs.Heard.{Hears};
 
-use bytes_fields::put_byte;
-use bytes_widths::usize_of_u8;
 use line_receiver::Event;
 use serve_message::Whole;
 use state_block::{BODY, put_receiver, receiver_in};
 
-// What a byte brought: nothing to answer, or a whole message.
-#[derive(Clone, Copy)]
-pub enum Heard {
-    Quiet,
-    Message(Whole),
-}
-
-// The receiver is stored, and at most one byte of the body.
-pub fn hear(state: &mut [u8], byte: u8) -> Heard
+// The message that the byte ends, if it ends one. The receiver is stored, and at most one byte of the body.
+pub(crate) fn hear(state: &mut [u8], byte: u8) -> Option<Whole>
     requires { state_length ≤ length state.old }
     ensures { Hears state.old byte result state.new }
 {
     let receiver = receiver_in(state);
     let taken = receiver.step(byte);
-    let next = taken.next;
-    let event = taken.event;
-    put_receiver(state, next);
-    match event {
-        Event::Nothing => Heard::Quiet,
+    put_receiver(state, taken.next);
+    match taken.event {
+        Event::Nothing => None,
         Event::Keep { at, byte } => {
-            put_byte(state, BODY + usize_of_u8(at), byte);
-            Heard::Quiet
+            let place = BODY + usize::from(at);
+            state[place] = byte;
+            None
         }
         Event::Whole {
             command,
             length,
             sum,
-        } => Heard::Message(Whole {
+        } => Some(Whole {
             command,
             length,
             sum,

@@ -3,11 +3,17 @@
 
 mod hearing;
 
-ghost use Rattle.call_byte.specs.Promises.{ByteTaken};
+ghost use Rattle.std.specs.Prelude.{◌≤◌, length};
+ghost use Rattle.document.specs.Numbers.{answer_room};
+ghost use Rattle.state_parts.specs.Within.{Within};
+ghost use Rattle.state_byte.specs.Turn.{turn};
+ghost use Rattle.state_block.specs.Places.{state_length};
+ghost use Rattle.state_block.specs.Layout.{decoded};
+ghost use Rattle.call_byte.specs.Promises.{Turned, ByteTaken};
 
 use call_checks::byte_refusal;
 use codes_table::TAKEN;
-pub use hearing::{Heard, hear};
+use hearing::hear;
 use serve_message::respond;
 
 // The number with which a byte is refused, or 0, and how many bytes of the lent buffer are its answer.
@@ -18,25 +24,28 @@ pub struct Taken {
     pub length: usize,
 }
 
+// A byte that nothing refuses: how many bytes of the lent buffer are its answer.
+pub fn take(state: &mut [u8], byte: u8, memory: &mut [u8], answer: &mut [u8]) -> usize
+    requires { (state_length ≤ length state.old) × Within (decoded state.old) memory.old × (answer_room ≤ length answer.old) }
+    ensures { Turned (turn (decoded state.old) byte memory.old answer.old) state.old result state.new memory.new answer.new }
+{
+    match hear(state, byte) {
+        None => 0,
+        Some(whole) => respond(whole, state, memory, answer),
+    }
+}
+
 pub fn byte(state: &mut [u8], byte: u8, memory: &mut [u8], answer: &mut [u8]) -> Taken
     ensures { ByteTaken state.old byte memory.old answer.old result state.new memory.new answer.new }
 {
-    let refusal = byte_refusal(state, memory, answer);
-    if refusal != TAKEN {
-        return Taken { refusal, length: 0 };
-    }
-    let heard = hear(state, byte);
-    match heard {
-        Heard::Quiet => Taken {
+    match byte_refusal(state, memory, answer) {
+        Ok(()) => Taken {
             refusal: TAKEN,
+            length: take(state, byte, memory, answer),
+        },
+        Err(refusal) => Taken {
+            refusal: u8::from(refusal),
             length: 0,
         },
-        Heard::Message(whole) => {
-            let length = respond(whole, state, memory, answer);
-            Taken {
-                refusal: TAKEN,
-                length,
-            }
-        }
     }
 }

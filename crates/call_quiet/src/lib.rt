@@ -9,7 +9,6 @@ ghost use Rattle.state_block.specs.Places.{state_length};
 ghost use Rattle.state_block.specs.Layout.{decoded, encoded};
 ghost use Rattle.call_quiet.specs.Passed.{kept_run, Passed};
 
-use bytes_widths::usize_of_u8;
 use codes_table::MOST_DATA;
 use line_receiver::{DATA_NEXT, IDLE};
 use line_wire::doubling::PLUS;
@@ -22,24 +21,20 @@ fn plain_end(bytes: &[u8], from: usize, end: usize) -> usize
     requires { (from ≤ end) × (end ≤ length bytes.now) }
     ensures { (result ≡ from + plain_ahead (end - from) (drop from bytes.now)) × (result ≤ end) }
 {
-    let mut i = from;
-    while i < end {
+    for i in from..end {
         if bytes[i] == PLUS {
             return i;
         }
-        i += 1;
     }
-    i
+    end
 }
 
 fn summed(sum: u8, bytes: &[u8]) -> u8
     ensures { result ≡ (sum + total bytes.now) % 256 }
 {
     let mut so_far = sum;
-    let mut i = 0;
-    while i < bytes.len() {
-        so_far = added(so_far, bytes[i]);
-        i += 1;
+    for byte in bytes {
+        so_far = added(so_far, *byte);
     }
     so_far
 }
@@ -62,34 +57,22 @@ fn keep_run(state: &mut [u8], head: line_receiver::Receiver, run: &[u8])
             sum,
         },
     );
-    copy_in(state, BODY + usize_of_u8(head.have), run);
+    copy_in(state, BODY + usize::from(head.have), run);
 }
 
 // "A data part holds at most 64 bytes"
 fn last_kept(length: u8) -> usize
     ensures { result ≡ last_kept length }
 {
-    let n = usize_of_u8(length);
-    if n > MOST_DATA {
-        return MOST_DATA;
-    }
-    n
+    usize::from(length).min(MOST_DATA)
 }
 
 // How many data bytes are to come before the last that is kept, at most so many as are left.
 fn data_ahead(head: line_receiver::Receiver, left: usize) -> usize
     ensures { (result ≤ left) × (result ≤ data_ahead head) × (result < data_ahead head → result ≡ left) }
 {
-    let have = usize_of_u8(head.have);
-    let last = last_kept(head.length);
-    if have + 1 >= last {
-        return 0;
-    }
-    let ahead = last - have - 1;
-    if left < ahead {
-        return left;
-    }
-    ahead
+    let ahead = last_kept(head.length).saturating_sub(usize::from(head.have) + 1);
+    ahead.min(left)
 }
 
 // Behind the bytes from a place on that only count, or do nothing.

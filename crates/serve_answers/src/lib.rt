@@ -14,7 +14,7 @@ ghost use Rattle.line_wire.specs.Told.{Told};
 
 use codes_table::DONE;
 use line_answers::tell;
-pub use words::{done_three_words, done_two_words, done_words};
+pub use words::done_words;
 
 // A status without data.
 pub fn status_alone(status: u8, out: &mut [u8]) -> usize

@@ -3,8 +3,7 @@
 
 ghost use Rattle.serve_message.specs.Responds.{Lent, Responds};
 
-use bytes_widths::usize_of_u8;
-use codes_table::{MESSAGE_TOO_LONG, MOST_DATA, SUM_WRONG, service_of};
+use codes_table::{MOST_DATA, Status, service_of};
 use serve_answers::status_alone;
 use serve_operations::serve;
 use state_block::BODY;
@@ -22,11 +21,11 @@ pub fn respond(whole: Whole, state: &mut [u8], memory: &mut [u8], out: &mut [u8]
     ensures { Responds whole state.old memory.old out.old result out.new state.new memory.new }
 {
     if whole.sum != 0 {
-        return status_alone(SUM_WRONG, out);
+        return status_alone(u8::from(Status::SumWrong), out);
     }
-    let end = usize_of_u8(whole.length);
+    let end = usize::from(whole.length);
     if end > MOST_DATA {
-        return status_alone(MESSAGE_TOO_LONG, out);
+        return status_alone(u8::from(Status::MessageTooLong), out);
     }
     serve(service_of(whole.command), state, BODY + end, memory, out)
 }

@@ -1,10 +1,10 @@
-// A service whose message has a right sum and length: one arm for each operation, which tells its answer, or has a status to tell.
+// A service whose message has a right sum and length: one arm for each operation, which tells its answer, or has an outcome to tell.
 // The message's data stand in the block, up to a place.
 #![tactic(auto)]
 
 ghost use Rattle.serve_operations.specs.Serves.{Lent, Serves};
 
-use codes_table::NOT_SERVED;
+use codes_table::{Status, outcome_number};
 use document::{Operation, Service};
 use serve_answers::{describe, describe_briefly, status_alone};
 use serve_application::{command_result, send_command};
@@ -27,8 +27,8 @@ pub fn serve(
     ensures { Serves service to state.old memory.old out.old result out.new state.new memory.new }
 {
     let operation = service.operation;
-    let status = match operation {
-        Operation::Unserved => NOT_SERVED,
+    let outcome = match operation {
+        Operation::Unserved => Err(Status::NotServed),
         Operation::Describe => return describe(out),
         Operation::DescribeBriefly => return describe_briefly(out),
         Operation::Read => return read(service, &state[BODY..to], memory, out),
@@ -39,7 +39,7 @@ pub fn serve(
         Operation::PrepareAndStart => prepare_and_start(state, service, to),
         Operation::Start => start(state),
         Operation::Stop => stop(state),
-        Operation::Status => status(state),
+        Operation::Status => Err(status(state)),
         Operation::QueryBuffer => return query_buffer(state, service, out),
         Operation::SendCommand => send_command(state, to),
         Operation::CommandResult => return command_result(state, out),
@@ -48,5 +48,5 @@ pub fn serve(
             return measure_string(service, &state[BODY..to], memory, out);
         }
     };
-    status_alone(status, out)
+    status_alone(outcome_number(outcome), out)
 }

@@ -24,7 +24,7 @@ use codes_table::Status;
 use document::Service;
 use memory_ranges::BUFFER_BEGIN;
 use recorder_state::prepare_status;
-use serve_answers::{done_three_words, done_two_words, status_alone};
+use serve_answers::{done_words, status_alone};
 use state_block::{BODY, put_run, recorder_in, recorder_runs};
 use state_setups::store_prepared;
 
@@ -91,7 +91,7 @@ fn buffer_from(ex: bool, index: u16, out: &mut [u8]) -> usize
     ensures { Told (record { status = done; body = little_endian (address_width ex) buffer_begin ++ little_endian 2 index }) out.old result out.new }
 {
     if ex {
-        return done_three_words(BUFFER_BEGIN as u16, 0, index, out);
+        return done_words(&[BUFFER_BEGIN as u16, 0, index], out);
     }
-    done_two_words(BUFFER_BEGIN as u16, index, out)
+    done_words(&[BUFFER_BEGIN as u16, index], out)
 }

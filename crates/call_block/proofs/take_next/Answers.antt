@@ -1,4 +1,4 @@
--- What only counts is passed over; behind it nothing is left, or one byte is heard, and answered where it ends a message.
+-- What only counts is passed over; behind it nothing is left, or one byte is taken.
 use mathlib.Core.Path.{◌≡◌, sym, subst}
 use mathlib.Core.List.{List, ◌++◌}
 use Prim.Native.Nat.{ℕ, ◌+◌, ◌-◌, ◌<◌, ◌≤◌}
@@ -12,16 +12,10 @@ use Rattle.state_byte.specs.Turn.{turn}
 use Rattle.state_byte.proofs.Fits.{turn_fits}
 use Rattle.state_block.specs.Places.{state_length}
 use Rattle.state_block.specs.Layout.{decoded}
-use Rattle.serve_message.specs.declared.Whole.{Whole}
-use Rattle.serve_message.specs.Responds.{Lent, Responds}
 use Rattle.call_quiet.specs.Passed.{Passed}
-use Rattle.call_byte.specs.declared.hearing.Heard.{Heard}
-use Rattle.call_byte.specs.declared.hearing.Heard.TheVariants.{Quiet, Message}
-use Rattle.call_byte.specs.Heard.{Hears}
 use Rattle.call_byte.specs.Promises.{Turned}
-use Rattle.call_byte.proofs.Answered.{quiet_turned, answer_lent, message_turned}
 use Rattle.call_block.specs.Going.{TookNext}
-use Rattle.call_block.proofs.TookNext.{part_whole, nothing_behind, next_inside, between_within, all_passed, one_more, quiet_more}
+use Rattle.call_block.proofs.TookNext.{part_whole, nothing_behind, next_inside, between_within, all_passed, one_more}
 use Rattle.call_block.proofs.take_next.Goals as goal
 
 -- ---- what is lent, and what is left behind the quiet bytes
@@ -38,126 +32,69 @@ module _ (state bytes memory answers : List ℕ) (from at : ℕ)
   none_left : next ≡ length bytes → TookNext bytes from at (record { taken = next; written = at }) state memory answers between memory answers
   none_left end = all_passed bytes from at state memory answers long small all known some room next between over end
 
-  -- ---- one more byte is heard
-  module _ (more : next < length bytes) (same : length between ≡ length state) (between_small : (i : ℕ) → get_or between i 0 < 256)
-      (heard : Heard) (held : List ℕ) (kept : length held ≡ length between) (hears : Hears between (get_or bytes next 0) heard held) where
-    abbrev byte : ℕ
-    byte = get_or bytes next 0
+  within : Within (decoded between) memory
+  within = between_within bytes from at state memory answers long small all known some room next between over
 
-    still : state_length ≤ length between
-    still = omega (arith, long, same)
+  -- ---- one more byte is taken
+  module _ (more : next < length bytes) (n : ℕ) (after left sent : List ℕ)
+      (turned : Turned (turn (decoded between) (get_or bytes next 0) memory (take (length answers - at) (drop at answers))) between n after left sent) where
+    done : Turned (turn (decoded between) (get_or bytes next 0) memory (drop at answers)) between n after left sent
+    done = subst (λ (l : List ℕ). Turned (turn (decoded between) (get_or bytes next 0) memory l) between n after left sent) (part_whole answers at) turned
 
-    within : Within (decoded between) memory
-    within = between_within bytes from at state memory answers long small all known some room next between over
+    fits : at + n ≤ length answers
+    fits = omega (arith, room, done.length, turn_fits (decoded between) (get_or bytes next 0) memory (drop at answers))
 
-    quiet : heard ≡ Quiet → TookNext bytes from at (record { taken = next + 1; written = at }) state memory answers held memory answers
-    quiet e =
-        quiet_more bytes from at state memory answers long small all known some room next between over more (byte_small next) held
-        (quiet_turned between byte memory still between_small (byte_small next) within heard held kept hears e (drop at answers))
-
-    -- it ends a message
-    module _ (message : Whole) (e : heard ≡ Message message) where
-      lent : Lent message held memory (take (length answers - at) (drop at answers))
-      lent =
-          answer_lent between byte memory still between_small (byte_small next) within heard held kept hears message e _
-          (rw (part_whole answers at) (omega (arith, length-drop at answers, room)))
-
-      module _ (n : ℕ) (after left sent : List ℕ) (held_small : (i : ℕ) → get_or held i 0 < 256)
-          (responds : Responds message held memory (take (length answers - at) (drop at answers)) n sent after left) where
-        done : Turned (turn (decoded between) (get_or bytes next 0) memory (drop at answers)) between n after left sent
-        done =
-            subst (λ (l : List ℕ). Turned (turn (decoded between) byte memory l) between n after left sent) (part_whole answers at)
-            (message_turned between byte memory still between_small (byte_small next) within heard held kept hears message e
-            (take (length answers - at) (drop at answers)) after left sent n held_small responds)
-
-        fits : at + n ≤ length answers
-        fits = omega (arith, room, done.length, turn_fits (decoded between) byte memory (drop at answers))
-
-        answered : TookNext bytes from at (record { taken = next + 1; written = at + n }) state memory answers after left
-            (take at answers ++ (sent ++ drop (length answers - at) (drop at answers)))
-        answered =
-            subst (λ (l : List ℕ). TookNext bytes from at (record { taken = next + 1; written = at + n }) state memory answers after left l)
-            (sym (nothing_behind answers sent at))
-            (one_more bytes from at state memory answers long small all known some room next between over more (byte_small next) n after left sent done)
+    answered : TookNext bytes from at (record { taken = next + 1; written = at + n }) state memory answers after left
+        (take at answers ++ (sent ++ drop (length answers - at) (drop at answers)))
+    answered =
+        subst (λ (l : List ℕ). TookNext bytes from at (record { taken = next + 1; written = at + n }) state memory answers after left l)
+        (sym (nothing_behind answers sent at))
+        (one_more bytes from at state memory answers long small all known some room next between over more (byte_small next) n after left sent done)
 
 pub returns-then-next-bytes : goal.returns-then-next-bytes
 returns-then-next-bytes c =
-    none_left c.args.state.now c.args.bytes.now c.args.memory.now c.args.answers.now c.args.from c.args.at
+    none_left c.args.state.now c.args.bytes.now c.args.memory.now c.args.answers.now c.args.so_far.taken c.args.so_far.written
     c.requires.0 c.requires.1 c.requires.2 c.requires.3 (λ i. (c.slice_known-1.given i).fits) (λ i. (c.shared_slice_known-1.given i).fits)
     c.pass_over-next.result c.pass_over-next.new.state c.pass_over-next.ensures c.if-next-bytes.true
 
 pub bounds-bytes-next : goal.bounds-bytes-next
 bounds-bytes-next c =
-    let most = inside c.args.state.now c.args.bytes.now c.args.memory.now c.args.answers.now c.args.from c.args.at
+    let most = inside c.args.state.now c.args.bytes.now c.args.memory.now c.args.answers.now c.args.so_far.taken c.args.so_far.written
     c.requires.0 c.requires.1 c.requires.2 c.requires.3 (λ i. (c.slice_known-1.given i).fits) (λ i. (c.shared_slice_known-1.given i).fits)
     c.pass_over-next.result c.pass_over-next.new.state c.pass_over-next.ensures in
     omega (arith, most, c.if-next-bytes.false)
 
-pub hear-heard-requires : goal.hear-heard-requires
-hear-heard-requires c =
-    omega (arith, c.requires.0, c.pass_over-next.auto.state)
+pub take-length-requires : goal.take-length-requires
+take-length-requires c =
+    let still = within c.args.state.now c.args.bytes.now c.args.memory.now c.args.answers.now c.args.so_far.taken c.args.so_far.written
+    c.requires.0 c.requires.1 c.requires.2 c.requires.3 (λ i. (c.slice_known-1.given i).fits) (λ i. (c.shared_slice_known-1.given i).fits)
+    c.pass_over-next.result c.pass_over-next.new.state c.pass_over-next.ensures in
+    (omega (arith, c.requires.0, c.pass_over-next.auto.state), still, rw (part_whole c.args.answers.now c.args.so_far.written) (omega (arith, length-drop c.args.so_far.written c.args.answers.now, c.requires.3)))
 
 pub overflow_add-result : goal.overflow_add-result
 overflow_add-result c =
-    let most = inside c.args.state.now c.args.bytes.now c.args.memory.now c.args.answers.now c.args.from c.args.at
+    let most = inside c.args.state.now c.args.bytes.now c.args.memory.now c.args.answers.now c.args.so_far.taken c.args.so_far.written
     c.requires.0 c.requires.1 c.requires.2 c.requires.3 (λ i. (c.slice_known-1.given i).fits) (λ i. (c.shared_slice_known-1.given i).fits)
     c.pass_over-next.result c.pass_over-next.new.state c.pass_over-next.ensures in
     record { fits = omega (arith, most, c.if-next-bytes.false) }
 
-pub returns-in-Quiet : goal.returns-in-Quiet
-returns-in-Quiet c =
-    let most = inside c.args.state.now c.args.bytes.now c.args.memory.now c.args.answers.now c.args.from c.args.at
+pub overflow_add-result-2 : goal.overflow_add-result-2
+overflow_add-result-2 c =
+    let most = inside c.args.state.now c.args.bytes.now c.args.memory.now c.args.answers.now c.args.so_far.taken c.args.so_far.written
     c.requires.0 c.requires.1 c.requires.2 c.requires.3 (λ i. (c.slice_known-1.given i).fits) (λ i. (c.shared_slice_known-1.given i).fits)
     c.pass_over-next.result c.pass_over-next.new.state c.pass_over-next.ensures in
-    quiet c.args.state.now c.args.bytes.now c.args.memory.now c.args.answers.now c.args.from c.args.at
+    let last = fits c.args.state.now c.args.bytes.now c.args.memory.now c.args.answers.now c.args.so_far.taken c.args.so_far.written
     c.requires.0 c.requires.1 c.requires.2 c.requires.3 (λ i. (c.slice_known-1.given i).fits) (λ i. (c.shared_slice_known-1.given i).fits)
     c.pass_over-next.result c.pass_over-next.new.state c.pass_over-next.ensures
-    (omega (arith, most, c.if-next-bytes.false)) c.pass_over-next.auto.state (λ i. (c.slice_known-4-1.given i).fits)
-    c.hear-heard.result c.hear-heard.new.state c.hear-heard.auto.state c.hear-heard.ensures
-    c.in-Quiet.is
-
-pub respond-length-requires : goal.respond-length-requires
-respond-length-requires c =
-    let most = inside c.args.state.now c.args.bytes.now c.args.memory.now c.args.answers.now c.args.from c.args.at
-    c.requires.0 c.requires.1 c.requires.2 c.requires.3 (λ i. (c.slice_known-1.given i).fits) (λ i. (c.shared_slice_known-1.given i).fits)
-    c.pass_over-next.result c.pass_over-next.new.state c.pass_over-next.ensures in
-    lent c.args.state.now c.args.bytes.now c.args.memory.now c.args.answers.now c.args.from c.args.at
-    c.requires.0 c.requires.1 c.requires.2 c.requires.3 (λ i. (c.slice_known-1.given i).fits) (λ i. (c.shared_slice_known-1.given i).fits)
-    c.pass_over-next.result c.pass_over-next.new.state c.pass_over-next.ensures
-    (omega (arith, most, c.if-next-bytes.false)) c.pass_over-next.auto.state (λ i. (c.slice_known-4-1.given i).fits)
-    c.hear-heard.result c.hear-heard.new.state c.hear-heard.auto.state c.hear-heard.ensures
-    c.in-Message.whole c.in-Message.is
-
-pub overflow_add-result-in-Message : goal.overflow_add-result-in-Message
-overflow_add-result-in-Message c =
-    let most = inside c.args.state.now c.args.bytes.now c.args.memory.now c.args.answers.now c.args.from c.args.at
-    c.requires.0 c.requires.1 c.requires.2 c.requires.3 (λ i. (c.slice_known-1.given i).fits) (λ i. (c.shared_slice_known-1.given i).fits)
-    c.pass_over-next.result c.pass_over-next.new.state c.pass_over-next.ensures in
-    record { fits = omega (arith, most, c.if-next-bytes.false) }
-
-pub overflow_add-result-in-Message-2 : goal.overflow_add-result-in-Message-2
-overflow_add-result-in-Message-2 c =
-    let most = inside c.args.state.now c.args.bytes.now c.args.memory.now c.args.answers.now c.args.from c.args.at
-    c.requires.0 c.requires.1 c.requires.2 c.requires.3 (λ i. (c.slice_known-1.given i).fits) (λ i. (c.shared_slice_known-1.given i).fits)
-    c.pass_over-next.result c.pass_over-next.new.state c.pass_over-next.ensures in
-    let last = fits c.args.state.now c.args.bytes.now c.args.memory.now c.args.answers.now c.args.from c.args.at
-    c.requires.0 c.requires.1 c.requires.2 c.requires.3 (λ i. (c.slice_known-1.given i).fits) (λ i. (c.shared_slice_known-1.given i).fits)
-    c.pass_over-next.result c.pass_over-next.new.state c.pass_over-next.ensures
-    (omega (arith, most, c.if-next-bytes.false)) c.pass_over-next.auto.state (λ i. (c.slice_known-4-1.given i).fits)
-    c.hear-heard.result c.hear-heard.new.state c.hear-heard.auto.state c.hear-heard.ensures
-    c.in-Message.whole c.in-Message.is c.respond-length.result c.respond-length.new.state c.respond-length.new.memory c.respond-length.new.out
-    (λ i. (c.slice_known-5-1.given i).fits) c.respond-length.ensures in
+    (omega (arith, most, c.if-next-bytes.false)) c.take-length.result c.take-length.new.state c.take-length.new.memory c.take-length.new.answer c.take-length.ensures in
     record { fits = omega (arith, last) }
 
-pub returns-in-Message : goal.returns-in-Message
-returns-in-Message c =
-    let most = inside c.args.state.now c.args.bytes.now c.args.memory.now c.args.answers.now c.args.from c.args.at
+pub returns : goal.returns
+returns c =
+    let most = inside c.args.state.now c.args.bytes.now c.args.memory.now c.args.answers.now c.args.so_far.taken c.args.so_far.written
     c.requires.0 c.requires.1 c.requires.2 c.requires.3 (λ i. (c.slice_known-1.given i).fits) (λ i. (c.shared_slice_known-1.given i).fits)
     c.pass_over-next.result c.pass_over-next.new.state c.pass_over-next.ensures in
-    answered c.args.state.now c.args.bytes.now c.args.memory.now c.args.answers.now c.args.from c.args.at
+    answered c.args.state.now c.args.bytes.now c.args.memory.now c.args.answers.now c.args.so_far.taken c.args.so_far.written
     c.requires.0 c.requires.1 c.requires.2 c.requires.3 (λ i. (c.slice_known-1.given i).fits) (λ i. (c.shared_slice_known-1.given i).fits)
     c.pass_over-next.result c.pass_over-next.new.state c.pass_over-next.ensures
-    (omega (arith, most, c.if-next-bytes.false)) c.pass_over-next.auto.state (λ i. (c.slice_known-4-1.given i).fits)
-    c.hear-heard.result c.hear-heard.new.state c.hear-heard.auto.state c.hear-heard.ensures
-    c.in-Message.whole c.in-Message.is c.respond-length.result c.respond-length.new.state c.respond-length.new.memory c.respond-length.new.out
-    (λ i. (c.slice_known-5-1.given i).fits) c.respond-length.ensures
+    (omega (arith, most, c.if-next-bytes.false)) c.take-length.result c.take-length.new.state c.take-length.new.memory c.take-length.new.answer c.take-length.ensures

@@ -9,27 +9,27 @@ use Rattle.call_quiet.proofs.Over.{same_state}
 use Rattle.call_block.proofs.Ends.{stored_on, gone_all, gone_short}
 use Rattle.call_block.proofs.take_while_room.Goals as goal
 
-pub loop-taken-init : goal.loop-taken-init
-loop-taken-init c =
+pub loop-going-init : goal.loop-going-init
+loop-going-init c =
     let block = c.args.state.now in
     let small : (i : ℕ) → get_or block i 0 < 256 = λ i. (c.slice_known-1.given i).fits in
     (refl, refl, omega arith, omega arith, c.requires.1, same_state block c.requires.0 small (decoded block) refl, refl)
 
 pub take_next-going-requires : goal.take_next-going-requires
 take_next-going-requires c =
-    let l = c.loop-taken in
-    let room : answer_room ≤ length l.answers - l.written = c.if-answers-written-ge-ANSWER_ROOM.true in
-    let enough : l.written + answer_room ≤ length l.answers = omega (arith, room, l.invariant.3) in
-    (omega (arith, l.invariant.0, c.requires.0), l.invariant.4, c.loop-taken-test.true, enough)
+    let l = c.loop-going in
+    let room : answer_room ≤ length l.answers - l.going.written = c.if-answers-going-ge-ANSWER_ROOM.true in
+    let enough : l.going.written + answer_room ≤ length l.answers = omega (arith, room, l.invariant.3) in
+    (omega (arith, l.invariant.0, c.requires.0), l.invariant.4, c.loop-going-test.true, enough)
 
-pub loop-taken-smaller : goal.loop-taken-smaller
-loop-taken-smaller c =
+pub loop-going-smaller : goal.loop-going-smaller
+loop-going-smaller c =
     omega (arith, c.take_next-going.ensures.onward, c.take_next-going.ensures.inside)
 
-pub loop-taken-preserved : goal.loop-taken-preserved
-loop-taken-preserved c =
+pub loop-going-preserved : goal.loop-going-preserved
+loop-going-preserved c =
     let f = c.take_next-going.ensures in
-    let l = c.loop-taken in (
+    let l = c.loop-going in (
       c.take_next-going.auto.state ∙ l.invariant.0,
       c.take_next-going.auto.answers ∙ l.invariant.1,
       f.inside,
@@ -41,38 +41,38 @@ loop-taken-preserved c =
 
 -- ---- no room is left
 
-pub shape_of-state-else-answers-written-ge-ANSWER_ROOM : goal.shape_of-state-else-answers-written-ge-ANSWER_ROOM
-shape_of-state-else-answers-written-ge-ANSWER_ROOM c = c.loop-taken.invariant.0
+pub shape_of-state-else-answers-going-ge-ANSWER_ROOM : goal.shape_of-state-else-answers-going-ge-ANSWER_ROOM
+shape_of-state-else-answers-going-ge-ANSWER_ROOM c = c.loop-going.invariant.0
 
-pub shape_of-memory-else-answers-written-ge-ANSWER_ROOM : goal.shape_of-memory-else-answers-written-ge-ANSWER_ROOM
-shape_of-memory-else-answers-written-ge-ANSWER_ROOM c =
-    c.loop-taken.invariant.4.memory_part.size ∙ sym c.requires.1.memory_part.size
+pub shape_of-memory-else-answers-going-ge-ANSWER_ROOM : goal.shape_of-memory-else-answers-going-ge-ANSWER_ROOM
+shape_of-memory-else-answers-going-ge-ANSWER_ROOM c =
+    c.loop-going.invariant.4.memory_part.size ∙ sym c.requires.1.memory_part.size
 
-pub shape_of-answers-else-answers-written-ge-ANSWER_ROOM : goal.shape_of-answers-else-answers-written-ge-ANSWER_ROOM
-shape_of-answers-else-answers-written-ge-ANSWER_ROOM c = c.loop-taken.invariant.1
+pub shape_of-answers-else-answers-going-ge-ANSWER_ROOM : goal.shape_of-answers-else-answers-going-ge-ANSWER_ROOM
+shape_of-answers-else-answers-going-ge-ANSWER_ROOM c = c.loop-going.invariant.1
 
-pub returns-else-answers-written-ge-ANSWER_ROOM : goal.returns-else-answers-written-ge-ANSWER_ROOM
-returns-else-answers-written-ge-ANSWER_ROOM c =
-    let l = c.loop-taken in
+pub returns-else-answers-going-ge-ANSWER_ROOM : goal.returns-else-answers-going-ge-ANSWER_ROOM
+returns-else-answers-going-ge-ANSWER_ROOM c =
+    let l = c.loop-going in
     let a = c.args in
-    gone_short a.bytes.now l.taken l.written a.state.now a.memory.now a.answers.now l.state l.memory l.answers l.invariant.6 l.invariant.5
-    c.if-answers-written-ge-ANSWER_ROOM.false
+    gone_short a.bytes.now l.going.taken l.going.written a.state.now a.memory.now a.answers.now l.state l.memory l.answers l.invariant.6 l.invariant.5
+    c.if-answers-going-ge-ANSWER_ROOM.false
 
 -- ---- no byte is left
 
-pub shape_of-state-after-loop-taken : goal.shape_of-state-after-loop-taken
-shape_of-state-after-loop-taken c = c.loop-taken.invariant.0
+pub shape_of-state-after-loop-going : goal.shape_of-state-after-loop-going
+shape_of-state-after-loop-going c = c.loop-going.invariant.0
 
-pub shape_of-memory-after-loop-taken : goal.shape_of-memory-after-loop-taken
-shape_of-memory-after-loop-taken c =
-    c.loop-taken.invariant.4.memory_part.size ∙ sym c.requires.1.memory_part.size
+pub shape_of-memory-after-loop-going : goal.shape_of-memory-after-loop-going
+shape_of-memory-after-loop-going c =
+    c.loop-going.invariant.4.memory_part.size ∙ sym c.requires.1.memory_part.size
 
-pub shape_of-answers-after-loop-taken : goal.shape_of-answers-after-loop-taken
-shape_of-answers-after-loop-taken c = c.loop-taken.invariant.1
+pub shape_of-answers-after-loop-going : goal.shape_of-answers-after-loop-going
+shape_of-answers-after-loop-going c = c.loop-going.invariant.1
 
-pub returns-after-loop-taken : goal.returns-after-loop-taken
-returns-after-loop-taken c =
-    let l = c.loop-taken in
+pub returns-after-loop-going : goal.returns-after-loop-going
+returns-after-loop-going c =
+    let l = c.loop-going in
     let a = c.args in
-    gone_all a.bytes.now l.taken l.written a.state.now a.memory.now a.answers.now l.state l.memory l.answers l.invariant.6 l.invariant.5
-    c.loop-taken-test.false
+    gone_all a.bytes.now l.going.taken l.going.written a.state.now a.memory.now a.answers.now l.state l.memory l.answers l.invariant.6 l.invariant.5
+    c.loop-going-test.false

@@ -17,5 +17,5 @@ returns c =
     let stored : c.put_receiver.new.block ≡ sets a.state.now 0 (encoded_receiver next) =
     c.put_receiver.ensures ∙ (λ i. sets a.state.now 0 (encoded_receiver (record { waiting = 0; phase = 2; command = a.head.command; length = a.head.length; have = a.head.have + length a.run.now; sum = c.summed-sum.ensures i }))) in
     c.copy_in.ensures
-    ∙ (λ i. sets (stored i) (body_place + c.usize_of_u8.ensures.0 i) a.run.now)
+    ∙ (λ i. sets (stored i) (body_place + c.from.ensures i) a.run.now)
     ∙ data_stored a.state.now c.requires.0 (λ i. (c.slice_known-1.given i).fits) next a.head.have a.run.now (omega (arith, c.requires.1))

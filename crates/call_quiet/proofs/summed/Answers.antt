@@ -6,18 +6,16 @@ use Rattle.document.specs.Sum.{total}
 use Rattle.line_wire.proofs.Stuffed.{total_drop}
 use Rattle.call_quiet.proofs.summed.Goals as goal
 
-pub loop-i-init : goal.loop-i-init
-loop-i-init c = (omega arith, omega arith, refl)
+pub loop-byte-init : goal.loop-byte-init
+loop-byte-init c = (omega arith, refl)
 
-pub loop-i-preserved : goal.loop-i-preserved
-loop-i-preserved c =
-    let l = c.loop-i in
-    let bytes = c.args.bytes.now in
-    (omega arith, omega arith, omega (arith, l.invariant.2, c.added-so_far.ensures, total_drop bytes l.i (omega arith)))
+pub loop-byte-preserved : goal.loop-byte-preserved
+loop-byte-preserved c =
+    let l = c.loop-byte in
+    (omega arith, omega (arith, l.invariant.1, c.added-so_far.ensures, total_drop c.args.bytes.now l.byte-index c.loop-byte-test.true))
 
 pub returns : goal.returns
 returns c =
-    let l = c.loop-i in
-    let bytes = c.args.bytes.now in
-    let none : total (drop l.i bytes) ≡ 0 = rw (drop_of_length-le bytes c.loop-i-test.false) refl in
-    omega (arith, l.invariant.1, l.invariant.2, none)
+    let l = c.loop-byte in
+    let none : total (drop l.byte-index c.args.bytes.now) ≡ 0 = rw (drop_of_length-le c.args.bytes.now c.loop-byte-test.false) refl in
+    omega (arith, l.invariant.0, l.invariant.1, none)

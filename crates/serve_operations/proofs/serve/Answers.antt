@@ -1,9 +1,10 @@
 -- One arm for each operation: its function's promise, read with the operation known.
-use mathlib.Core.Path.{refl}
+use mathlib.Core.Path.{refl, ap}
 use mathlib.Core.List.{List}
 use Prim.Native.Nat.{ℕ, ◌<◌, ◌≤◌}
 use lib.ListN.{length, get_or}
 use borrow.Author.Rules.{rules}
+use Rattle.codes_table.specs.Statuses.{status_number, outcome_number}
 use Rattle.document.specs.Numbers.{not_served}
 use Rattle.document.specs.declared.Operation.TheVariants.{Unserved, Describe, DescribeBriefly, Read, Write, WriteMasked, SetUpScope, ReadScope, PrepareAndStart, Start, Stop, Status, QueryBuffer, SendCommand, CommandResult, TellTable, MeasureString}
 use Rattle.document.specs.Commands.{served}
@@ -66,16 +67,16 @@ returns-in-MeasureString c =
 pub returns : goal.returns
 returns c =
     let q = asked c.args.service c.args.state.now c.args.to c.args.memory.now c.requires.long (λ i. (c.slice_known-1.given i).fits) in
-    let settled : Settles (served (gate_of (decoded_instruments q.block) q.memory) q.service q.body) (instruments_after q.service.operation (decoded_instruments q.block) q.service q.body) q.block c.match-operation.status c.match-operation.state c.match-operation.memory =
+    let settled : Settles (served (gate_of (decoded_instruments q.block) q.memory) q.service q.body) (instruments_after q.service.operation (decoded_instruments q.block) q.service q.body) q.block (outcome_number c.match-operation.outcome) c.match-operation.state c.match-operation.memory =
     elim c.match-operation.branch [
-      | in-Unserved w ↦ met q w.status-is w.state-is w.memory-is (says q Unserved w.in-Unserved.is refl not_served (unserved_says _ q.service q.body))
-      | in-Write w ↦ met q w.status-is w.state-is w.memory-is (wrote q Write w.in-Write.is refl w.write-status.result _ (w.write-status.ensures _ refl))
-      | in-WriteMasked w ↦ met q w.status-is w.state-is w.memory-is (wrote q WriteMasked w.in-WriteMasked.is refl w.write_masked-status.result _ (w.write_masked-status.ensures _ refl))
-      | in-SetUpScope w ↦ met q w.status-is w.state-is w.memory-is (settles q SetUpScope w.in-SetUpScope.is w.set_up_scope-status.result _ _ (w.set_up_scope-status.ensures _))
-      | in-PrepareAndStart w ↦ met q w.status-is w.state-is w.memory-is (settles q PrepareAndStart w.in-PrepareAndStart.is w.prepare_and_start-status.result _ _ (w.prepare_and_start-status.ensures _))
-      | in-Start w ↦ met q w.status-is w.state-is w.memory-is (settles q Start w.in-Start.is w.start-status.result _ _ (w.start-status.ensures _ q.service _))
-      | in-Stop w ↦ met q w.status-is w.state-is w.memory-is (settles q Stop w.in-Stop.is w.stop-status.result _ _ (w.stop-status.ensures _ q.service _))
-      | in-Status w ↦ met q w.status-is w.state-is w.memory-is (says q Status w.in-Status.is refl w.status-status.result (w.status-status.ensures _ q.service _))
-      | in-SendCommand w ↦ met q w.status-is w.state-is w.memory-is (settles q SendCommand w.in-SendCommand.is w.send_command-status.result _ _ (w.send_command-status.ensures _ q.service))
+      | in-Unserved w ↦ met q (ap outcome_number w.outcome-is) w.state-is w.memory-is (says q Unserved w.in-Unserved.is refl not_served (unserved_says _ q.service q.body))
+      | in-Write w ↦ met q (ap outcome_number w.outcome-is) w.state-is w.memory-is (wrote q Write w.in-Write.is refl (outcome_number w.write-outcome.result) _ (w.write-outcome.ensures _ refl))
+      | in-WriteMasked w ↦ met q (ap outcome_number w.outcome-is) w.state-is w.memory-is (wrote q WriteMasked w.in-WriteMasked.is refl (outcome_number w.write_masked-outcome.result) _ (w.write_masked-outcome.ensures _ refl))
+      | in-SetUpScope w ↦ met q (ap outcome_number w.outcome-is) w.state-is w.memory-is (settles q SetUpScope w.in-SetUpScope.is (outcome_number w.set_up_scope-outcome.result) _ _ (w.set_up_scope-outcome.ensures _))
+      | in-PrepareAndStart w ↦ met q (ap outcome_number w.outcome-is) w.state-is w.memory-is (settles q PrepareAndStart w.in-PrepareAndStart.is (outcome_number w.prepare_and_start-outcome.result) _ _ (w.prepare_and_start-outcome.ensures _))
+      | in-Start w ↦ met q (ap outcome_number w.outcome-is) w.state-is w.memory-is (settles q Start w.in-Start.is (outcome_number w.start-outcome.result) _ _ (w.start-outcome.ensures _ q.service _))
+      | in-Stop w ↦ met q (ap outcome_number w.outcome-is) w.state-is w.memory-is (settles q Stop w.in-Stop.is (outcome_number w.stop-outcome.result) _ _ (w.stop-outcome.ensures _ q.service _))
+      | in-Status w ↦ met q (ap outcome_number w.outcome-is) w.state-is w.memory-is (says q Status w.in-Status.is refl (status_number w.status.result) (w.status.ensures _ q.service _))
+      | in-SendCommand w ↦ met q (ap outcome_number w.outcome-is) w.state-is w.memory-is (settles q SendCommand w.in-SendCommand.is (outcome_number w.send_command-outcome.result) _ _ (w.send_command-outcome.ensures _ q.service))
     ] in
-    settled_told q c.match-operation.status settled c.status_alone.ensures
+    settled_told q c.outcome_number.result (met q c.outcome_number.ensures refl refl settled) c.status_alone.ensures

@@ -12,12 +12,12 @@ use Rattle.call_byte.specs.Heard.{heard_of}
 use Rattle.call_byte.proofs.Turns.{event_of, nothing_heard, whole_heard, place_in_body, keep_heard}
 use Rattle.call_byte.proofs.hearing.hear.Goals as goal
 
-pub put_byte-requires : goal.put_byte-requires
-put_byte-requires c =
+pub bounds-state-place : goal.bounds-state-place
+bounds-state-place c =
     let is_step : c.step-taken.result ≡ stepped (decoded_receiver (c.args.state.now)) c.args.byte = c.step-taken.ensures ∙ ap (λ (r : Receiver). stepped r c.args.byte) c.receiver_in-receiver.ensures in
     let small : (i : ℕ) → get_or (c.args.state.now) i 0 < 256 = λ i. (c.slice_known-1.given i).fits in
     let inside = place_in_body (c.args.state.now) c.args.byte c.requires small c.step-taken.result is_step c.in-Keep.at c.in-Keep.byte c.in-Keep.is in
-    omega (arith, inside, c.put_receiver.auto.block, c.usize_of_u8.ensures.0, c.requires)
+    omega (arith, inside, c.put_receiver.auto.block, c.from-place.ensures, c.requires)
 
 pub returns-in-Nothing : goal.returns-in-Nothing
 returns-in-Nothing c =
@@ -40,7 +40,7 @@ returns-in-Keep c =
       brought = ap heard_of (sym (event_of (c.args.state.now) c.args.byte c.requires small c.step-taken.result is_step (Keep at byte) h));
       state =
           keep_heard (c.args.state.now) c.args.byte c.requires small c.step-taken.result is_step _ at byte h
-          (c.put_byte.ensures ∙ (λ i. set (c.put_receiver.ensures i) (body_place + c.usize_of_u8.ensures.0 i) byte));
+          ((λ i. set (c.put_receiver.ensures i) (body_place + c.from-place.ensures i) byte));
     }
 
 pub returns-in-Whole : goal.returns-in-Whole

@@ -12,9 +12,9 @@ use Rattle.serve_recorder.proofs.recording.buffer_from.Goals as goal
 pub returns-then-ex : goal.returns-then-ex
 returns-then-ex c =
     let index = c.args.index in
-    told_as _ _ (ap (λ (ex : Bool). record { status = done; body = little_endian (address_width ex) buffer_begin ++ little_endian 2 index }) (sym c.if-ex.true)) c.done_three_words.ensures
+    told_as _ _ (ap (λ (ex : Bool). record { status = done; body = little_endian (address_width ex) buffer_begin ++ little_endian 2 index }) (sym c.if-ex.true)) c.done_words.ensures
 
 pub returns : goal.returns
 returns c =
     let index = c.args.index in
-    told_as _ _ (ap (λ (ex : Bool). record { status = done; body = little_endian (address_width ex) buffer_begin ++ little_endian 2 index }) (sym c.if-ex.false)) c.done_two_words.ensures
+    told_as _ _ (ap (λ (ex : Bool). record { status = done; body = little_endian (address_width ex) buffer_begin ++ little_endian 2 index }) (sym c.if-ex.false)) c.done_words-2.ensures
