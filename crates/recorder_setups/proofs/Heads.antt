@@ -2,10 +2,10 @@
 use mathlib.Core.Path.{◌≡◌, sym, ap, ◌∙◌}
 use mathlib.Core.Bool.{Bool, cond, not}
 use mathlib.Core.List.{List}
-use Prim.Native.Nat.{ℕ, ◌<◌, ◌≤◌}
+use Prim.Native.Nat.{ℕ, ◌<◌}
 use native.Mathlib.Omega.{arith}
-use lib.ListN.{take, drop, length-take}
-use lib.Seq.{take-take, take_all}
+use lib.ListN.{take, drop}
+use lib.Seq.{take-take}
 use borrow.Author.Tests.{eq-eqb, ne_eqb}
 use Rattle.document.specs.Areas.{bytes_at}
 use Rattle.document.specs.Values.{number}
@@ -19,9 +19,6 @@ use Rattle.recorder_plans.specs.State.{plan_kept}
 module _ (body : List ℕ) (at size : ℕ) where
   pub threshold_short : size < 4 → number (bytes_at body at size) ≡ number (take size (bytes_at body at 4))
   threshold_short h = ap number (sym (take-take size 4 (drop at body) (omega arith)))
-
-  pub threshold_whole : 4 ≤ size → number (bytes_at body at 4) ≡ number (take size (bytes_at body at 4))
-  threshold_whole h = ap number (sym (take_all size (take 4 (drop at body)) (rw length-take (omega arith))))
 
 -- ---- the trigger by the mode
 

@@ -2,14 +2,15 @@
 ghost use Rattle.std.specs.Prelude.{◌≡◌, [], ◌+◌, ◌*◌, ◌^◌, ◌≤◌, ◌<◌, length, take};
 ghost use Rattle.document.specs.Areas.{bytes_at};
 ghost use Rattle.document.specs.Values.{number};
-ghost use Rattle.document.specs.Plan.{head_width, plan_in};
+ghost use Rattle.document.specs.Plan.{head_width, trigger_in, plan_in};
 ghost use Rattle.variables_list.specs.State.{kept};
+ghost use Rattle.recorder_triggers.specs.State.{meant};
 ghost use Rattle.recorder_plans.specs.State.{plan_kept};
 
-use bytes_fields::word_at;
-use bytes_widths::usize_of_u8;
+use bytes_fields::Field;
 use memory_ranges::number_at;
 use recorder_plans::Plan;
+use recorder_triggers::Trigger;
 use variables_definitions::address_width;
 use variables_list::{MOST_VARIABLES, Variables};
 
@@ -31,20 +32,41 @@ pub fn head_width(ex: bool) -> usize
     13 + address_width(ex)
 }
 
-// The numbers before the count, without the variables. With mode 0 the trigger's fields are not looked at.
+// With mode 0 the trigger's fields are not looked at.
+fn read_trigger(ex: bool, body: &[u8]) -> Trigger
+    requires { head_width ex ≤ length body.now }
+    ensures { (meant result ≡ trigger_in ex body.now) × (result.size ≤ 4 → result.threshold < 2 ^ (8 * result.size)) }
+{
+    let mode = body[0];
+    if mode == 0 {
+        return Trigger::default();
+    }
+    let width = address_width(ex);
+    let size = body[7 + width];
+    Trigger {
+        mode,
+        size,
+        sign: body[8 + width],
+        address: number_at(body, 7, width),
+        threshold: threshold_at(body, 9 + width, usize::from(size)),
+    }
+}
+
+// The numbers before the count, without the variables.
 pub fn read_plan(ex: bool, body: &[u8]) -> Plan
     requires { head_width ex ≤ length body.now }
     ensures { (result ≡ plan_kept (plan_in ex body.now) (kept [])) × (result.size ≤ 4 → result.threshold < 2 ^ (8 * result.size)) }
 {
-    let mut plan = Plan {
-        samples: word_at(body, 1),
-        post_trigger: word_at(body, 3),
-        divider: word_at(body, 5),
-        mode: 0,
-        size: 0,
-        sign: 0,
-        address: 0,
-        threshold: 0,
+    let trigger = read_trigger(ex, body);
+    Plan {
+        samples: u16::at(body, 1),
+        post_trigger: u16::at(body, 3),
+        divider: u16::at(body, 5),
+        mode: trigger.mode,
+        size: trigger.size,
+        sign: trigger.sign,
+        address: trigger.address,
+        threshold: trigger.threshold,
         variables: Variables {
             count: 0,
             list: [document::Variable {
@@ -52,20 +74,5 @@ pub fn read_plan(ex: bool, body: &[u8]) -> Plan
                 size: 0,
             }; MOST_VARIABLES],
         },
-    };
-    let mode = body[0];
-    if mode == 0 {
-        return plan;
     }
-    let width = address_width(ex);
-    let size = body[7 + width];
-    let sign = body[8 + width];
-    let address = number_at(body, 7, width);
-    let threshold = threshold_at(body, 9 + width, usize_of_u8(size));
-    plan.mode = mode;
-    plan.size = size;
-    plan.sign = sign;
-    plan.address = address;
-    plan.threshold = threshold;
-    plan
 }

@@ -8,8 +8,7 @@ ghost use Rattle.codes_table.specs.Statuses.{outcome_number};
 ghost use Rattle.recorder_setups.specs.Setup.{seen_size_wrong, seen_range_wrong, body_status};
 
 use crate::fields::head_width;
-use bytes_fields::word_at;
-use bytes_widths::{usize_of_u8, usize_of_u16};
+use bytes_fields::Field;
 use codes_table::Status;
 use memory_ranges::{BUFFER_SIZE, RECORDED_END, may_be_recorded, number_at};
 use recorder_plans::is_trigger_size;
@@ -22,10 +21,7 @@ fn is_length_wrong(ex: bool, body: &[u8]) -> bool
     ensures { result ≡ not (eqb (length body.now) (head_width ex + length_given ex (variables_part ex body.now))) }
 {
     let head = head_width(ex);
-    if body.len() < head {
-        return true;
-    }
-    !is_whole(&body[head..], ex)
+    body.len() < head || !is_whole(&body[head..], ex)
 }
 
 fn is_layout_wrong(ex: bool, body: &[u8]) -> bool
@@ -34,30 +30,24 @@ fn is_layout_wrong(ex: bool, body: &[u8]) -> bool
     if is_length_wrong(ex, body) {
         return true;
     }
-    let mode = body[0];
-    if mode > 2 {
-        return true;
+    match body[0] {
+        0 => false,
+        1 | 2 => body[8 + address_width(ex)] > 1,
+        _ => true,
     }
-    if mode == 0 {
-        return false;
-    }
-    body[8 + address_width(ex)] > 1
 }
 
 fn do_sets_overflow(samples: u16, size: usize) -> bool
     requires { size ≤ 2040 }
     ensures { result ≡ ltb 4096 (samples * size) }
 {
-    usize_of_u16(samples) * size > BUFFER_SIZE
+    usize::from(samples) * size > BUFFER_SIZE
 }
 
 fn is_trigger_size_wrong(mode: u8, size: u8) -> bool
     ensures { result ≡ not (eqb mode 0) && not (is_in size (1 ∷ 2 ∷ 4 ∷ [])) }
 {
-    if mode == 0 {
-        return false;
-    }
-    !is_trigger_size(size)
+    mode != 0 && !is_trigger_size(size)
 }
 
 // Of variables whose count is right.
@@ -65,37 +55,25 @@ fn is_size_wrong(ex: bool, body: &[u8], seen: Surveyed) -> bool
     requires { (head_width ex ≤ length body.now) × (seen.size ≤ 2040) }
     ensures { result ≡ seen_size_wrong ex body.now seen }
 {
-    if seen.zero {
-        return true;
-    }
-    let samples = word_at(body, 1);
-    if samples == 0 {
-        return true;
-    }
-    if do_sets_overflow(samples, seen.size) {
-        return true;
-    }
-    is_trigger_size_wrong(body[0], body[7 + address_width(ex)])
+    let samples = u16::at(body, 1);
+    seen.zero
+        || samples == 0
+        || do_sets_overflow(samples, seen.size)
+        || is_trigger_size_wrong(body[0], body[7 + address_width(ex)])
 }
 
 fn is_trigger_range_wrong(mode: u8, address: u32, size: u8) -> bool
     ensures { result ≡ not (eqb mode 0) && not (may_be_recorded address size) }
 {
-    if mode == 0 {
-        return false;
-    }
-    !may_be_recorded(address, usize_of_u8(size))
+    mode != 0 && !may_be_recorded(address, usize::from(size))
 }
 
 fn is_range_wrong(ex: bool, body: &[u8], seen: Surveyed) -> bool
     requires { head_width ex ≤ length body.now }
     ensures { result ≡ seen_range_wrong ex body.now seen }
 {
-    if !seen.within {
-        return true;
-    }
     let width = address_width(ex);
-    is_trigger_range_wrong(body[0], number_at(body, 7, width), body[7 + width])
+    !seen.within || is_trigger_range_wrong(body[0], number_at(body, 7, width), body[7 + width])
 }
 
 // Any data part will do.

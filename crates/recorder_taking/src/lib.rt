@@ -9,7 +9,6 @@ ghost use Rattle.variables_sets.specs.Recorded.{variables_at, Recordable, set_st
 ghost use Rattle.recorder_plans.specs.State.{trigger_of};
 ghost use Rattle.recorder_plans.specs.Bounds.{plan_sound};
 
-use bytes_widths::{usize_of_u8, usize_of_u16, usize_of_u32};
 use memory_ranges::{BUFFER_BEGIN, number_at};
 use recorder_plans::Plan;
 use variables_sets::{copy_set, set_size};
@@ -19,7 +18,7 @@ pub fn trigger_value(plan: Plan, memory: &[u8]) -> u32
     requires { (plan_sound plan ≡ true) × (length memory.now ≡ memory_end) }
     ensures { (result ≡ trigger_value (trigger_of plan) memory.now) × (result < 2 ^ (8 * plan.size)) }
 {
-    number_at(memory, usize_of_u32(plan.address), usize_of_u8(plan.size))
+    number_at(memory, plan.address as usize, usize::from(plan.size))
 }
 
 // The bytes of `count` variables, the first of which is defined at `from` in the block, go to a place of the ring.
@@ -29,6 +28,6 @@ pub fn take_set(memory: &mut [u8], place: u16, block: &[u8], from: usize, count:
     ensures { memory.new ≡ set_stored memory.old place (variables_at block.now from count) }
 {
     let size = set_size(block, from, count);
-    let at = BUFFER_BEGIN + usize_of_u16(place) * size;
+    let at = BUFFER_BEGIN + usize::from(place) * size;
     copy_set(memory, at, size, block, from, count);
 }

@@ -12,7 +12,7 @@ const RISING: u8 = 1;
 const FALLING: u8 = 2;
 
 // What a setup says of the trigger. Its mode is a number and no enum: it comes from a state whose byte may be any.
-#[derive(Clone, Copy)]
+#[derive(Clone, Copy, Default)]
 pub struct Trigger {
     pub mode: u8,
     pub size: u8,

@@ -6,6 +6,7 @@ ghost use Rattle.scope_state.specs.Setup.{set_up_status};
 use codes_table::Status;
 
 // Any data part will do.
+#[tactic(auto, using(variables_list::proofs::Wrong::count_right), unfolding(crate::specs::Setup::set_up_status))]
 pub fn set_up_status(ex: bool, body: &[u8]) -> Result<(), Status>
     ensures { outcome_number result ≡ set_up_status ex body.now }
 {
