@@ -1,11 +1,13 @@
 -- Bytes of a block by their places: one in front of others, two ranges that meet, and stores of what is there.
 use mathlib.Core.Path.{◌≡◌, refl, sym, ap, ◌∙◌}
 use mathlib.Core.List.{List, [], ◌∷◌, ◌++◌}
-use Prim.Native.Nat.{ℕ, zero, suc, ◌+◌, ◌<◌, ◌≤◌, ◌-◌}
+use Prim.Native.Nat.{ℕ, zero, suc, ◌+◌, ◌<◌, ◌≤◌}
 use native.Mathlib.Nat.{add-zero}
 use native.Mathlib.Omega.{arith}
-use lib.ListN.{length, get_or, set, take, drop, replicate, length-take, length-drop, length-set}
-use lib.Seq.{sets, drop-set-lt, drop-cons, drop-drop, take-add, set-get_or, set-set, set_comm}
+use lib.ListN.{length, get_or, set, take, drop, length-take, length-drop, length-set}
+use borrow.Rule.Slice.PartMut.{put_mid}
+use lib.Seq.{sets, sets-eq, drop-set-lt, drop-cons, drop-drop, take-add, take-length, set-get_or, set-set, set_comm}
+use Rattle.std.proofs.lemmas.Slice.{put_mid-paste}
 use Rattle.document.specs.Areas.{bytes_at}
 
 module _ (l : List ℕ) where
@@ -54,13 +56,13 @@ sets_set (suc n) l i (suc k) b h fits =
     ∙ sets_set n l (suc i) k b (omega arith) (omega arith)
     ∙ ap (λ (j : ℕ). set l j b) (omega arith)
 
--- a turn of clearing
-pub clear_next : (l : List ℕ) (from n k : ℕ) → k < n
-    → sets (set l (from + k) 0) (from + (k + 1)) (replicate (n - (k + 1)) 0) ≡ sets l (from + k) (replicate (n - k) 0)
-clear_next l from n k h =
-    let m : n - k ≡ suc (n - (k + 1)) = omega arith in
-    let f : from + (k + 1) ≡ suc (from + k) = omega arith in
-    rw (m, f)
+-- a part of a block that was written anew, as the library's methods on a part leave it
+pub part_stored : (part l : List ℕ) (at n : ℕ) → length part ≡ n → at + n ≤ length l → put_mid at n l part ≡ sets l at part
+part_stored part l at n e h =
+    put_mid-paste at n l part part n refl refl (sym e)
+    ∙ ap (λ (k : ℕ). take at l ++ take k part ++ drop (at + k) l) (sym e)
+    ∙ ap (λ (front : List ℕ). take at l ++ front ++ drop (at + length part) l) (take-length part)
+    ∙ sym (sets-eq part l at (omega arith))
 
 -- ---- two stores that lie apart, in either order
 

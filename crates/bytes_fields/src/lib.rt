@@ -63,29 +63,20 @@ pub fn put_definition(block: &mut [u8], at: usize, size: u8, address: u32)
     ensures { block.new ≡ sets block.old at (size ∷ little_endian 4 address) }
 {
     block[at] = size;
-    put_long(block, at + 1, address);
+    address.put(block, at + 1);
 }
 
 // The six bytes with which both a target's block and a reader's begin.
-pub fn put_head(block: &mut [u8], a: u8, b: u8, c: u8, d: u8, e: u8, f: u8)
+pub fn put_head(block: &mut [u8], head: [u8; 6])
     requires { 6 ≤ length block.old }
-    ensures { block.new ≡ sets block.old 0 (a ∷ b ∷ c ∷ d ∷ e ∷ f ∷ []) }
+    ensures { block.new ≡ sets block.old 0 head }
 {
-    block[0] = a;
-    block[1] = b;
-    block[2] = c;
-    block[3] = d;
-    block[4] = e;
-    block[5] = f;
+    block[..6].copy_from_slice(&head);
 }
 
 pub fn clear(block: &mut [u8], from: usize, n: usize)
     requires { from + n ≤ length block.old }
     ensures { block.new ≡ sets block.old from (replicate n 0) }
 {
-    let mut k = 0;
-    while k < n {
-        block[from + k] = 0;
-        k += 1;
-    }
+    block[from..from + n].fill(0);
 }

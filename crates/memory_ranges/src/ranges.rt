@@ -4,8 +4,6 @@ ghost use Rattle.document.specs.Areas.{may_be_read, may_be_recorded};
 ghost use Rattle.document.specs.Gate.{Gate};
 ghost use Rattle.document.specs.Permission.{may_be_written};
 
-use bytes_widths::usize_of_u32;
-
 pub const VARIABLES_END: usize = 8192;
 
 // Registered tables end at or below it.
@@ -25,10 +23,8 @@ pub const BUFFER_SIZE: usize = MEMORY_END - BUFFER_BEGIN;
 pub fn within(address: u32, size: usize, end: usize) -> bool
     ensures { result ≡ leb (address + size) end }
 {
-    if size > end {
-        return false;
-    }
-    usize_of_u32(address) <= end - size
+    end.checked_sub(size)
+        .is_some_and(|last| address as usize <= last)
 }
 
 pub fn may_be_read(address: u32, size: usize) -> bool

@@ -7,9 +7,7 @@ pub fn copy_in(memory: &mut [u8], at: usize, bytes: &[u8])
     requires { at + length bytes.now ≤ length memory.old }
     ensures { memory.new ≡ stored memory.old at bytes.now }
 {
-    let mut i = 0;
-    while i < bytes.len() {
-        memory[at + i] = bytes[i];
-        i += 1;
+    for (i, byte) in bytes.iter().enumerate() {
+        memory[at + i] = *byte;
     }
 }

@@ -3,18 +3,14 @@ ghost use Rattle.std.specs.Prelude.{◌+◌, ◌≤◌, length};
 ghost use Rattle.document.specs.Areas.{bytes_at};
 ghost use Rattle.memory_ranges.specs.HoldsNumber.{HoldsNumber};
 
-use bytes_widths::u32_of_u8;
-
 // The number of up to four bytes; who cuts them out of a memory or a message knows how many there are.
 pub fn number(bytes: &[u8]) -> u32
     requires { length bytes.now ≤ 4 }
     ensures { HoldsNumber bytes.now (length bytes.now) result }
 {
-    let mut i = bytes.len();
     let mut x: u32 = 0;
-    while 0 < i {
-        i -= 1;
-        x = x * 256 + u32_of_u8(bytes[i]);
+    for byte in bytes.iter().rev() {
+        x = x * 256 + u32::from(*byte);
     }
     x
 }
@@ -24,6 +20,5 @@ pub fn number_at(memory: &[u8], address: usize, size: usize) -> u32
     requires { (size ≤ 4) × (address + size ≤ length memory.now) }
     ensures { HoldsNumber (bytes_at memory.now address size) size result }
 {
-    let end = address + size;
-    number(&memory[address..end])
+    number(&memory[address..address + size])
 }

@@ -1,12 +1,15 @@
 -- The first zero stands behind the bytes that are counted: none of these is a zero, and a zero with none before it is the first.
-use mathlib.Core.Path.{◌≡◌, refl, sym, ◌∙◌}
-use mathlib.Core.Bool.{true}
+use mathlib.Core.Path.{◌≡◌, refl, sym, ap, ◌∙◌}
+use mathlib.Core.Bool.{Bool, true, cond}
 use mathlib.Core.List.{List, [], ◌∷◌}
 use Prim.Native.Nat.{ℕ, zero, suc, ◌<◌, ◌≤◌}
 use native.Mathlib.Omega.{arith}
 use lib.Dec.{eqb, ltb, leb-suc-suc, leb-suc-zero}
 use lib.ListN.{length, get_or}
-use borrow.Author.Tests.{eq-eqb, ne_eqb, eqb-true, lt-ltb}
+use borrow.Author.Tests.{eq-eqb, ne_eqb, eqb-true, lt-ltb, ltb-false}
+use Rattle.std.specs.List.{position, position_or_len}
+use Rattle.std.specs.Option.{unwrap_or}
+use Rattle.std.proofs.lemmas.List.Recursion.{is_position_or_len}
 use Rattle.document.specs.Strings.{before_zero, has_zero}
 use Rattle.document.proofs.Cases.{split, neither}
 
@@ -57,3 +60,18 @@ pub first_zero : (bs : List ℕ) (n : ℕ) → n < length bs → get_or bs n 0 �
 first_zero bs n h z none =
     let e : before_zero bs ≡ n = counted bs n z none in
     (e, ends bs ∙ lt-ltb (before_zero bs) (length bs) (omega arith))
+
+-- a search for the first zero finds it, or there is none
+abbrev pub is_zero : ℕ → Bool
+is_zero b = eqb b 0
+
+before_first : (bs : List ℕ) → before_zero bs ≡ position_or_len is_zero bs
+unfolding before_zero
+before_first = is_position_or_len before_zero is_zero refl (λ b bs. ap (cond (eqb b 0) 0) (omega arith))
+
+pub first_or_all : (bs : List ℕ) → unwrap_or (position is_zero bs) (length bs) ≡ before_zero bs
+first_or_all bs =
+    let e : before_zero bs ≡ position_or_len is_zero bs = before_first bs in
+    split (ltb (position_or_len is_zero bs) (length bs))
+    (λ y. rw y (sym e))
+    (λ n. rw n (omega (arith, within bs, ltb-false (position_or_len is_zero bs) (length bs) n)))

@@ -17,13 +17,13 @@ use Rattle.bytes_fields.proofs.Definitions.{definition_here}
 
 -- ---- read
 
-module _ (part : List ℕ) (at k : ℕ) where
-  -- a turn of the reading
-  pub definitions_read : (list : List Variable) (v : Variable) → k < 8 → v ≡ definition_in true (drop at part)
-      → sets (set list k v) (k + 1) (definitions_in true (8 - (k + 1)) (drop (at + 5) part)) ≡ sets list k (definitions_in true (8 - k) (drop at part))
-  definitions_read list v h e =
-      let m : 8 - k ≡ suc (8 - (k + 1)) = omega arith in
-      rw (e, m, add-one k, drop-drop 5 at part)
+-- a turn of the reading
+pub definitions_read : (part : List ℕ) (from k : ℕ) (list : List Variable) (v : Variable) → k < 8 → v ≡ definition_in true (drop (from + k * 5) part)
+    → sets (set list k v) (k + 1) (definitions_in true (8 - (k + 1)) (drop (from + (k + 1) * 5) part)) ≡ sets list k (definitions_in true (8 - k) (drop (from + k * 5) part))
+definitions_read part from k list v h e =
+    let m : 8 - k ≡ suc (8 - (k + 1)) = omega arith in
+    let next : from + (k + 1) * 5 ≡ from + k * 5 + 5 = omega arith in
+    rw (e, m, next, add-one k, drop-drop 5 (from + k * 5) part)
 
 -- the first few of eight
 pub definitions_take : (count n : ℕ) (part : List ℕ) → count ≤ n → take count (definitions_in true n part) ≡ definitions_in true count part

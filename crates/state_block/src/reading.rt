@@ -10,7 +10,7 @@ use crate::places::{
     DIVIDER, FULL, MODE, PLACE, POST_TRIGGER, READY, RECORDED, RUNNING, SAMPLES, SIGN,
     STATE_LENGTH, THRESHOLD, TRIGGER_ADDRESS, TRIGGER_SIZE, VALUE, WAIT, WATCH,
 };
-use bytes_fields::{DEFINITION_WIDTH, long_at, word_at};
+use bytes_fields::{DEFINITION_WIDTH, Field};
 use variables_list::MOST_VARIABLES;
 
 pub fn is_long_enough(block: &[u8]) -> bool
@@ -19,6 +19,7 @@ pub fn is_long_enough(block: &[u8]) -> bool
     STATE_LENGTH <= block.len()
 }
 
+#[tactic(auto, unfolding(crate::specs::Layout::decoded_receiver))]
 pub fn receiver_in(block: &[u8]) -> line_receiver::Receiver
     requires { state_length ≤ length block.now }
     ensures { result ≡ decoded_receiver block.now }
@@ -38,7 +39,7 @@ fn definition_at(block: &[u8], at: usize) -> document::Variable
     ensures { result ≡ definition_in true (drop at block.now) }
 {
     document::Variable {
-        address: long_at(block, at + 1),
+        address: u32::at(block, at + 1),
         size: block[at],
     }
 }
@@ -51,12 +52,8 @@ fn definitions_at(block: &[u8], from: usize) -> [document::Variable; MOST_VARIAB
         address: 0,
         size: 0,
     }; MOST_VARIABLES];
-    let mut at = from;
-    let mut k = 0;
-    while k < MOST_VARIABLES {
-        list[k] = definition_at(block, at);
-        at += DEFINITION_WIDTH;
-        k += 1;
+    for k in 0..MOST_VARIABLES {
+        list[k] = definition_at(block, from + k * DEFINITION_WIDTH);
     }
     list
 }
@@ -65,10 +62,9 @@ fn variables_at(block: &[u8], at: usize) -> variables_list::Variables
     requires { at + variables_length ≤ length block.now }
     ensures { result ≡ decoded_variables block.now at }
 {
-    let list = definitions_at(block, at + 1);
     variables_list::Variables {
         count: block[at],
-        list,
+        list: definitions_at(block, at + 1),
     }
 }
 
@@ -76,17 +72,16 @@ pub fn plan_in(block: &[u8]) -> recorder_plans::Plan
     requires { state_length ≤ length block.now }
     ensures { result ≡ decoded_plan block.now }
 {
-    let variables = variables_at(block, RECORDED);
     recorder_plans::Plan {
-        samples: word_at(block, SAMPLES),
-        post_trigger: word_at(block, POST_TRIGGER),
-        divider: word_at(block, DIVIDER),
+        samples: u16::at(block, SAMPLES),
+        post_trigger: u16::at(block, POST_TRIGGER),
+        divider: u16::at(block, DIVIDER),
         mode: block[MODE],
         size: block[TRIGGER_SIZE],
         sign: block[SIGN],
-        address: long_at(block, TRIGGER_ADDRESS),
-        threshold: long_at(block, THRESHOLD),
-        variables,
+        address: u32::at(block, TRIGGER_ADDRESS),
+        threshold: u32::at(block, THRESHOLD),
+        variables: variables_at(block, RECORDED),
     }
 }
 
@@ -98,22 +93,21 @@ pub fn run_in(block: &[u8]) -> recorder_runs::Run
         running: block[RUNNING],
         full: block[FULL],
         watch: block[WATCH],
-        wait: word_at(block, WAIT),
-        place: word_at(block, PLACE),
-        value: long_at(block, VALUE),
+        wait: u16::at(block, WAIT),
+        place: u16::at(block, PLACE),
+        value: u32::at(block, VALUE),
     }
 }
 
+#[tactic(auto, unfolding(crate::specs::Layout::decoded_recorder))]
 pub fn recorder_in(block: &[u8]) -> recorder_state::Recorder
     requires { state_length ≤ length block.now }
     ensures { result ≡ decoded_recorder block.now }
 {
-    let plan = plan_in(block);
-    let run = run_in(block);
     recorder_state::Recorder {
         ready: block[READY],
-        plan,
-        run,
+        plan: plan_in(block),
+        run: run_in(block),
     }
 }
 
@@ -122,8 +116,5 @@ pub fn recorder_runs(block: &[u8]) -> bool
     requires { state_length ≤ length block.now }
     ensures { result ≡ is_running (recorder_of (decoded_recorder block.now)) }
 {
-    if block[READY] == 0 {
-        return false;
-    }
-    block[RUNNING] == 1
+    block[READY] != 0 && block[RUNNING] == 1
 }

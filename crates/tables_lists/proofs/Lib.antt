@@ -1,6 +1,4 @@
 -- What follows from the definitions, for the proofs of this crate.
-pub mod Types
 pub mod Fields
 pub mod EachEntry
-pub mod Inside
 pub mod EachTable

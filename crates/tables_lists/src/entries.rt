@@ -3,8 +3,7 @@ ghost use Rattle.std.specs.Prelude.{◌≡◌, ◌+◌, ◌*◌, ◌≤◌, ◌<
 ghost use Rattle.document.specs.Areas.{memory_end, bytes_at};
 ghost use Rattle.document.specs.Tables.{entry_size, base_size, is_entry_good, are_entries_good};
 
-use bytes_fields::word_at;
-use bytes_widths::{u16_of_u8, usize_of_u16};
+use bytes_fields::Field;
 use memory_ranges::MEMORY_END;
 use tables_base_types::size_of;
 
@@ -20,14 +19,10 @@ fn base_size(memory: &[u8], address: usize) -> u16
     requires { address < length memory.now }
     ensures { result ≡ base_size memory.now address }
 {
-    let next = address + 1;
-    if next >= memory.len() {
-        return 0;
+    match &memory[address..] {
+        [code, 0, ..] => u16::from(size_of(*code)),
+        _ => 0,
     }
-    if memory[next] != 0 {
-        return 0;
-    }
-    u16_of_u8(size_of(memory[address]))
 }
 
 // The entry at an address: its size is its info divided by 4, and that of its base type; another type has any size.
@@ -35,15 +30,12 @@ fn is_entry_good(memory: &[u8], at: usize) -> bool
     requires { (length memory.now ≡ memory_end) × (at + entry_size ≤ memory_end) }
     ensures { result ≡ is_entry_good memory.now (bytes_at memory.now at entry_size) }
 {
-    let type_address = usize_of_u16(word_at(memory, at + TYPE_PLACE));
+    let type_address = usize::from(u16::at(memory, at + TYPE_PLACE));
     if type_address >= MEMORY_END {
         return false;
     }
     let base = base_size(memory, type_address);
-    if base == 0 {
-        return true;
-    }
-    word_at(memory, at + INFO_PLACE) / 4 == base
+    base == 0 || u16::at(memory, at + INFO_PLACE) / 4 == base
 }
 
 // So many entries, one behind the other.
@@ -51,14 +43,10 @@ pub(crate) fn are_entries_good(memory: &[u8], address: usize, count: usize) -> b
     requires { (length memory.now ≡ memory_end) × (address + count * entry_size ≤ memory_end) }
     ensures { result ≡ are_entries_good memory.now address count }
 {
-    let mut at = address;
-    let mut left = count;
-    while 0 < left {
-        if !is_entry_good(memory, at) {
+    for k in 0..count {
+        if !is_entry_good(memory, address + k * ENTRY_SIZE) {
             return false;
         }
-        at += ENTRY_SIZE;
-        left -= 1;
     }
     true
 }

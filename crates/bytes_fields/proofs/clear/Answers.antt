@@ -1,17 +1,14 @@
--- What is left to clear gives the whole.
-use mathlib.Core.Path.{◌≡◌, refl, ◌∙◌}
-use Prim.Native.Nat.{◌-◌}
-use native.Mathlib.Nat.{add-zero, sub-zero}
+-- The part that was filled is a store of so many zeros.
+use mathlib.Core.Path.{◌≡◌}
+use Prim.Native.Nat.{◌+◌, ◌-◌}
 use native.Mathlib.Omega.{arith}
-use lib.ListN.{length-set}
-use Rattle.bytes_fields.proofs.Ranges.{clear_next}
+use lib.ListN.{length-replicate, replicate}
+use Rattle.bytes_fields.proofs.Ranges.{bytes_length, part_stored}
 use Rattle.bytes_fields.proofs.clear.Goals as goal
 
-pub loop-k-init : goal.loop-k-init
-loop-k-init c = (omega arith, refl, rw (add-zero, sub-zero))
-
-pub loop-k-preserved : goal.loop-k-preserved
-loop-k-preserved c = let a = c.args in let l = c.loop-k in (omega arith, simp length-set l.invariant.1, clear_next l.block a.from a.n l.k (omega arith) ∙ l.invariant.2)
-
 pub returns : goal.returns
-returns c = let z : c.args.n - c.loop-k.k ≡ 0 = omega arith in rw z at c.loop-k.invariant.2
+returns c =
+    let a = c.args in
+    let k : (a.from + a.n) - a.from ≡ a.n = omega arith in
+    let zeros = rw (k, bytes_length a.block.now a.from a.n c.requires) at c.fill.ensures.after (λ y e. e) in
+    rw (k, zeros) (part_stored (replicate a.n 0) a.block.now a.from a.n (length-replicate a.n 0) c.requires)

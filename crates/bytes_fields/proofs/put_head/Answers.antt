@@ -1,23 +1,11 @@
--- Six stores, one behind the other.
-use mathlib.Core.Path.{refl}
-use native.Mathlib.Omega.{arith}
-use lib.ListN.{length-set}
+-- What is copied to the block's front is a store there.
+use mathlib.Core.Path.{◌∙◌}
+use Rattle.bytes_fields.proofs.Ranges.{part_stored}
 use Rattle.bytes_fields.proofs.put_head.Goals as goal
-
-pub bounds-block-1 : goal.bounds-block-1
-bounds-block-1 c = simp length-set (omega arith)
-
-pub bounds-block-2 : goal.bounds-block-2
-bounds-block-2 c = simp length-set (omega arith)
-
-pub bounds-block-3 : goal.bounds-block-3
-bounds-block-3 c = simp length-set (omega arith)
-
-pub bounds-block-4 : goal.bounds-block-4
-bounds-block-4 c = simp length-set (omega arith)
-
-pub bounds-block-5 : goal.bounds-block-5
-bounds-block-5 c = simp length-set (omega arith)
+use native.Mathlib.Omega.{arith}
+use lib.ListN.{length-take}
 
 pub returns : goal.returns
-returns c = refl
+returns c =
+    let e = c.copy_from_slice.ensures in
+    rw (← e.after) (part_stored c.copy_from_slice.new.self c.args.block.now 0 6 (e.len ∙ simp length-take (omega arith)) c.requires)

@@ -1,22 +1,25 @@
--- No byte passed is a zero; the search stops at one, or at memory's end, where a zero is read too.
+-- The bytes that are searched are those from the address to memory's end.
+use mathlib.Core.Path.{◌≡◌, ap, ◌∙◌}
+use mathlib.Core.List.{List}
+use Prim.Native.Nat.{ℕ}
 use native.Mathlib.Omega.{arith}
-use lib.ListN.{get_or-eq_default}
-use borrow.Author.Rules.{rules}
-use Rattle.memory_strings.proofs.Search.{found}
+use lib.ListN.{length, drop, length-drop}
+use Rattle.std.specs.List.{between, position}
+use Rattle.std.specs.Option.{unwrap_or}
+use Rattle.std.proofs.Common.{Option}
+use Rattle.std.proofs.lemmas.Slice.{between_to_end}
+use Rattle.document.specs.Strings.{before_zero}
+use Rattle.memory_strings.proofs.Zeros.{within, is_zero, first_or_all}
 use Rattle.memory_strings.proofs.string_length.Goals as goal
-use Rattle.memory_strings.proofs.string_length.Goals.{then-next-memory-via-then-next-memory, then-next-memory-via-else-next-memory+then-memory-end-eq0}
 
-pub loop-end-init : goal.loop-end-init
-loop-end-init c = (search rules, search rules, λ i a l z. omega arith)
-
-pub returns-then-next-memory : goal.returns-then-next-memory
-returns-then-next-memory c =
-    let l = c.loop-end in
+pub returns : goal.returns
+returns c =
     let memory = c.args.memory.now in
-    let here = found memory _ _ l.invariant.0 l.invariant.2 in (
-      elim c.then-next-memory.branch [
-        | then-next-memory-via-then-next-memory w ↦ here (get_or-eq_default memory 0 {n = l.end} (omega arith))
-        | then-next-memory-via-else-next-memory+then-memory-end-eq0 w ↦ here w.if-memory-end-eq0.true
-      ],
-      omega arith,
-    )
+    let at = c.args.at in
+    let part : List ℕ = between at (length memory) memory in
+    let e : c.unwrap_or.result ≡ before_zero (drop at memory) =
+    c.unwrap_or.ensures
+    ∙ ap (λ (r : Option ℕ). unwrap_or r (length part)) c.first_zero.ensures
+    ∙ ap (λ (l : List ℕ). unwrap_or (position is_zero l) (length l)) (between_to_end memory at (length memory) (omega arith))
+    ∙ first_or_all (drop at memory) in
+    (e, omega (arith, within (drop at memory), length-drop at memory))

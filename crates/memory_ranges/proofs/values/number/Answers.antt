@@ -1,38 +1,49 @@
 -- From the highest byte down: the number so far is that of the bytes passed, and below the power of their count.
 use mathlib.Core.Path.{◌≡◌, sym, ap}
 use Prim.Native.Nat.{◌-◌}
-use native.Mathlib.Nat.{sub_self, sub-zero, pow-zero}
+use native.Mathlib.Nat.{sub_self, sub-zero}
 use native.Mathlib.Omega.{arith}
 use lib.Seq.{drop-length}
-use lib.ListN.{length}
-use borrow.Author.Rules.{rules}
+use lib.ListN.{length, length-reverse}
 use Rattle.document.specs.Values.{number}
-use Rattle.memory_ranges.proofs.Widths.{bytes_bits, fewer_bytes, byte_more, byte_more_below}
+use Rattle.std.proofs.lemmas.List.{length_push}
+use Rattle.std.proofs.lemmas.Iterator.Adapters.{YieldsList-from_rev_slice}
+use Rattle.std.proofs.lemmas.Iterator.Consumers.{YieldsList-turn, YieldsList-end}
+use Rattle.memory_ranges.proofs.Widths.{bytes_bits, fewer_bytes, byte_more, byte_more_below, next_back}
 use Rattle.memory_ranges.proofs.values.number.Goals as goal
 
-pub loop-i-init : goal.loop-i-init
-loop-i-init c = (search rules, sym (ap number (drop-length c.args.bytes.now)), rw (sub_self, pow-zero) (omega arith))
+pub loop-byte-init : goal.loop-byte-init
+loop-byte-init c = (rw sub-zero (sym (ap number (drop-length c.args.bytes.now))), omega arith)
 
 pub overflow_mul-x : goal.overflow_mul-x
-overflow_mul-x c = omega (arith, fewer_bytes (length c.args.bytes.now - c.loop-i.i) 3 (omega arith))
+overflow_mul-x c =
+    let l = c.loop-byte in
+    let turn = YieldsList-turn (YieldsList-from_rev_slice c.args.bytes.now (cc)) l.yielded _ l.yielded_by _ _ c.in-Some.byte c.in-Some.is c.next.ensures.steps in
+    omega (arith, fewer_bytes (length l.yielded) 3 (omega (arith, length-reverse c.args.bytes.now)))
 
 pub overflow_add-x : goal.overflow_add-x
 overflow_add-x c =
     let s = c.args.bytes.now in
-    let l = c.loop-i in
-    omega (arith, fewer_bytes (length s - l.i) 3 (omega arith), c.shared_slice_known-in-loop-i-1.given (l.i - 1))
+    let l = c.loop-byte in
+    let turn = YieldsList-turn (YieldsList-from_rev_slice s (cc)) l.yielded _ l.yielded_by _ _ c.in-Some.byte c.in-Some.is c.next.ensures.steps in
+    let byte = next_back s (length l.yielded) c.in-Some.byte.now turn in
+    omega (arith, fewer_bytes (length l.yielded) 3 (omega arith), c.type_inv.bytes (length s - 1 - length l.yielded))
 
-pub loop-i-preserved : goal.loop-i-preserved
-loop-i-preserved c =
+pub loop-byte-preserved : goal.loop-byte-preserved
+loop-byte-preserved c =
     let s = c.args.bytes.now in
-    let l = c.loop-i in (
-      search rules,
-      byte_more s l.i l.x c.u32_of_u8.result (omega arith) l.invariant.0 l.invariant.1 c.u32_of_u8.ensures.0,
-      byte_more_below s l.i l.x c.u32_of_u8.result (omega arith) l.invariant.0 l.invariant.2 (omega (arith, c.shared_slice_known-in-loop-i-1.given (l.i - 1))),
+    let l = c.loop-byte in
+    let turn = YieldsList-turn (YieldsList-from_rev_slice s (cc)) l.yielded _ l.yielded_by _ _ c.in-Some.byte c.in-Some.is c.next.ensures.steps in
+    let byte = next_back s (length l.yielded) c.in-Some.byte.now turn in
+    rw (length_push l.yielded c.in-Some.byte, c.from.ensures) (
+      byte_more s (length l.yielded) c.in-Some.byte.now turn l.x l.invariant.0,
+      byte_more_below l.x c.in-Some.byte.now (length l.yielded) l.invariant.1 (omega (arith, c.type_inv.bytes (length s - 1 - length l.yielded))),
     )
 
 pub returns : goal.returns
 returns c =
-    let l = c.loop-i in
-    let z : l.i ≡ 0 = omega arith in
-    record { value = rw z at l.invariant.1; fits = rw (z, sub-zero, bytes_bits) at l.invariant.2 }
+    let s = c.args.bytes.now in
+    let l = c.loop-byte in
+    let t = YieldsList-end (YieldsList-from_rev_slice s (cc)) l.yielded _ l.yielded_by _ _ c.in-None.is c.next.ensures.steps in
+    let n : length l.yielded ≡ length s = omega (arith, length-reverse s) in
+    record { value = rw (n, sub_self) at l.invariant.0; fits = rw (n, bytes_bits) at l.invariant.1 }

@@ -7,15 +7,15 @@ use Rattle.tables_lists.proofs.entries.is_entry_good.Goals as goal
 
 pub returns-then-type_address-ge-MEMORY_END : goal.returns-then-type_address-ge-MEMORY_END
 returns-then-type_address-ge-MEMORY_END c =
-    sym (rw (le-ltb c.usize_of_u16-type_address.result 16384 (omega arith)))
-    ∙ as_read c.args.memory.now c.args.at _ _ _ (c.usize_of_u16-type_address.ensures.0 ∙ c.word_at.ensures) refl refl
+    sym (rw (le-ltb c.from-type_address.result 16384 (omega arith)))
+    ∙ as_read c.args.memory.now c.args.at _ _ _ (c.from-type_address.ensures ∙ c.at.ensures) refl refl
 
 pub returns-then-base-eq0 : goal.returns-then-base-eq0
 returns-then-base-eq0 c =
-    sym (rw (lt-ltb c.usize_of_u16-type_address.result 16384 (omega arith), eq-eqb _ 0 c.if-base-eq0.true))
-    ∙ as_read c.args.memory.now c.args.at _ _ _ (c.usize_of_u16-type_address.ensures.0 ∙ c.word_at.ensures) c.base_size-base.ensures refl
+    sym (rw (lt-ltb c.from-type_address.result 16384 (omega arith), eq-eqb _ 0 c.if-base-eq0.true))
+    ∙ as_read c.args.memory.now c.args.at _ _ _ (c.from-type_address.ensures ∙ c.at.ensures) c.base_size-base.ensures refl
 
-pub returns : goal.returns
-returns c =
-    sym (rw (lt-ltb c.usize_of_u16-type_address.result 16384 (omega arith), ne_eqb _ 0 c.if-base-eq0.false))
-    ∙ as_read c.args.memory.now c.args.at _ _ _ (c.usize_of_u16-type_address.ensures.0 ∙ c.word_at.ensures) c.base_size-base.ensures c.word_at-2.ensures
+pub returns-else-base-eq0 : goal.returns-else-base-eq0
+returns-else-base-eq0 c =
+    sym (rw (lt-ltb c.from-type_address.result 16384 (omega arith), ne_eqb _ 0 c.if-base-eq0.false))
+    ∙ as_read c.args.memory.now c.args.at _ _ _ (c.from-type_address.ensures ∙ c.at.ensures) c.base_size-base.ensures c.at-else-base-eq0.ensures

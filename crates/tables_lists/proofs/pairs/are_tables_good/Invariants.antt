@@ -1,12 +1,8 @@
--- Pair by pair: a look at the tables from here on gives the answer.
+-- Pair by pair: a look at the tables that are left gives the answer.
 use mathlib.Core.Path.{◌≡◌}
-use Prim.Native.Nat.{◌-◌, ◌≤◌}
-use lib.ListN.{length}
-use Rattle.tables_lists.proofs.EachTable.{good_from}
+use Rattle.document.specs.Tables.{pair_size}
+use Rattle.tables_lists.proofs.EachTable.{good}
 use Rattle.tables_lists.proofs.pairs.are_tables_good.Given as goal
 
-abbrev pub invariant-loop-at : goal.invariant-loop-at
-invariant-loop-at l = (l.at ≤ length l.list) × (good_from l.memory l.list l.at ≡ good_from l.memory l.list 0)
-
-abbrev pub decreases-loop-at : goal.decreases-loop-at
-decreases-loop-at l = length l.list - l.at
+abbrev pub invariant-loop-pair : goal.invariant-loop-pair
+invariant-loop-pair l = (l.pair-iterator.size ≡ pair_size) × (good l.memory l.pair-iterator.rest.now ≡ good l.memory l.list)

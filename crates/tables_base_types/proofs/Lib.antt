@@ -1,2 +1,0 @@
--- What a search of the table finds.
-pub mod Search
