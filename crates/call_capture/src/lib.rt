@@ -32,12 +32,10 @@ fn found(bytes: &[u8]) -> usize
 fn is_room(bytes: &[u8], room: usize) -> bool
     ensures { result ≡ leb (length (captured bytes.now)) room }
 {
-    if room >= bytes.len() / SHORTEST {
-        return true;
-    }
-    found(bytes) <= room
+    room >= bytes.len() / SHORTEST || found(bytes) <= room
 }
 
+// The one refusal becomes its number here, at the C interface: a Result inside would be taken apart at once.
 pub fn capture(bytes: &[u8], list: &mut [u64]) -> Listed
     ensures { CaptureDone bytes.now list.old result list.new }
 {

@@ -4,7 +4,7 @@ use mathlib.Core.Path.{◌≡◌, refl}
 use Prim.Native.Nat.{ℕ, ◌<◌}
 use Rattle.document.specs.Services.{service_of}
 use Rattle.document.specs.Kinds.{kind_of}
-use Rattle.codes_table.specs.declared.reading.Length.TheVariants.{Told}
+use Rattle.std.specs.declared.option.Option.TheVariants.{None}
 use Rattle.codes_table.specs.Table.{length_of, length_in, service_in}
 use Rattle.codes_rows.specs.Rule.{entry_of}
 use Rattle.codes_rows.specs.Rows.{row_at, row_number}
@@ -16,7 +16,7 @@ row_at_lem c h = same_rule (λ (k : ℕ). row_at (row_number k)) entry_of 0 256 
 
 pub length_at : (c : ℕ) → c < 256 → length_in (entry_of c) ≡ length_of c
 unfolding entry_of kind_of service_of
-length_at c h = same_rule (λ (k : ℕ). length_in (entry_of k)) length_of Told 256 c refl h
+length_at c h = same_rule (λ (k : ℕ). length_in (entry_of k)) length_of None 256 c refl h
 
 pub service_at : (c : ℕ) → c < 256 → service_in (entry_of c) ≡ service_of c
 unfolding entry_of kind_of service_of

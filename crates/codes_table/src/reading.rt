@@ -10,21 +10,15 @@ use codes_rows::columns::{
 };
 use document::{Operation, Service};
 
-// How many data bytes follow: as many as the next literal says, or so many.
-#[derive(Clone, Copy)]
-pub enum Length {
-    Told,
-    Fixed(u8),
-}
-
-pub fn length_in(entry: u16) -> Length
+// How many data bytes follow, where the next literal does not tell it.
+pub fn length_in(entry: u16) -> Option<u8>
     ensures { result ≡ length_in entry }
 {
     let n = entry / LENGTH % 8;
     if n == TOLD / LENGTH {
-        return Length::Told;
+        return None;
     }
-    Length::Fixed(n as u8)
+    Some(n as u8)
 }
 
 fn operation_in(entry: u16) -> Operation

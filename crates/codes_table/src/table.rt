@@ -1,13 +1,12 @@
-// The one table of all 256 commands: for each the number of its row. A look builds the array on the stack, so it holds bytes and
-// stands in quarters, of which a look builds one, and what a row says stands in a match.
-ghost use Rattle.std.specs.Prelude.{◌≡◌, ◌+◌, ◌<◌};
+// The one table of all 256 commands: for each the number of its row. It is a static, in read-only memory, so that no look builds it,
+// and each entry is a byte, since what a row says stands once, in crates/codes_rows.
+ghost use Rattle.std.specs.Prelude.{◌≡◌};
 ghost use Rattle.document.specs.Services.{service_of};
 ghost use Rattle.codes_rows.specs.Rows.{row_number};
 ghost use Rattle.codes_table.specs.Table.{length_of};
 ghost use Rattle.codes_rows.specs.Rule.{entry_of};
 
-use crate::reading::{Length, length_in, service_in};
-use bytes_widths::usize_of_u8;
+use crate::reading::{length_in, service_in};
 use codes_rows::row;
 use codes_rows::rows::{
     BRIEF_DESCRIPTION, BUFFER_QUERY, BUFFER_QUERY_EX, COMMAND, DESCRIPTION, NONE, NONE_0, NONE_2,
@@ -19,7 +18,7 @@ use codes_rows::rows::{
 };
 use document::Service;
 
-const FIRST_QUARTER: [u8; 64] = [
+static ROWS: [u8; 256] = [
     NONE, // 0x00
     READ_BLOCK, // 0x01
     WRITE_BLOCK, // 0x02
@@ -84,9 +83,6 @@ const FIRST_QUARTER: [u8; 64] = [
     NONE, // 0x3D
     NONE, // 0x3E
     NONE, // 0x3F
-];
-
-const SECOND_QUARTER: [u8; 64] = [
     NONE, // 0x40
     NONE, // 0x41
     NONE, // 0x42
@@ -151,9 +147,6 @@ const SECOND_QUARTER: [u8; 64] = [
     NONE, // 0x7D
     NONE, // 0x7E
     NONE, // 0x7F
-];
-
-const THIRD_QUARTER: [u8; 64] = [
     NONE, // 0x80
     NONE, // 0x81
     NONE, // 0x82
@@ -218,9 +211,6 @@ const THIRD_QUARTER: [u8; 64] = [
     NONE, // 0xBD
     NONE, // 0xBE
     NONE, // 0xBF
-];
-
-const LAST_QUARTER: [u8; 64] = [
     DESCRIPTION, // 0xC0
     RECORDER_START, // 0xC1
     RECORDER_STOP, // 0xC2
@@ -287,44 +277,10 @@ const LAST_QUARTER: [u8; 64] = [
     NONE_6, // 0xFF
 ];
 
-fn in_first(low: usize) -> u8
-    requires { low < 64 }
-    ensures { result ≡ row_number low }
-{
-    FIRST_QUARTER[low]
-}
-
-fn in_second(low: usize) -> u8
-    requires { low < 64 }
-    ensures { result ≡ row_number (64 + low) }
-{
-    SECOND_QUARTER[low]
-}
-
-fn in_third(low: usize) -> u8
-    requires { low < 64 }
-    ensures { result ≡ row_number (128 + low) }
-{
-    THIRD_QUARTER[low]
-}
-
-fn in_last(low: usize) -> u8
-    requires { low < 64 }
-    ensures { result ≡ row_number (192 + low) }
-{
-    LAST_QUARTER[low]
-}
-
 fn row_number(command: u8) -> u8
     ensures { result ≡ row_number command }
 {
-    let low = usize_of_u8(command % 64);
-    match command / 64 {
-        0 => in_first(low),
-        1 => in_second(low),
-        2 => in_third(low),
-        _ => in_last(low),
-    }
+    ROWS[usize::from(command)]
 }
 
 fn entry(command: u8) -> u16
@@ -333,7 +289,8 @@ fn entry(command: u8) -> u16
     row(row_number(command))
 }
 
-pub fn data_length(command: u8) -> Length
+// How many data bytes a command has, or None where the next literal tells it.
+pub fn data_length(command: u8) -> Option<u8>
     ensures { result ≡ length_of command }
 {
     length_in(entry(command))

@@ -5,12 +5,10 @@ ghost use Rattle.std.specs.Prelude.{◌≡◌, [], ◌≤◌, length};
 ghost use Rattle.document.specs.Numbers.{most_data, answer_room};
 ghost use Rattle.document.specs.AnswerWriter.{answer_formed};
 ghost use Rattle.line_wire.specs.AnswerWritten.{AnswerWritten};
+ghost use Rattle.line_wire.specs.Outcome.{written_of};
 ghost use Rattle.line_wire.specs.Told.{Telling, Told};
 
-use codes_table::{
-    ANSWER_ROOM, FORM_REFUSED, MOST_DATA, NOT_SERVED, RANGE_WRONG, RECORDER_STOPPED, ROOM_REFUSED,
-    TAKEN,
-};
+use codes_table::{ANSWER_ROOM, MOST_DATA, NOT_SERVED, RANGE_WRONG, RECORDER_STOPPED, Refusal};
 use line_wire::Written;
 use line_wire::doubling::{PLUS, Progress, put_all, put_sum};
 
@@ -18,16 +16,11 @@ use line_wire::doubling::{PLUS, Progress, put_all, put_sum};
 fn is_formed(status: u8, body: &[u8]) -> bool
     ensures { result ≡ answer_formed (record { status = status; body = body.now }) }
 {
-    if status <= RECORDER_STOPPED {
-        return body.len() <= MOST_DATA;
+    match status {
+        ..=RECORDER_STOPPED => body.len() <= MOST_DATA,
+        NOT_SERVED..=RANGE_WRONG => body.is_empty(),
+        _ => false,
     }
-    if status < NOT_SERVED {
-        return false;
-    }
-    if status > RANGE_WRONG {
-        return false;
-    }
-    body.len() == 0
 }
 
 // An answer's front. What is put behind it, and the sum byte, go straight into the lent buffer, each byte doubled and summed as it is
@@ -51,25 +44,20 @@ pub fn tell(status: u8, body: &[u8], out: &mut [u8]) -> usize
     put_sum(behind, out)
 }
 
+fn written_in(status: u8, body: &[u8], out: &mut [u8]) -> Result<usize, Refusal>
+    ensures { AnswerWritten (record { status = status; body = body.now }) out.old (written_of result) out.new }
+{
+    if !is_formed(status, body) {
+        return Err(Refusal::Form);
+    }
+    if out.len() < ANSWER_ROOM {
+        return Err(Refusal::Room);
+    }
+    Ok(tell(status, body, out))
+}
+
 pub fn write_answer(status: u8, body: &[u8], out: &mut [u8]) -> Written
     ensures { AnswerWritten (record { status = status; body = body.now }) out.old result out.new }
 {
-    let formed = is_formed(status, body);
-    let short = out.len() < ANSWER_ROOM;
-    if !formed {
-        return Written {
-            refusal: FORM_REFUSED,
-            length: 0,
-        };
-    }
-    if short {
-        return Written {
-            refusal: ROOM_REFUSED,
-            length: 0,
-        };
-    }
-    Written {
-        refusal: TAKEN,
-        length: tell(status, body, out),
-    }
+    Written::from(written_in(status, body, out))
 }

@@ -5,6 +5,7 @@ use Prim.Native.Nat.{ℕ, zero, suc, ◌+◌, ◌-◌, ◌%◌, ◌<◌, ◌≤�
 use native.Mathlib.Omega.{arith}
 use lib.ListN.{length, take, drop, get_or}
 use lib.Seq.{drop-length}
+use Rattle.std.specs.declared.option.Option.TheVariants.{None}
 use Rattle.document.specs.Sum.{total}
 use Rattle.document.specs.Pairing.{paired, until_start, width, opened_at}
 use Rattle.document.specs.Pairing.Token.{literal}
@@ -14,7 +15,7 @@ use Rattle.line_captures.specs.declared.tokens.Met.{Met}
 use Rattle.line_captures.specs.declared.tokens.Met.TheVariants.{Start, Literal, End}
 use Rattle.line_captures.specs.declared.messages.Step.{Step}
 use Rattle.line_captures.specs.Tokens.{met_at}
-use Rattle.line_captures.specs.Messages.{literals_from, heard_from, Passed, not_whole, entries_at, Opened}
+use Rattle.line_captures.specs.Messages.{literals_from, heard_from, Passed, entries_at, Opened}
 use Rattle.line_captures.specs.Walk.{captured_from, Stepped}
 use Rattle.line_captures.proofs.Meeting.{AtStart, AtLiteral, Reads, reads}
 
@@ -121,7 +122,7 @@ start_stepped bytes at r e o =
 
 -- nothing is found there
 abbrev on : ℕ → Step
-on behind = record { behind = behind; command = 0; class = not_whole }
+on behind = record { behind = behind; found = None }
 
 pub literal_stepped : (bytes : List ℕ) (at l next : ℕ) → met_at bytes at ≡ Literal l next → Stepped bytes at (on next)
 unfolding captured_from

@@ -2,11 +2,6 @@
 use Rattle.std.specs.Prelude.{cond, List, [], ◌∷◌, ℕ, suc, ◌*◌, ltb}
 use Rattle.std.proofs.lemmas.List.Edits.{sets}
 use Rattle.document_captures.specs.Captures.{Entry, numbers_of, entry_room}
-use Rattle.line_captures.specs.declared.messages.Step.{Step}
-
--- the entry of a message that was found, whose start byte stands at a place
-abbrev pub placed : ℕ → Step → Entry
-placed place s = record { place = place; command = s.command; class = s.class }
 
 unfoldable pub put_one : List ℕ → ℕ → Entry → List ℕ
 put_one list n e = cond (ltb n (entry_room list)) (sets list (n * 3) (numbers_of e)) list

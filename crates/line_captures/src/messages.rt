@@ -1,21 +1,27 @@
 // What a start opens: its command, its length where it has one, its data and its sum byte, as far as literals follow.
 ghost use Rattle.std.specs.Prelude.{◌≡◌, ◌+◌, ◌≤◌, ◌<◌, length, get_or};
-ghost use Rattle.document.specs.Kinds.{fast_length};
-ghost use Rattle.line_captures.specs.Messages.{class_in, Spanned, Counted, Opened};
+ghost use Rattle.line_captures.specs.Messages.{class_number, class_of, Spanned, Counted, Opened};
 
 use crate::tokens;
 use crate::tokens::Met;
-use codes_table::{FIRST_FAST, MOST_DATA_BYTE};
+use codes_table::{FIRST_FAST, MOST_DATA_BYTE, fast_length};
 use line_wire::sum::added;
 
-pub const WHOLE_AND_RIGHT: u8 = 0;
+// The status class of a whole message, with its number in the list.
+#[derive(Clone, Copy)]
+pub enum Class {
+    WholeAndRight = 0,
+    WholeWithWrongSum = 1,
+    TooLongWithRightSum = 2,
+}
 
-pub const WHOLE_WITH_WRONG_SUM: u8 = 1;
+impl From<Class> for u64 {
+    ghost from_gives = { λ class number. number ≡ class_number class };
 
-pub const TOO_LONG_WITH_RIGHT_SUM: u8 = 2;
-
-// No message ends here.
-pub const NOT_WHOLE: u8 = 3;
+    fn from(class: Class) -> u64 {
+        class as u64
+    }
+}
 
 // A run of literals: where it ends, how many are missing, and what those that are there add up to.
 #[derive(Clone, Copy)]
@@ -25,12 +31,17 @@ pub struct Span {
     pub sum: u8,
 }
 
-// What stands at a place: where to go on, and the message found there with its class.
+#[derive(Clone, Copy)]
+pub struct Found {
+    pub command: u8,
+    pub class: Class,
+}
+
+// What stands at a place: where to go on, and the message that ends there, if one does.
 #[derive(Clone, Copy)]
 pub struct Step {
     pub behind: usize,
-    pub command: u8,
-    pub class: u8,
+    pub found: Option<Found>,
 }
 
 // So many literals from a place on, or as many as come before a start and the end.
@@ -38,49 +49,35 @@ fn taken_literals(bytes: &[u8], from: usize, n: usize, sum: u8) -> Span
     requires { from ≤ length bytes.now }
     ensures { Spanned bytes.now from n sum result }
 {
-    let mut at = from;
-    let mut missing = n;
-    let mut so_far = sum;
-    while missing > 0 {
-        let Met::Literal(literal, behind) = tokens::met_at(bytes, at) else {
-            return Span {
-                behind: at,
-                missing,
-                sum: so_far,
-            };
+    let mut span = Span {
+        behind: from,
+        missing: n,
+        sum,
+    };
+    while span.missing > 0 {
+        let Met::Literal(literal, behind) = tokens::met_at(bytes, span.behind) else {
+            return span;
         };
-        so_far = added(so_far, literal);
-        missing -= 1;
-        at = behind;
+        span = Span {
+            behind,
+            missing: span.missing - 1,
+            sum: added(span.sum, literal),
+        };
     }
-    Span {
-        behind: at,
-        missing,
-        sum: so_far,
-    }
-}
-
-// "At 0xC0 and above, bits 5 and 4 give the data length"
-fn fast_length(command: u8) -> u8
-    ensures { result ≡ fast_length command }
-{
-    command / 16 % 4 * 2
+    span
 }
 
 // A message above 64 whose sum is wrong is one with a wrong sum.
-fn class_of(missing: usize, sum: u8, count: u8) -> u8
-    ensures { result ≡ class_in missing sum count }
+fn class_of(sum: u8, count: u8) -> Class
+    ensures { result ≡ class_of sum count }
 {
-    if missing != 0 {
-        return NOT_WHOLE;
-    }
     if sum != 0 {
-        return WHOLE_WITH_WRONG_SUM;
+        Class::WholeWithWrongSum
+    } else if count > MOST_DATA_BYTE {
+        Class::TooLongWithRightSum
+    } else {
+        Class::WholeAndRight
     }
-    if count > MOST_DATA_BYTE {
-        return TOO_LONG_WITH_RIGHT_SUM;
-    }
-    WHOLE_AND_RIGHT
 }
 
 // So many data bytes and a sum byte, behind what adds up to this sum.
@@ -88,11 +85,18 @@ fn counted(bytes: &[u8], from: usize, command: u8, count: u8, sum: u8) -> Step
     requires { from ≤ length bytes.now }
     ensures { Counted bytes.now from command count sum result }
 {
-    let body = taken_literals(bytes, from, count as usize + 1, sum);
+    let body = taken_literals(bytes, from, usize::from(count) + 1, sum);
+    let found = if body.missing == 0 {
+        Some(Found {
+            command,
+            class: class_of(body.sum, count),
+        })
+    } else {
+        None
+    };
     Step {
         behind: body.behind,
-        command,
-        class: class_of(body.missing, body.sum, count),
+        found,
     }
 }
 
@@ -109,8 +113,7 @@ pub fn opened(bytes: &[u8], at: usize) -> Step
     let Met::Literal(length, from) = tokens::met_at(bytes, behind) else {
         return Step {
             behind,
-            command,
-            class: NOT_WHOLE,
+            found: None,
         };
     };
     counted(bytes, from, command, length, added(command, length))

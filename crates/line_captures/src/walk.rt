@@ -2,7 +2,7 @@
 ghost use Rattle.std.specs.Prelude.{◌≡◌, ◌<◌, length};
 ghost use Rattle.line_captures.specs.Walk.{Stepped, Walked};
 
-use crate::messages::{NOT_WHOLE, Step};
+use crate::messages::Step;
 use crate::tokens::Met;
 use crate::{entries, messages, tokens};
 
@@ -16,13 +16,11 @@ fn step(bytes: &[u8], at: usize) -> Step
         Met::Start => messages::opened(bytes, at + 1),
         Met::Literal(_, behind) => Step {
             behind,
-            command: 0,
-            class: NOT_WHOLE,
+            found: None,
         },
         Met::End => Step {
             behind: bytes.len(),
-            command: 0,
-            class: NOT_WHOLE,
+            found: None,
         },
     }
 }

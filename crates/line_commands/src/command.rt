@@ -2,11 +2,11 @@
 ghost use Rattle.std.specs.Prelude.{◌≡◌, ◌+◌, ◌≤◌, length};
 ghost use Rattle.document.specs.Doubling.{stuffed};
 ghost use Rattle.document.specs.Message.{length_part, summed, well_formed};
+ghost use Rattle.line_wire.specs.Outcome.{written_of};
 ghost use Rattle.line_wire.specs.Put.{Put};
 ghost use Rattle.line_commands.specs.CommandWritten.{CommandWritten};
 
-use bytes_widths::usize_of_u8;
-use codes_table::{FIRST_FAST, FORM_REFUSED, Length, ROOM_REFUSED, TAKEN, data_length};
+use codes_table::{FIRST_FAST, Refusal, data_length};
 use line_measure::is_short;
 use line_wire::Written;
 use line_wire::doubling::{PLUS, Progress, put, put_all, put_sum};
@@ -18,10 +18,9 @@ fn is_formed(command: u8, body: &[u8]) -> bool
     if command == PLUS {
         return false;
     }
-    let length = data_length(command);
-    match length {
-        Length::Told => body.len() <= 255,
-        Length::Fixed(n) => body.len() == usize_of_u8(n),
+    match data_length(command) {
+        None => body.len() <= 255,
+        Some(n) => body.len() == usize::from(n),
     }
 }
 
@@ -36,22 +35,14 @@ fn put_length(from: Progress, command: u8, body: &[u8], out: &mut [u8]) -> Progr
     from
 }
 
-pub fn write_command(command: u8, body: &[u8], out: &mut [u8]) -> Written
-    ensures { CommandWritten command body.now out.old result out.new }
+fn written_in(command: u8, body: &[u8], out: &mut [u8]) -> Result<usize, Refusal>
+    ensures { CommandWritten command body.now out.old (written_of result) out.new }
 {
-    let formed = is_formed(command, body);
-    if !formed {
-        return Written {
-            refusal: FORM_REFUSED,
-            length: 0,
-        };
+    if !is_formed(command, body) {
+        return Err(Refusal::Form);
     }
-    let short = is_short(command, body, out.len());
-    if short {
-        return Written {
-            refusal: ROOM_REFUSED,
-            length: 0,
-        };
+    if is_short(command, body, out.len()) {
+        return Err(Refusal::Room);
     }
     out[0] = PLUS;
     out[1] = command;
@@ -61,9 +52,11 @@ pub fn write_command(command: u8, body: &[u8], out: &mut [u8]) -> Written
     };
     let before = put_length(front, command, body, out);
     let behind = put_all(before, body, out);
-    let end = put_sum(behind, out);
-    Written {
-        refusal: TAKEN,
-        length: end,
-    }
+    Ok(put_sum(behind, out))
+}
+
+pub fn write_command(command: u8, body: &[u8], out: &mut [u8]) -> Written
+    ensures { CommandWritten command body.now out.old result out.new }
+{
+    Written::from(written_in(command, body, out))
 }

@@ -1,41 +1,23 @@
 // How long a message is on the wire, before a byte of it is written.
 #![tactic(auto)]
 
-ghost use Rattle.std.specs.Prelude.{◌≡◌, [], ◌∷◌, ◌≤◌, ◌<◌, length, ltb};
+ghost use Rattle.std.specs.Prelude.{◌≡◌, ◌≤◌, length, ltb};
 ghost use Rattle.document.specs.Message.{length_part};
 ghost use Rattle.document.specs.CommandWriter.{command_on_wire};
 ghost use Rattle.line_wire.specs.Put.{progressed};
 
 use codes_table::FIRST_FAST;
-use line_wire::doubling::{PLUS, Progress};
-use line_wire::sum::{added, sum_byte};
+use line_wire::doubling::Progress;
+use line_wire::sum::sum_byte;
 
-// Where a writer will be once it has put this byte.
-fn measured(progress: Progress, byte: u8) -> Progress
-    requires { progress.at < 1024 }
-    ensures { result ≡ progressed progress (byte ∷ []) }
-{
-    if byte == PLUS {
-        return Progress {
-            at: progress.at + 2,
-            sum: added(progress.sum, PLUS),
-        };
-    }
-    Progress {
-        at: progress.at + 1,
-        sum: added(progress.sum, byte),
-    }
-}
-
+// The bytes go nowhere: a buffer to write them into is what the caller is to be spared.
 fn measured_all(from: Progress, bytes: &[u8]) -> Progress
     requires { (from.at ≤ 4) × (length bytes.now ≤ 255) }
     ensures { result ≡ progressed from bytes.now }
 {
     let mut progress = from;
-    let mut i = 0;
-    while i < bytes.len() {
-        progress = measured(progress, bytes[i]);
-        i += 1;
+    for byte in bytes {
+        progress = progress.behind(*byte);
     }
     progress
 }
@@ -46,7 +28,7 @@ fn measured_length(from: Progress, command: u8, body: &[u8]) -> Progress
     ensures { result ≡ progressed from (length_part command body.now) }
 {
     if command < FIRST_FAST {
-        return measured(from, body.len() as u8);
+        return from.behind(body.len() as u8);
     }
     from
 }
@@ -60,8 +42,8 @@ fn wire_length(command: u8, body: &[u8]) -> usize
         sum: command,
     };
     let before = measured_length(front, command, body);
-    let behind = measured_all(before, body);
-    let end = measured(behind, sum_byte(behind.sum));
+    let summed = measured_all(before, body);
+    let end = summed.behind(sum_byte(summed.sum));
     end.at
 }
 

@@ -8,7 +8,8 @@ use codes_table::MOST_DATA_BYTE;
 use line_wire::doubling::PLUS;
 use line_wire::sum::added;
 
-// Outside an answer, in its data, at its sum byte.
+// Outside an answer, in its data, at its sum byte. A phase is a number, and a flag that waits is one too, since a caller in C lends the
+// head as bytes, which may hold anything: `is_sound` says which of them are right.
 pub const IDLE: u8 = 0;
 
 pub const DATA: u8 = 1;
@@ -48,10 +49,7 @@ pub struct Stepped {
 fn data_length(status: u8, expected: u8) -> u8
     ensures { result ≡ data_length status expected }
 {
-    if status >= ERROR {
-        return 0;
-    }
-    expected
+    if status >= ERROR { 0 } else { expected }
 }
 
 // Whether a reader that has so many of n data can be in this phase.
@@ -69,25 +67,23 @@ fn is_at(phase: u8, have: u8, n: u8) -> bool
 fn phase_at(have: u8, n: u8) -> u8
     ensures { result ≡ phase_at have n }
 {
-    if have < n {
-        return DATA;
-    }
-    SUM
+    if have < n { DATA } else { SUM }
 }
 
 impl Head {
     // Whether the reader is within its bounds; its data may be anything.
+    #[tactic(auto, unfolding(crate::specs::Reader::sound))]
     pub fn is_sound(self) -> bool
         ensures { result ≡ sound (with_body self []) }
     {
-        if self.waiting > 1 {
-            return false;
-        }
-        if self.expected > MOST_DATA_BYTE {
-            return false;
-        }
         let n = data_length(self.status, self.expected);
-        is_at(self.phase, self.have, n)
+        self.waiting <= 1 && self.expected <= MOST_DATA_BYTE && is_at(self.phase, self.have, n)
+    }
+
+    fn asking(self, asks: Asked) -> Stepped
+        ensures { result ≡ record { next = self; asks = asks } }
+    {
+        Stepped { next: self, asks }
     }
 
     // A start, whose first literal is the status.
@@ -111,10 +107,7 @@ impl Head {
         self.have = at + 1;
         self.sum = added(self.sum, byte);
         self.phase = phase_at(at + 1, data_length(self.status, self.expected));
-        Stepped {
-            next: self,
-            asks: Asked::Keep { at, byte },
-        }
+        self.asking(Asked::Keep { at, byte })
     }
 
     // The sum byte: data are handed out only where all adds up.
@@ -124,36 +117,26 @@ impl Head {
     {
         self.waiting = 0;
         self.phase = IDLE;
-        let right = added(self.sum, byte) == 0;
-        if right {
-            return Stepped {
-                next: self,
-                asks: Asked::Right {
-                    status: self.status,
-                    length: self.have,
-                },
-            };
+        if added(self.sum, byte) != 0 {
+            return self.asking(Asked::Wrong);
         }
-        Stepped {
-            next: self,
-            asks: Asked::Wrong,
-        }
+        self.asking(Asked::Right {
+            status: self.status,
+            length: self.have,
+        })
     }
 
     fn take_literal(mut self, byte: u8) -> Stepped
         requires { sound (with_body self []) ≡ true }
         ensures { ((body : List ℕ) → literal (with_body self body) byte ≡ head_step result body) × (reach result.asks ≤ most_data) }
     {
-        if self.phase == DATA {
-            return self.store(byte);
-        }
-        if self.phase == SUM {
-            return self.finish(byte);
-        }
-        self.waiting = 0;
-        Stepped {
-            next: self,
-            asks: Asked::Nothing,
+        match self.phase {
+            DATA => self.store(byte),
+            SUM => self.finish(byte),
+            _ => {
+                self.waiting = 0;
+                self.asking(Asked::Nothing)
+            }
         }
     }
 
@@ -162,23 +145,14 @@ impl Head {
         requires { sound (with_body self []) ≡ true }
         ensures { ((body : List ℕ) → stepped (with_body self body) byte ≡ head_step result body) × (reach result.asks ≤ most_data) }
     {
-        let waits = self.waiting == 1;
-        if byte == PLUS {
-            if waits {
-                return self.take_literal(PLUS);
+        match (byte == PLUS, self.waiting == 1) {
+            (true, false) => {
+                self.waiting = 1;
+                self.asking(Asked::Nothing)
             }
-            self.waiting = 1;
-            return Stepped {
-                next: self,
-                asks: Asked::Nothing,
-            };
+            (false, true) => self.open(byte).asking(Asked::Nothing),
+            (true, true) => self.take_literal(PLUS),
+            (false, false) => self.take_literal(byte),
         }
-        if waits {
-            return Stepped {
-                next: self.open(byte),
-                asks: Asked::Nothing,
-            };
-        }
-        self.take_literal(byte)
     }
 }

@@ -4,7 +4,8 @@
 
 mod step;
 
-// The phases: outside a message, or which literal comes next.
+// The phases: outside a message, or which literal comes next. A phase is a number, and a flag that waits is one too, since a caller in C
+// lends the state as bytes, which may hold anything: every state is stepped, and crates/line_bounds alone says which are right.
 pub const IDLE: u8 = 0;
 
 pub const LENGTH_NEXT: u8 = 1;

@@ -3,36 +3,28 @@ ghost use Rattle.std.specs.Prelude.{◌≡◌};
 ghost use Rattle.line_receiver.specs.Step.{plus, next_phase, more, opened, measured, counted, closed, after_literal, literal_event, after_byte, byte_event, stepped};
 
 use crate::{DATA_NEXT, Event, IDLE, LENGTH_NEXT, Reaction, Receiver, SUM_NEXT};
-use codes_table::{FIRST_FAST, MOST_DATA_BYTE};
+use codes_table::{FIRST_FAST, MOST_DATA_BYTE, fast_length};
+use line_wire::doubling::PLUS;
 use line_wire::sum::added;
 
 // 1 for a 0x2B, 0 for any other byte.
 fn plus_of(byte: u8) -> u8
     ensures { result ≡ plus byte }
 {
-    if byte == 0x2B {
-        return 1;
-    }
-    0
+    u8::from(byte == PLUS)
 }
 
 fn next_phase(have: u8, length: u8) -> u8
     ensures { result ≡ next_phase have length }
 {
-    if have < length {
-        return DATA_NEXT;
-    }
-    SUM_NEXT
+    if have < length { DATA_NEXT } else { SUM_NEXT }
 }
 
 // One more, where one is to come: within the bounds it is.
 fn more(have: u8, length: u8) -> u8
     ensures { result ≡ more have length }
 {
-    if have < length {
-        return have + 1;
-    }
-    have
+    if have < length { have + 1 } else { have }
 }
 
 impl Receiver {
@@ -48,7 +40,7 @@ impl Receiver {
             self.phase = LENGTH_NEXT;
             return self;
         }
-        self.length = command / 16 % 4 * 2;
+        self.length = fast_length(command);
         self.phase = next_phase(0, self.length);
         self
     }
@@ -82,38 +74,32 @@ impl Receiver {
     fn after_literal(self, byte: u8) -> Receiver
         ensures { result ≡ after_literal self byte }
     {
-        if self.phase == DATA_NEXT {
-            return self.count(byte);
+        match self.phase {
+            DATA_NEXT => self.count(byte),
+            SUM_NEXT => self.close(byte),
+            LENGTH_NEXT => self.measure(byte),
+            _ => self,
         }
-        if self.phase == SUM_NEXT {
-            return self.close(byte);
-        }
-        if self.phase == LENGTH_NEXT {
-            return self.measure(byte);
-        }
-        self
     }
 
     fn literal_event(self, byte: u8) -> Event
         ensures { result ≡ literal_event self byte }
     {
-        if self.phase == DATA_NEXT {
-            let at = self.have;
-            if at < MOST_DATA_BYTE {
-                return Event::Keep { at, byte };
-            }
-            return Event::Nothing;
-        }
-        if self.phase == SUM_NEXT {
-            return Event::Whole {
+        match self.phase {
+            DATA_NEXT if self.have < MOST_DATA_BYTE => Event::Keep {
+                at: self.have,
+                byte,
+            },
+            SUM_NEXT => Event::Whole {
                 command: self.command,
                 length: self.length,
                 sum: added(self.sum, byte),
-            };
+            },
+            _ => Event::Nothing,
         }
-        Event::Nothing
     }
 
+    #[tactic(auto, unfolding(crate::specs::Step::after_byte))]
     fn after_byte(mut self, byte: u8) -> Receiver
         ensures { result ≡ after_byte self byte }
     {
@@ -129,6 +115,7 @@ impl Receiver {
         self.open(byte)
     }
 
+    #[tactic(auto, unfolding(crate::specs::Step::byte_event))]
     fn byte_event(self, byte: u8) -> Event
         ensures { result ≡ byte_event self byte }
     {
@@ -140,6 +127,7 @@ impl Receiver {
 
     // A byte of the line. Any state is safe; who holds the whole state has checked its bounds. State and event are made apart
     // and put together once: that compiles to half the instructions of an answer made in each branch.
+    #[tactic(auto, unfolding(crate::specs::Step::stepped))]
     pub fn step(self, byte: u8) -> Reaction
         ensures { result ≡ stepped self byte }
     {

@@ -2,3 +2,4 @@
 pub mod Put
 pub mod Told
 pub mod AnswerWritten
+pub mod Outcome

@@ -1,10 +1,10 @@
 // Bytes go into a lent buffer doubled where the line asks it, and into the sum as they are.
 // Who tells an answer or writes a command calls these once the buffer is measured.
-ghost use Rattle.std.specs.Prelude.{[], ◌∷◌, ◌+◌, ◌≤◌, length};
+ghost use Rattle.std.specs.Prelude.{◌≡◌, [], ◌∷◌, ◌+◌, ◌<◌, ◌≤◌, length};
 ghost use Rattle.document.specs.Doubling.{stuffed};
 ghost use Rattle.document.specs.Sum.{sum_byte_of};
 ghost use Rattle.document.specs.Values.{little_endian};
-ghost use Rattle.line_wire.specs.Put.{Put, Ended};
+ghost use Rattle.line_wire.specs.Put.{progressed, Put, Ended};
 
 use crate::sum;
 
@@ -17,24 +17,30 @@ pub struct Progress {
     pub sum: u8,
 }
 
+impl Progress {
+    // Where a writer is once it has put this byte, and the sum then.
+    pub fn behind(self, byte: u8) -> Progress
+        requires { self.at < 0x8000000000000000 }
+        ensures { result ≡ progressed self (byte ∷ []) }
+    {
+        let places = if byte == PLUS { 2 } else { 1 };
+        Progress {
+            at: self.at + places,
+            sum: sum::added(self.sum, byte),
+        }
+    }
+}
+
 pub fn put(progress: Progress, byte: u8, out: &mut [u8]) -> Progress
     requires { progress.at + length (stuffed (byte ∷ [])) ≤ length out.old }
     ensures { Put progress (byte ∷ []) out.old result out.new }
 {
     let at = progress.at;
     out[at] = byte;
-    let behind = at + 1;
     if byte == PLUS {
-        out[behind] = PLUS;
-        return Progress {
-            at: at + 2,
-            sum: sum::added(progress.sum, PLUS),
-        };
+        out[at + 1] = PLUS;
     }
-    Progress {
-        at: behind,
-        sum: sum::added(progress.sum, byte),
-    }
+    progress.behind(byte)
 }
 
 // Two bytes, low byte first.
@@ -51,10 +57,8 @@ pub fn put_all(from: Progress, bytes: &[u8], out: &mut [u8]) -> Progress
     ensures { Put from bytes.now out.old result out.new }
 {
     let mut progress = from;
-    let mut i = 0;
-    while i < bytes.len() {
-        progress = put(progress, bytes[i], out);
-        i += 1;
+    for byte in bytes {
+        progress = put(progress, *byte, out);
     }
     progress
 }

@@ -5,12 +5,12 @@ ghost use Rattle.document.specs.Sum.{sum_byte_of};
 pub fn added(sum: u8, byte: u8) -> u8
     ensures { result ≡ (sum + byte) % 256 }
 {
-    ((sum as u16 + byte as u16) % 256) as u8
+    sum.wrapping_add(byte)
 }
 
 // The byte that takes the sum to 0.
 pub fn sum_byte(sum: u8) -> u8
     ensures { result ≡ sum_byte_of (sum ∷ []) }
 {
-    ((256 - sum as u16) % 256) as u8
+    sum.wrapping_neg()
 }

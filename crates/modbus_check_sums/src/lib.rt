@@ -13,20 +13,15 @@ use table::SHIFTED;
 fn low_byte(register: u16, byte: u8) -> usize
     ensures { (result ≡ bit_xor register byte % 256) × (result < 256) }
 {
-    ((register ^ (byte as u16)) % 256) as usize
+    usize::from((register ^ u16::from(byte)) % 256)
 }
 
-// The compiler builds the table on the stack where it is named: once for all bytes.
 pub fn check_sum(bytes: &[u8]) -> u16
     ensures { result ≡ check_sum bytes.now }
 {
-    let shifted = SHIFTED;
     let mut register: u16 = 0xFFFF;
-    let mut i = 0;
-    while i < bytes.len() {
-        let low = low_byte(register, bytes[i]);
-        register = (register >> 8) ^ shifted[low];
-        i += 1;
+    for byte in bytes {
+        register = (register >> 8) ^ SHIFTED[low_byte(register, *byte)];
     }
     register
 }

@@ -1,6 +1,6 @@
-// What eight shifts make of each low byte: the check sum's table of 256 words.
+// What eight shifts make of each low byte: the check sum's table of 256 words, a static in read-only memory, so that no call builds it.
 
-pub const SHIFTED: [u16; 256] = [
+pub static SHIFTED: [u16; 256] = [
     // 0x00 to 0x0F
     0x0000, 0xC0C1, 0xC181, 0x0140, 0xC301, 0x03C0, 0x0280, 0xC241, 0xC601, 0x06C0, 0x0780, 0xC741,
     0x0500, 0xC5C1, 0xC481, 0x0440,

@@ -13,24 +13,23 @@ use Rattle.line_wire.proofs.Stuffed.{stuffed_one}
 use Rattle.line_wire.proofs.Writing.{progressed_none, progressed_drop}
 use Rattle.line_measure.proofs.measured_all.Goals as goal
 
-pub loop-i-preserved : goal.loop-i-preserved
-loop-i-preserved c =
-    let l = c.loop-i in
+pub loop-byte-preserved : goal.loop-byte-preserved
+loop-byte-preserved c =
+    let l = c.loop-byte in
     let s = c.args.bytes.now in
-    let b = get_or s l.i 0 in
-    let h : l.i < length s = search rules in
-    let at : c.measured-progress.result.at ≡ l.progress.at + length (stuffed (b ∷ [])) = ap (λ (q : Progress). q.at) c.measured-progress.ensures in
-    let sum : c.measured-progress.result.sum ≡ (l.progress.sum + total (b ∷ [])) % 256 = ap (λ (q : Progress). q.sum) c.measured-progress.ensures in (
-      search rules,
+    let b = get_or s l.byte-index 0 in
+    let h : l.byte-index < length s = search rules in
+    let at : c.behind-progress.result.at ≡ l.progress.at + length (stuffed (b ∷ [])) = ap (λ (q : Progress). q.at) c.behind-progress.ensures in
+    let sum : c.behind-progress.result.sum ≡ (l.progress.sum + total (b ∷ [])) % 256 = ap (λ (q : Progress). q.sum) c.behind-progress.ensures in (
       omega (arith, stuffed_one b),
       omega arith,
-      ap (λ (q : Progress). progressed q (drop (l.i + 1) s)) c.measured-progress.ensures
-          ∙ progressed_drop l.progress s l.i h
-          ∙ l.invariant.3,
+      ap (λ (q : Progress). progressed q (drop (l.byte-index + 1) s)) c.behind-progress.ensures
+          ∙ progressed_drop l.progress s l.byte-index h
+          ∙ l.invariant.2,
     )
 
 pub returns : goal.returns
 returns c =
-    let l = c.loop-i in
-    let none : drop l.i c.args.bytes.now ≡ [] = drop_of_length-le _ c.loop-i-test.false in
-    sym (progressed_none l.progress l.invariant.2) ∙ rw none at l.invariant.3
+    let l = c.loop-byte in
+    let none : drop l.byte-index c.args.bytes.now ≡ [] = drop_of_length-le _ c.loop-byte-test.false in
+    sym (progressed_none l.progress l.invariant.1) ∙ rw none at l.invariant.2

@@ -13,8 +13,8 @@ pub record Left (bytes : List ℕ) (from n sum at missing so_far : ℕ) : Type 0
   pub passed : Passed bytes from at
   pub small : so_far < 256
 
-abbrev pub invariant-loop-missing : goal.invariant-loop-missing
-invariant-loop-missing l = Left l.bytes l.from l.n l.sum l.at l.missing l.so_far
+abbrev pub invariant-loop-span : goal.invariant-loop-span
+invariant-loop-span l = Left l.bytes l.from l.n l.sum l.span.behind l.span.missing l.span.sum
 
-abbrev pub decreases-loop-missing : goal.decreases-loop-missing
-decreases-loop-missing l = l.missing
+abbrev pub decreases-loop-span : goal.decreases-loop-span
+decreases-loop-span l = l.span.missing

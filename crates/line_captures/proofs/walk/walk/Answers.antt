@@ -3,14 +3,15 @@ use mathlib.Core.Path.{◌≡◌, refl, sym, ap, ◌∙◌}
 use mathlib.Core.List.{List, []}
 use Prim.Native.Nat.{ℕ, ◌+◌, ◌≤◌}
 use native.Mathlib.Omega.{arith}
-use lib.Dec.{eqb}
 use lib.ListN.{length, length-append}
+use Rattle.std.specs.declared.option.Option.{Option}
+use Rattle.std.specs.declared.option.Option.TheVariants.{None, Some}
 use Rattle.document.specs.Message.{heard_at}
-use Rattle.document.proofs.Cases.{split}
 use Rattle.document_captures.specs.Captures.{captured}
 use Rattle.line_captures.specs.declared.messages.Step.{Step}
+use Rattle.line_captures.specs.declared.messages.Found.{Found}
 use Rattle.line_captures.specs.Entries.{put_all}
-use Rattle.line_captures.specs.Messages.{heard_from, not_whole, entries_of}
+use Rattle.line_captures.specs.Messages.{heard_from, entries_in, entries_of}
 use Rattle.line_captures.specs.Walk.{captured_from, Stepped}
 use Rattle.line_captures.proofs.Passing.{captured_behind}
 use Rattle.line_captures.proofs.Lists.{put_append}
@@ -21,8 +22,9 @@ begins : (bytes list : List ℕ) → Left bytes list list 0 0
 unfolding captured_from heard_from captured heard_at
 begins bytes list = record { count = omega arith; filled = refl; few = omega arith; inside = omega arith; same = refl }
 
-one_or_none : (place : ℕ) (s : Step) → length (entries_of place s) ≤ 1
-one_or_none place s = split (eqb s.class not_whole) (λ e. rw e (omega arith)) (λ e. rw e (omega arith))
+one_or_none : (place : ℕ) (f : Option Found) → length (entries_in place f) ≤ 1
+one_or_none place None = omega arith
+one_or_none place (Some f) = omega arith
 
 goes_on : (bytes before list after : List ℕ) (at n r : ℕ) (s : Step) → Left bytes before list at n → Stepped bytes at s → r ≡ n + length (entries_of at s)
     → after ≡ put_all list n (entries_of at s) → length after ≡ length before → Left bytes before after s.behind r
@@ -36,7 +38,7 @@ goes_on bytes before list after at n r s left step is put same =
           ∙ sym (put_append (entries_of at s) (captured_from bytes s.behind) list n)
           ∙ ap (put_all list n) (sym step.found)
           ∙ left.filled;
-      few = omega (arith, is, one_or_none at s, left.few, step.forward);
+      few = omega (arith, is, one_or_none at s.found, left.few, step.forward);
       inside = step.inside;
       same = same;
     }

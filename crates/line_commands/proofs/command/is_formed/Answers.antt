@@ -9,11 +9,11 @@ pub returns-then-command-eq-PLUS : goal.returns-then-command-eq-PLUS
 unfolding well_formed
 returns-then-command-eq-PLUS c = simp (eq-eqb _ _ c.if-command-eq-PLUS.true)
 
-pub returns-in-Told : goal.returns-in-Told
-returns-in-Told c =
-    formed_told c.args.command c.args.body.now c.if-command-eq-PLUS.false (sym c.in-Told.is ∙ c.data_length-length.ensures)
+pub returns-in-None : goal.returns-in-None
+returns-in-None c =
+    formed_told c.args.command c.args.body.now c.if-command-eq-PLUS.false (sym c.in-None.is ∙ c.data_length.ensures)
 
-pub returns-in-Fixed : goal.returns-in-Fixed
-returns-in-Fixed c =
-    formed_fixed c.args.command c.args.body.now c.if-command-eq-PLUS.false c.in-Fixed.n c.usize_of_u8.result
-    (sym c.in-Fixed.is ∙ c.data_length-length.ensures) c.usize_of_u8.ensures.0
+pub returns-in-Some : goal.returns-in-Some
+returns-in-Some c =
+    formed_fixed c.args.command c.args.body.now c.if-command-eq-PLUS.false c.in-Some.n c.from.result
+    (sym c.in-Some.is ∙ c.data_length.ensures) c.from.ensures

@@ -7,22 +7,29 @@ use Rattle.line_reader.specs.Head.{with_body}
 use Rattle.line_reader.specs.Reader.{silent}
 use Rattle.line_reader.proofs.head.Head.step.Goals as goal
 
-pub returns-then-waits : goal.returns-then-waits
-returns-then-waits c =
+pub returns-in-true-false : goal.returns-in-true-false
+returns-in-true-false c =
     let args = c.args in
-    ((λ body. stepped_doubled (with_body args.self body) args.byte (eq-eqb _ _ c.if-byte-eq-PLUS.true) (eq-eqb _ _ c.if-waits.true) ∙ c.take_literal.ensures.0 body), c.take_literal.ensures.1)
+    let arm = c.in-true-false in
+    rw c.asking.ensures ((λ body. stepped_first (with_body args.self body) args.byte (eq-eqb _ _ arm.is-0) (ne_eqb _ _ arm.is-1)), omega arith)
 
-pub returns-then-byte-eq-PLUS : goal.returns-then-byte-eq-PLUS
-returns-then-byte-eq-PLUS c =
+pub returns-in-false-true : goal.returns-in-false-true
+returns-in-false-true c =
     let args = c.args in
-    ((λ body. stepped_first (with_body args.self body) args.byte (eq-eqb _ _ c.if-byte-eq-PLUS.true) (ne_eqb _ _ c.if-waits.false)), omega arith)
+    let arm = c.in-false-true in
+    rw c.asking-in-false-true.ensures
+    ((λ body. stepped_start (with_body args.self body) args.byte (ne_eqb _ _ arm.is-0) (eq-eqb _ _ arm.is-1) ∙ ap silent (sym (c.«open».ensures body))), omega arith)
 
-pub returns-then-waits-2 : goal.returns-then-waits-2
-returns-then-waits-2 c =
+pub returns-in-true-true : goal.returns-in-true-true
+returns-in-true-true c =
     let args = c.args in
-    ((λ body. stepped_start (with_body args.self body) args.byte (ne_eqb _ _ c.if-byte-eq-PLUS.false) (eq-eqb _ _ c.if-waits-2.true) ∙ ap silent (sym (c.«open».ensures body))), omega arith)
+    let arm = c.in-true-true in
+    let taken = c.take_literal.ensures in
+    ((λ body. stepped_doubled (with_body args.self body) args.byte (eq-eqb _ _ arm.is-0) (eq-eqb _ _ arm.is-1) ∙ taken.0 body), taken.1)
 
-pub returns : goal.returns
-returns c =
+pub returns-in-false-false : goal.returns-in-false-false
+returns-in-false-false c =
     let args = c.args in
-    ((λ body. stepped_plain (with_body args.self body) args.byte (ne_eqb _ _ c.if-byte-eq-PLUS.false) (ne_eqb _ _ c.if-waits-2.false) ∙ c.take_literal-2.ensures.0 body), c.take_literal-2.ensures.1)
+    let arm = c.in-false-false in
+    let taken = c.take_literal-in-false-false.ensures in
+    ((λ body. stepped_plain (with_body args.self body) args.byte (ne_eqb _ _ arm.is-0) (ne_eqb _ _ arm.is-1) ∙ taken.0 body), taken.1)
