@@ -52,10 +52,11 @@ fn tick_within(state: &mut [u8], memory: &mut [u8])
 pub fn tick(state: &mut [u8], memory: &mut [u8]) -> u8
     ensures { TickTaken state.old memory.old result state.new memory.new }
 {
-    let refusal = tick_refusal(state, memory);
-    if refusal != TAKEN {
-        return refusal;
+    match tick_refusal(state, memory) {
+        Ok(()) => {
+            tick_within(state, memory);
+            TAKEN
+        }
+        Err(refusal) => u8::from(refusal),
     }
-    tick_within(state, memory);
-    TAKEN
 }
