@@ -12,17 +12,16 @@ ghost use Rattle.state_block.specs.Layout.{data_to, decoded_application};
 ghost use Rattle.application_block.specs.Stored.{Stored, Collects};
 
 use application_state::{COLLECTED, ENDED, WAITING};
-use bytes_fields::put_byte;
-use bytes_widths::usize_of_u8;
 use memory_ranges::copy_in;
 use state_block::{APPLICATION, BODY, COMMAND, COUNT, RESULT};
 
+#[tactic(auto, unfolding(state_block::specs::Layout::decoded_application))]
 pub fn is_pending(state: &[u8]) -> bool
     requires { state_length ≤ length state.now }
     ensures { result ≡ is_pending (application_of (decoded_application state.now)) }
 {
-    let phase = state[APPLICATION];
-    phase == WAITING || phase == COLLECTED
+    // A block may hold any byte for the phase, so it is no enum.
+    matches!(state[APPLICATION], WAITING | COLLECTED)
 }
 
 pub fn is_collected(state: &[u8]) -> bool
@@ -32,16 +31,13 @@ pub fn is_collected(state: &[u8]) -> bool
     state[APPLICATION] == COLLECTED
 }
 
-// The message's data to the command's place, byte by byte: both are parts of one block.
+// The message's data to the command's place: both are parts of one block.
 fn copy_down(state: &mut [u8], count: usize)
     requires { (state_length ≤ length state.old) × (count ≤ most_data) }
     ensures { state.new ≡ sets state.old command_place (bytes_at state.old body_place count) }
 {
-    let mut i = 0;
-    while i < count {
-        state[COMMAND + i] = state[BODY + i];
-        i += 1;
-    }
+    let (front, behind) = state.split_at_mut(COMMAND);
+    copy_in(behind, 0, &front[BODY..BODY + count]);
 }
 
 // The data of a message stand in the block up to a place.
@@ -50,9 +46,9 @@ pub fn send(state: &mut [u8], to: usize)
     ensures { Stored state.old (sent_command (data_to state.old to) (decoded_application state.old)) state.new }
 {
     let count = to - BODY;
-    put_byte(state, APPLICATION, WAITING);
-    put_byte(state, COUNT, count as u8);
-    put_byte(state, RESULT, 0);
+    state[APPLICATION] = WAITING;
+    state[COUNT] = count as u8;
+    state[RESULT] = 0;
     copy_down(state, count);
 }
 
@@ -64,10 +60,9 @@ pub fn collect(state: &mut [u8], out: &mut [u8]) -> usize
     if state[APPLICATION] != WAITING {
         return 0;
     }
-    let count = usize_of_u8(state[COUNT]);
-    let end = COMMAND + count;
-    copy_in(out, 0, &state[COMMAND..end]);
-    put_byte(state, APPLICATION, COLLECTED);
+    let count = usize::from(state[COUNT]);
+    copy_in(out, 0, &state[COMMAND..COMMAND + count]);
+    state[APPLICATION] = COLLECTED;
     count
 }
 
@@ -75,7 +70,7 @@ pub fn report(state: &mut [u8], res: u8)
     requires { state_length ≤ length state.old }
     ensures { Stored state.old (ended_command res (decoded_application state.old)) state.new }
 {
-    put_byte(state, APPLICATION, ENDED);
-    put_byte(state, COUNT, 0);
-    put_byte(state, RESULT, res);
+    state[APPLICATION] = ENDED;
+    state[COUNT] = 0;
+    state[RESULT] = res;
 }

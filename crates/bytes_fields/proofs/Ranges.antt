@@ -64,6 +64,16 @@ part_stored part l at n e h =
     ∙ ap (λ (front : List ℕ). take at l ++ front ++ drop (at + length part) l) (take-length part)
     ∙ sym (sets-eq part l at (omega arith))
 
+-- what lies behind a place, stored on its own
+sets_behind : (xs : List ℕ) (x : ℕ) (l : List ℕ) (i : ℕ) → sets (x ∷ l) (suc i) xs ≡ x ∷ sets l i xs
+sets_behind [] x l i = refl
+sets_behind (y ∷ ys) x l i = sets_behind ys x (set l i y) (suc i)
+
+pub split_stored : (place : ℕ) (l xs : List ℕ) → place ≤ length l → take place l ++ sets (drop place l) 0 xs ≡ sets l place xs
+split_stored zero l xs h = refl
+split_stored (suc place) [] xs h = let z : ⊥ = omega arith in absurd z
+split_stored (suc place) (x ∷ l) xs h = ap (λ (r : List ℕ). x ∷ r) (split_stored place l xs (omega arith)) ∙ sym (sets_behind xs x l place)
+
 -- ---- two stores that lie apart, in either order
 
 byte_apart : (ys l : List ℕ) (p i b : ℕ) → i < p → set (sets l p ys) i b ≡ sets (set l i b) p ys

@@ -28,9 +28,10 @@ pub fn put_reader_head(block: &mut [u8], h: Head)
     requires { reader_length ≤ length block.old }
     ensures { block.new ≡ sets block.old 0 (encoded_head h) }
 {
-    bytes_fields::put_head(
-        block, h.waiting, h.phase, h.status, h.expected, h.have, h.sum,
-    );
+    let head = [
+        h.waiting, h.phase, h.status, h.expected, h.have, h.sum,
+    ];
+    bytes_fields::put_head(block, head);
 }
 
 // The reader as a reading of so many data begins.
@@ -38,6 +39,6 @@ pub fn begin_reader(block: &mut [u8], expected: u8)
     requires { reader_length ≤ length block.old }
     ensures { block.new ≡ sets block.old 0 (encoded_reader (host.fresh expected)) }
 {
-    bytes_fields::put_head(block, 0, 0, 0, expected, 0, 0);
+    bytes_fields::put_head(block, [0, 0, 0, expected, 0, 0]);
     bytes_fields::clear(block, BODY, MOST_DATA);
 }

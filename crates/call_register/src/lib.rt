@@ -9,26 +9,27 @@ ghost use Rattle.state_block.specs.Places.{state_length};
 ghost use Rattle.state_block.specs.Layout.{encoded};
 ghost use Rattle.call_register.specs.Promises.{register_number, RegisterDone};
 
-use bytes_fields::{clear, put_byte};
+use bytes_fields::clear;
 use codes_table::{LIST_REFUSED, MEMORY_REFUSED, STATE_REFUSED, TAKEN};
 use memory_ranges::{MEMORY_END, copy_in};
 use state_block::{LIST, STATE_LENGTH, TABLES, is_long_enough};
 use tables_lists::is_list_good;
 use tables_state::PAIR;
 
-fn register_refusal(state: &[u8], memory: &[u8], list: &[u8]) -> u8
-    ensures { result ≡ register_number state.now memory.now list.now }
+fn register_refusal(state: &[u8], memory: &[u8], list: &[u8]) -> Result<(), Refusal>
+    ensures { taken_number result ≡ register_number state.now memory.now list.now }
 {
     if !is_long_enough(state) {
-        return STATE_REFUSED;
+        return Err(Refusal::State);
     }
     if memory.len() != MEMORY_END {
-        return MEMORY_REFUSED;
+        return Err(Refusal::Memory);
     }
     if is_list_good(memory, list) {
-        return TAKEN;
+        Ok(())
+    } else {
+        Err(Refusal::List)
     }
-    LIST_REFUSED
 }
 
 // Zeros, the count, the list, and zeros behind it.
@@ -37,7 +38,7 @@ fn reset_with(state: &mut [u8], list: &[u8])
     ensures { state.new ≡ sets state.old 0 (encoded (fresh_with (registered_list list.now))) }
 {
     clear(state, 0, TABLES);
-    put_byte(state, TABLES, (list.len() / PAIR) as u8);
+    state[TABLES] = (list.len() / PAIR) as u8;
     copy_in(state, LIST, list);
     let end = LIST + list.len();
     clear(state, end, STATE_LENGTH - end);
@@ -46,9 +47,8 @@ fn reset_with(state: &mut [u8], list: &[u8])
 pub fn register(state: &mut [u8], memory: &[u8], list: &[u8]) -> u8
     ensures { RegisterDone state.old memory.now list.now result state.new }
 {
-    let refusal = register_refusal(state, memory, list);
-    if refusal != TAKEN {
-        return refusal;
+    if let Err(refusal) = register_refusal(state, memory, list) {
+        return u8::from(refusal);
     }
     reset_with(state, list);
     TAKEN

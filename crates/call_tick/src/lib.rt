@@ -9,8 +9,7 @@ ghost use Rattle.state_block.specs.Layout.{decoded};
 ghost use Rattle.call_tick.specs.Promises.{TickTaken};
 ghost use Rattle.call_tick.specs.Parts.{Due, Took, Ticked};
 
-use bytes_fields::put_word;
-use bytes_widths::usize_of_u8;
+use bytes_fields::Field;
 use call_checks::tick_refusal;
 use codes_table::TAKEN;
 use recorder_runs::Run;
@@ -24,7 +23,7 @@ fn take(state: &[u8], memory: &mut [u8], run: Run) -> Run
 {
     let plan = plan_in(state);
     let value = trigger_value(plan, memory);
-    let count = usize_of_u8(state[RECORDED]);
+    let count = usize::from(state[RECORDED]);
     take_set(memory, run.place, state, RECORDED_DEFINITIONS, count);
     run.after_set(plan, value)
 }
@@ -42,7 +41,7 @@ fn tick_within(state: &mut [u8], memory: &mut [u8])
         return;
     }
     if 0 < run.wait {
-        put_word(state, WAIT, run.wait - 1);
+        (run.wait - 1).put(state, WAIT);
         return;
     }
     let next = take(state, memory, run);

@@ -1,7 +1,7 @@
 // The bounds of a target's state, checked where it lies in its block: of the definitions only those that are set up are looked at.
 #![tactic(auto)]
 
-ghost use Rattle.std.specs.Prelude.{◌≡◌, true, false, ◌+◌, ◌≤◌, length, get_or, drop};
+ghost use Rattle.std.specs.Prelude.{◌≡◌, true, ◌+◌, ◌≤◌, IfSome, length, get_or, drop};
 ghost use Rattle.document.specs.Variables.{definitions_in};
 ghost use Rattle.scope_state.specs.State as scope;
 ghost use Rattle.recorder_plans.specs.Bounds as plans;
@@ -14,8 +14,7 @@ ghost use Rattle.state_block.specs.Places.{definitions_length, trigger_size_plac
 ghost use Rattle.state_bounds.specs.Measured.{measured};
 
 use application_state::{ENDED, MOST_RESULT, WAITING};
-use bytes_fields::{DEFINITION_WIDTH, long_at, word_at};
-use bytes_widths::{usize_of_u8, usize_of_u16};
+use bytes_fields::{DEFINITION_WIDTH, Field};
 use codes_table::MOST_DATA_BYTE;
 use memory_ranges::{BUFFER_SIZE, MEMORY_END, RECORDED_END};
 use state_block::{
@@ -26,52 +25,29 @@ use state_block::{
 use tables_state::MOST_TABLES;
 use variables_list::MOST_VARIABLES;
 
-#[derive(Clone, Copy)]
-pub struct Measured {
-    pub within: bool,
-    pub size: usize,
-}
-
-fn outside() -> Measured
-    ensures { result ≡ record { within = false; size = 0 } }
-{
-    Measured {
-        within: false,
-        size: 0,
-    }
-}
-
-fn measure(block: &[u8], from: usize, count: usize, limit: usize) -> Measured
+// How many bytes so many definitions name, where each has a size and ends at or below a limit.
+fn measure(block: &[u8], from: usize, count: usize, limit: usize) -> Option<usize>
     requires { (count ≤ 8) × (from + definitions_length ≤ length block.now) }
-    ensures { (result ≡ measured limit (definitions_in true count (drop from block.now))) × (result.size ≤ 2040) }
+    ensures { (result ≡ measured limit (definitions_in true count (drop from block.now))) × IfSome result (λ size. size ≤ 2040) }
 {
-    let mut at = from;
-    let mut left = count;
-    let mut size = 0;
-    while 0 < left {
-        let n = usize_of_u8(block[at]);
-        if n == 0 {
-            return outside();
+    let mut sum = 0;
+    for k in 0..count {
+        let at = from + k * DEFINITION_WIDTH;
+        let size = usize::from(block[at]);
+        if size == 0 || !memory_ranges::within(u32::at(block, at + 1), size, limit) {
+            return None;
         }
-        if !memory_ranges::within(long_at(block, at + 1), n, limit) {
-            return outside();
-        }
-        size += n;
-        at += DEFINITION_WIDTH;
-        left -= 1;
+        sum += size;
     }
-    Measured { within: true, size }
+    Some(sum)
 }
 
 fn is_scope_sound(block: &[u8]) -> bool
     requires { state_length ≤ length block.now }
     ensures { result ≡ scope.sound (decoded_scope block.now) }
 {
-    let count = usize_of_u8(block[SCOPE]);
-    if count > MOST_VARIABLES {
-        return false;
-    }
-    measure(block, SCOPE_DEFINITIONS, count, MEMORY_END).within
+    let count = usize::from(block[SCOPE]);
+    count <= MOST_VARIABLES && measure(block, SCOPE_DEFINITIONS, count, MEMORY_END).is_some()
 }
 
 // The recorded variables, and that so many sets of them go into the buffer.
@@ -79,70 +55,60 @@ fn are_recorded_sound(block: &[u8]) -> bool
     requires { state_length ≤ length block.now }
     ensures { result ≡ plans.variables_sound (decoded_plan block.now).samples (decoded_plan block.now).variables }
 {
-    let count = usize_of_u8(block[RECORDED]);
-    if count == 0 {
+    let count = usize::from(block[RECORDED]);
+    if count == 0 || count > MOST_VARIABLES {
         return false;
     }
-    if count > MOST_VARIABLES {
-        return false;
+    match measure(block, RECORDED_DEFINITIONS, count, RECORDED_END) {
+        Some(size) => usize::from(u16::at(block, SAMPLES)) * size <= BUFFER_SIZE,
+        None => false,
     }
-    let recorded = measure(block, RECORDED_DEFINITIONS, count, RECORDED_END);
-    if !recorded.within {
-        return false;
-    }
-    usize_of_u16(word_at(block, SAMPLES)) * recorded.size <= BUFFER_SIZE
 }
 
+#[tactic(auto, unfolding(recorder_plans::specs::Bounds::plan_sound))]
 fn is_plan_sound(block: &[u8]) -> bool
     requires { state_length ≤ length block.now }
     ensures { result ≡ plans.plan_sound (decoded_plan block.now) }
 {
-    if word_at(block, SAMPLES) == 0 {
-        return false;
-    }
-    if !recorder_plans::is_trigger_sound(
-        block[MODE],
-        block[TRIGGER_SIZE],
-        block[SIGN],
-        long_at(block, TRIGGER_ADDRESS),
-        long_at(block, THRESHOLD),
-    ) {
-        return false;
-    }
-    are_recorded_sound(block)
+    u16::at(block, SAMPLES) != 0
+        && recorder_plans::is_trigger_sound(
+            block[MODE],
+            block[TRIGGER_SIZE],
+            block[SIGN],
+            u32::at(block, TRIGGER_ADDRESS),
+            u32::at(block, THRESHOLD),
+        )
+        && are_recorded_sound(block)
 }
 
+#[tactic(auto, unfolding(recorder_runs::specs::Bounds::run_sound))]
 fn is_run_sound(block: &[u8]) -> bool
     requires { (state_length ≤ length block.now) × (get_or block.now trigger_size_place 0 ≤ 4) }
     ensures { result ≡ run_sound (decoded_plan block.now) (decoded_run block.now) }
 {
     run_in(block).is_sound(
-        word_at(block, SAMPLES),
-        word_at(block, DIVIDER),
+        u16::at(block, SAMPLES),
+        u16::at(block, DIVIDER),
         block[TRIGGER_SIZE],
-        word_at(block, POST_TRIGGER),
+        u16::at(block, POST_TRIGGER),
     )
 }
 
 // While nothing is set up, nothing else is looked at.
+#[tactic(auto, unfolding(state_block::specs::Layout::decoded_recorder))]
 fn is_recorder_sound(block: &[u8]) -> bool
     requires { state_length ≤ length block.now }
     ensures { result ≡ recorder.sound (decoded_recorder block.now) }
 {
-    let ready = block[READY];
-    if ready == 0 {
-        return true;
+    match block[READY] {
+        0 => true,
+        1 => is_plan_sound(block) && is_run_sound(block),
+        _ => false,
     }
-    if ready != 1 {
-        return false;
-    }
-    if !is_plan_sound(block) {
-        return false;
-    }
-    is_run_sound(block)
 }
 
 // What a phase does not look at may be anything.
+#[tactic(auto, unfolding(application_state::specs::State::sound, state_block::specs::Layout::decoded_application))]
 fn is_application_sound(block: &[u8]) -> bool
     requires { state_length ≤ length block.now }
     ensures { result ≡ application.sound (decoded_application block.now) }
@@ -159,22 +125,14 @@ fn is_application_sound(block: &[u8]) -> bool
 }
 
 // Whether every part of the state is within its bounds.
+#[tactic(auto, unfolding(state_parts::specs::Bounds::sound, tables_state::specs::State::sound, state_block::specs::Layout::decoded_tables))]
 pub fn is_sound(block: &[u8]) -> bool
     requires { state_length ≤ length block.now }
     ensures { result ≡ state.sound (decoded block.now) }
 {
-    let receiver = receiver_in(block);
-    if !line_bounds::is_sound(receiver) {
-        return false;
-    }
-    if !is_scope_sound(block) {
-        return false;
-    }
-    if !is_recorder_sound(block) {
-        return false;
-    }
-    if !is_application_sound(block) {
-        return false;
-    }
-    block[TABLES] <= MOST_TABLES
+    line_bounds::is_sound(receiver_in(block))
+        && is_scope_sound(block)
+        && is_recorder_sound(block)
+        && is_application_sound(block)
+        && block[TABLES] <= MOST_TABLES
 }

@@ -37,31 +37,31 @@ pub slice_bounds-copy_in-end : goal.slice_bounds-copy_in-end
 unfolding decoded_application
 slice_bounds-copy_in-end c =
     let waits : (decoded_application c.args.state.now).phase ≡ is_waiting = c.if-state-ne-WAITING.false in
-    let counted : c.usize_of_u8-count.result ≡ (decoded_application c.args.state.now).count = c.usize_of_u8-count.ensures.0 in
-    let few : c.usize_of_u8-count.result ≤ most_data = omega (arith, counted, waiting_few (decoded_application c.args.state.now) c.requires.1 waits) in
+    let counted : c.from-count.result ≡ (decoded_application c.args.state.now).count = c.from-count.ensures in
+    let few : c.from-count.result ≤ most_data = omega (arith, counted, waiting_few (decoded_application c.args.state.now) c.requires.1 waits) in
     search (rules, few)
 
 pub copy_in-requires : goal.copy_in-requires
 unfolding decoded_application
 copy_in-requires c =
     let waits : (decoded_application c.args.state.now).phase ≡ is_waiting = c.if-state-ne-WAITING.false in
-    let counted : c.usize_of_u8-count.result ≡ (decoded_application c.args.state.now).count = c.usize_of_u8-count.ensures.0 in
-    let few : c.usize_of_u8-count.result ≤ most_data = omega (arith, counted, waiting_few (decoded_application c.args.state.now) c.requires.1 waits) in
-    omega (arith, length-take c.usize_of_u8-count.result (drop command_place c.args.state.now), few, c.requires.2)
+    let counted : c.from-count.result ≡ (decoded_application c.args.state.now).count = c.from-count.ensures in
+    let few : c.from-count.result ≤ most_data = omega (arith, counted, waiting_few (decoded_application c.args.state.now) c.requires.1 waits) in
+    omega (arith, length-take c.from-count.result (drop command_place c.args.state.now), few, c.requires.2)
 
 pub returns : goal.returns
 unfolding encoded_application decoded_application
 returns c =
     let waits : (decoded_application c.args.state.now).phase ≡ is_waiting = c.if-state-ne-WAITING.false in
-    let counted : c.usize_of_u8-count.result ≡ (decoded_application c.args.state.now).count = c.usize_of_u8-count.ensures.0 in
-    let few : c.usize_of_u8-count.result ≤ most_data = omega (arith, counted, waiting_few (decoded_application c.args.state.now) c.requires.1 waits) in
+    let counted : c.from-count.result ≡ (decoded_application c.args.state.now).count = c.from-count.ensures in
+    let few : c.from-count.result ≤ most_data = omega (arith, counted, waiting_few (decoded_application c.args.state.now) c.requires.1 waits) in
     let block = c.args.state.now in
     -- what is copied out is what is new
-    let copied_new : new_command (application_of (decoded_application block)) ≡ bytes_at block command_place c.usize_of_u8-count.result =
+    let copied_new : new_command (application_of (decoded_application block)) ≡ bytes_at block command_place c.from-count.result =
     new_waits (decoded_application block) waits
     ∙ ap (λ (n : ℕ). take n (bytes_at block command_place most_data)) (sym counted)
-    ∙ take-take c.usize_of_u8-count.result most_data (drop command_place block) few in
-    let count : ℕ = c.usize_of_u8-count.result in
+    ∙ take-take c.from-count.result most_data (drop command_place block) few in
+    let count : ℕ = c.from-count.result in
     let length_back : command_place + count - command_place ≡ count = omega arith in
     record {
       result =
@@ -69,8 +69,7 @@ returns c =
           (ap length copied_new
           ∙ bytes_length block command_place count (omega (arith, c.requires.0, few)));
       state =
-          c.put_byte.ensures
-          ∙ head_stored block c.requires.0 (λ i. (c.slice_known-1.given i).fits) 0 is_collected (collected_command (decoded_application c.args.state.now)) (omega arith)
+          head_stored block c.requires.0 (λ i. (c.slice_known-1.given i).fits) 0 is_collected (collected_command (decoded_application c.args.state.now)) (omega arith)
           (ap encoded_application (sym (collected_some (decoded_application c.args.state.now) waits)));
       buffer_told =
           c.copy_in.ensures

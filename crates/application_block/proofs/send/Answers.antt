@@ -3,7 +3,7 @@ use mathlib.Core.Path.{◌≡◌, sym, ap, ◌∙◌}
 use mathlib.Core.List.{List, [], ◌∷◌}
 use Prim.Native.Nat.{ℕ, ◌-◌, ◌≤◌}
 use native.Mathlib.Omega.{arith}
-use lib.ListN.{length, set}
+use lib.ListN.{length}
 use lib.Seq.{sets}
 use Rattle.document.specs.Numbers.{most_data}
 use Rattle.document.specs.Areas.{bytes_at}
@@ -21,11 +21,7 @@ returns c =
     let few : count ≤ most_data = omega (arith, c.requires.2) in
     let width : length body ≡ count = bytes_length block body_place count (omega (arith, c.requires.0, few)) in
     let headed = sets block application_place (1 ∷ count ∷ 0 ∷ []) in
-    let head : c.put_byte-3.new.block ≡ sets block application_place (1 ∷ count ∷ 0 ∷ []) =
-    c.put_byte-3.ensures
-    ∙ ap (λ (l : List ℕ). set l 183 0) (c.put_byte-2.ensures ∙ ap (λ (l : List ℕ). set l 182 count) c.put_byte.ensures) in
     c.copy_down.ensures
-    ∙ ap (λ (l : List ℕ). sets l command_place (bytes_at l body_place count)) head
     ∙ ap (sets headed command_place) (bytes_before (1 ∷ count ∷ 0 ∷ []) block application_place body_place count (omega (arith, few)))
     ∙ ap (λ (n : ℕ). sets block application_place (1 ∷ n ∷ 0 ∷ body)) (sym width)
     ∙ command_stored block c.requires.0 (λ i. (c.slice_known-1.given i).fits) body (omega (arith, width, few))

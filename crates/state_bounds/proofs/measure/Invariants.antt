@@ -7,8 +7,8 @@ use Rattle.document.specs.Variables.{definitions_in, set_size}
 use Rattle.state_bounds.specs.Measured.{are_within}
 use Rattle.state_bounds.proofs.measure.Given as goal
 
-abbrev pub invariant-loop-left : goal.invariant-loop-left
-invariant-loop-left l = (l.left ≤ l.count) × (l.at + 5 * l.left ≡ l.from + 5 * l.count) × (l.size ≤ 255 * (l.count - l.left)) × (are_within l.limit (definitions_in true l.left (drop l.at l.block)) ≡ are_within l.limit (definitions_in true l.count (drop l.from l.block))) × (l.size + set_size (definitions_in true l.left (drop l.at l.block)) ≡ set_size (definitions_in true l.count (drop l.from l.block)))
-
-abbrev pub decreases-loop-left : goal.decreases-loop-left
-decreases-loop-left l = l.left
+abbrev pub invariant-loop-k : goal.invariant-loop-k
+invariant-loop-k l =
+    (l.sum ≤ 255 * l.k)
+    × (are_within l.limit (definitions_in true (l.count - l.k) (drop (l.from + l.k * 5) l.block)) ≡ are_within l.limit (definitions_in true l.count (drop l.from l.block)))
+    × (l.sum + set_size (definitions_in true (l.count - l.k) (drop (l.from + l.k * 5) l.block)) ≡ set_size (definitions_in true l.count (drop l.from l.block)))
