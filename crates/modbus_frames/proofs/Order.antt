@@ -24,10 +24,6 @@ module _ (function : Function) (frame memory : List ℕ) where
   unfolding exception_to
   address_wrong served value wrong = rw (served, value, wrong)
 
-  pub no_exception : is_other function ≡ false → is_value_wrong function frame ≡ false → is_address_wrong function frame memory ≡ false → 0 ≡ exception_to function frame memory
-  unfolding exception_to
-  no_exception served value address = rw (served, value, address)
-
   -- ---- the other way round
 
   pub record Accepted : Type 0 where

@@ -3,7 +3,6 @@ ghost use Rattle.std.specs.Prelude.{◌≡◌, List, ℕ, ◌≤◌, length};
 ghost use Rattle.document.specs.Modbus.{is_address_wrong};
 
 use crate::fields::word_in;
-use bytes_widths::{u32_of_u16, usize_of_u16};
 use document::Function;
 use memory_ranges::{may_be_read, may_be_written};
 
@@ -13,13 +12,12 @@ pub fn is_address_wrong(function: Function, frame: &[u8]) -> bool
     requires { 8 ≤ length frame.now }
     ensures { (memory : List ℕ) → result ≡ is_address_wrong function frame.now memory }
 {
-    let address = 2 * u32_of_u16(word_in(frame, 2));
-    let size = 2 * usize_of_u16(word_in(frame, 4));
+    let address = 2 * u32::from(word_in(frame, 2));
+    let size = 2 * usize::from(word_in(frame, 4));
     match function {
         Function::ReadRegisters => !may_be_read(address, size),
-        Function::WriteRegister => !may_be_written(address, REGISTER),
+        Function::WriteRegister | Function::MaskRegister => !may_be_written(address, REGISTER),
         Function::WriteRegisters => !may_be_written(address, size),
-        Function::MaskRegister => !may_be_written(address, REGISTER),
         Function::Other => false,
     }
 }

@@ -1,41 +1,46 @@
 // The exceptions, in their order: 1, then 3, then 2.
 ghost use Rattle.std.specs.Prelude.{◌≡◌, List, ℕ};
 ghost use Rattle.document.specs.Modbus.{is_other, exception_to};
+ghost use Rattle.modbus_frames.specs.Exceptions.{exception_number, accepted_number};
 
 use crate::addresses::is_address_wrong;
 use crate::values::is_value_wrong;
-use codes_table::DONE;
 use document::Function;
 
-const FUNCTION_NOT_SERVED: u8 = 1;
+// Why a frame is not served.
+#[derive(Clone, Copy)]
+pub enum Exception {
+    FunctionNotServed = 1,
+    AddressWrong = 2,
+    ValueWrong = 3,
+}
 
-const ADDRESS_WRONG: u8 = 2;
+impl From<Exception> for u8 {
+    ghost from_gives = { λ exception byte. byte ≡ exception_number exception };
 
-const VALUE_WRONG: u8 = 3;
+    fn from(exception: Exception) -> u8 {
+        exception as u8
+    }
+}
 
 fn is_other(function: Function) -> bool
     ensures { result ≡ is_other function }
 {
-    match function {
-        Function::ReadRegisters => false,
-        Function::WriteRegister => false,
-        Function::WriteRegisters => false,
-        Function::MaskRegister => false,
-        Function::Other => true,
-    }
+    matches!(function, Function::Other)
 }
 
-pub fn exception_to(function: Function, frame: &[u8]) -> u8
-    ensures { (memory : List ℕ) → result ≡ exception_to function frame.now memory }
+#[tactic(auto, unfolding(document::specs::Modbus::exception_to))]
+pub fn exception_to(function: Function, frame: &[u8]) -> Result<(), Exception>
+    ensures { (memory : List ℕ) → accepted_number result ≡ exception_to function frame.now memory }
 {
     if is_other(function) {
-        return FUNCTION_NOT_SERVED;
+        return Err(Exception::FunctionNotServed);
     }
     if is_value_wrong(function, frame) {
-        return VALUE_WRONG;
+        return Err(Exception::ValueWrong);
     }
     if is_address_wrong(function, frame) {
-        return ADDRESS_WRONG;
+        return Err(Exception::AddressWrong);
     }
-    DONE
+    Ok(())
 }

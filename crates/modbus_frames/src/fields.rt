@@ -3,7 +3,6 @@ ghost use Rattle.std.specs.Prelude.{◌≡◌, ◌+◌, ◌<◌, ◌≤◌, leng
 ghost use Rattle.document.specs.Frames.{word_in};
 ghost use Rattle.document.specs.Modbus.{function_of};
 
-use bytes_widths::u16_of_u8;
 use document::Function;
 
 const READ_REGISTERS: u8 = 3;
@@ -14,6 +13,7 @@ const WRITE_REGISTERS: u8 = 16;
 
 const MASK_REGISTER: u8 = 22;
 
+// No From, since the type is the document's.
 pub fn function_of(byte: u8) -> Function
     ensures { result ≡ function_of byte }
 {
@@ -31,6 +31,5 @@ pub fn word_in(frame: &[u8], place: usize) -> u16
     requires { place + 2 ≤ length frame.now }
     ensures { (result ≡ word_in frame.now place) × (result < 65536) }
 {
-    let next = place + 1;
-    256 * u16_of_u8(frame[place]) + u16_of_u8(frame[next])
+    u16::from_be_bytes([frame[place], frame[place + 1]])
 }

@@ -7,6 +7,6 @@ mod fields;
 mod silence;
 mod values;
 
-pub use exceptions::exception_to;
+pub use exceptions::{Exception, exception_to};
 pub use fields::{function_of, word_in};
 pub use silence::is_silenced;

@@ -4,7 +4,6 @@ ghost use Rattle.document.specs.Modbus.{is_quantity_wrong, is_value_wrong};
 ghost use Rattle.document.specs.declared.Function.TheVariants.{WriteRegisters, ReadRegisters};
 
 use crate::fields::word_in;
-use bytes_widths::{usize_of_u8, usize_of_u16};
 use document::Function;
 
 const MOST_READ: u16 = 125;
@@ -24,19 +23,13 @@ fn is_quantity_wrong(most: u16, frame: &[u8]) -> bool
     ensures { result ≡ is_quantity_wrong most frame.now }
 {
     let quantity = word_in(frame, 4);
-    if quantity < 1 {
-        return true;
-    }
-    quantity > most
+    quantity < 1 || quantity > most
 }
 
 fn is_reading_wrong(frame: &[u8]) -> bool
     ensures { result ≡ is_value_wrong ReadRegisters frame.now }
 {
-    if frame.len() != TWO_WORDS {
-        return true;
-    }
-    is_quantity_wrong(MOST_READ, frame)
+    frame.len() != TWO_WORDS || is_quantity_wrong(MOST_READ, frame)
 }
 
 fn is_writing_wrong(frame: &[u8]) -> bool
@@ -45,14 +38,14 @@ fn is_writing_wrong(frame: &[u8]) -> bool
     if frame.len() < BESIDE_REGISTERS {
         return true;
     }
-    let count = usize_of_u8(frame[6]);
+    let count = usize::from(frame[6]);
     if frame.len() != BESIDE_REGISTERS + count {
         return true;
     }
     if is_quantity_wrong(MOST_WRITTEN, frame) {
         return true;
     }
-    count != 2 * usize_of_u16(word_in(frame, 4))
+    count != 2 * usize::from(word_in(frame, 4))
 }
 
 pub fn is_value_wrong(function: Function, frame: &[u8]) -> bool

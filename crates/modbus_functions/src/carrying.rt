@@ -4,7 +4,6 @@ ghost use Rattle.document.specs.Areas.{memory_end};
 ghost use Rattle.document.specs.Numbers.{done};
 ghost use Rattle.document.specs.Modbus.{exception_to, carried_out};
 
-use bytes_widths::usize_of_u16;
 use document::Function;
 use memory_masks::store_masked_word;
 use modbus_frames::word_in;
@@ -24,9 +23,8 @@ pub fn carry_out(function: Function, frame: &[u8], memory: &mut [u8])
     requires { (exception_to function frame.now memory.old ≡ done) × (length memory.old ≡ memory_end) }
     ensures { memory.new ≡ carried_out function frame.now memory.old }
 {
-    let at = 2 * usize_of_u16(word_in(frame, 2));
+    let at = 2 * usize::from(word_in(frame, 2));
     match function {
-        Function::ReadRegisters => {}
         Function::WriteRegister => copy_swapped(memory, at, &frame[VALUE..VALUE_END]),
         Function::WriteRegisters => {
             let end = frame.len() - CHECK_SUM;
@@ -37,6 +35,6 @@ pub fn carry_out(function: Function, frame: &[u8], memory: &mut [u8])
             let set = word_in(frame, 6);
             store_masked_word(memory, at, set, !kept);
         }
-        Function::Other => {}
+        Function::ReadRegisters | Function::Other => {}
     }
 }

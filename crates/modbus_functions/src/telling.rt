@@ -5,12 +5,12 @@ ghost use Rattle.document.specs.Numbers.{done};
 ghost use Rattle.document.specs.Frames.{station_in, function_byte, first_in, quantity_in};
 ghost use Rattle.document.specs.Modbus.{exception_to, modbus_room};
 ghost use Rattle.document.specs.declared.Function.TheVariants.{ReadRegisters};
+ghost use Rattle.modbus_frames.specs.Exceptions.{exception_number};
 ghost use Rattle.modbus_functions.specs.Put.{answer_to, Put};
 
-use bytes_widths::usize_of_u16;
 use document::Function;
 use memory_ranges::copy_in;
-use modbus_frames::word_in;
+use modbus_frames::{Exception, word_in};
 use modbus_registers::copy_swapped;
 
 const TOP_BIT: u8 = 128;
@@ -26,13 +26,13 @@ const THREE_FIELDS: usize = 8;
 // The head and the count of bytes.
 const COUNTED: usize = 3;
 
-pub fn tell_exception(exception: u8, frame: &[u8], out: &mut [u8]) -> usize
+pub fn tell_exception(exception: Exception, frame: &[u8], out: &mut [u8]) -> usize
     requires { (2 ≤ length frame.now) × (function_byte frame.now < 128) × (modbus_room ≤ length out.old) }
-    ensures { Put (station_in frame.now ∷ (128 + function_byte frame.now) ∷ exception ∷ []) out.old result out.new }
+    ensures { Put (station_in frame.now ∷ (128 + function_byte frame.now) ∷ exception_number exception ∷ []) out.old result out.new }
 {
     out[0] = frame[0];
     out[1] = TOP_BIT + frame[1];
-    out[2] = exception;
+    out[2] = u8::from(exception);
     3
 }
 
@@ -41,8 +41,8 @@ fn tell_registers(frame: &[u8], memory: &[u8], out: &mut [u8]) -> usize
     requires frame_in_bounds { 2 * first_in frame.now + 2 * quantity_in frame.now ≤ length memory.now }
     ensures { Put (answer_to ReadRegisters frame.now memory.now) out.old result out.new }
 {
-    let from = 2 * usize_of_u16(word_in(frame, 2));
-    let count = 2 * usize_of_u16(word_in(frame, 4));
+    let from = 2 * usize::from(word_in(frame, 2));
+    let count = 2 * usize::from(word_in(frame, 4));
     let to = from + count;
     out[0] = frame[0];
     out[1] = frame[1];
@@ -66,8 +66,7 @@ pub fn tell(function: Function, frame: &[u8], memory: &[u8], out: &mut [u8]) -> 
 {
     match function {
         Function::ReadRegisters => tell_registers(frame, memory, out),
-        Function::WriteRegister => tell_front(TWO_FIELDS, frame, out),
-        Function::WriteRegisters => tell_front(TWO_FIELDS, frame, out),
+        Function::WriteRegister | Function::WriteRegisters => tell_front(TWO_FIELDS, frame, out),
         Function::MaskRegister => tell_front(THREE_FIELDS, frame, out),
         Function::Other => tell_front(HEAD, frame, out),
     }

@@ -65,7 +65,7 @@ slice_bounds-copy_swapped-end c =
 pub copy_swapped-requires : goal.copy_swapped-requires
 copy_swapped-requires c =
     let a = c.args in
-    omega (arith, one_room a.function a.frame.now a.memory.now c.requires.1 c.requires.0 c.usize_of_u16-at.result (c.usize_of_u16-at.ensures.0 ∙ c.word_in.ensures.0) c.in-WriteRegister.is)
+    omega (arith, one_room a.function a.frame.now a.memory.now c.requires.1 c.requires.0 c.from-at.result (c.from-at.ensures ∙ c.word_in.ensures.0) c.in-WriteRegister.is)
 
 -- ---- several
 
@@ -86,7 +86,7 @@ slice_bounds-copy_swapped-start-in-WriteRegisters c =
 pub copy_swapped-requires-in-WriteRegisters : goal.copy_swapped-requires-in-WriteRegisters
 copy_swapped-requires-in-WriteRegisters c =
     let a = c.args in
-    omega (arith, several_room a.function a.frame.now a.memory.now c.requires.1 c.requires.0 c.usize_of_u16-at.result (c.usize_of_u16-at.ensures.0 ∙ c.word_in.ensures.0) c.in-WriteRegisters.is)
+    omega (arith, several_room a.function a.frame.now a.memory.now c.requires.1 c.requires.0 c.from-at.result (c.from-at.ensures ∙ c.word_in.ensures.0) c.in-WriteRegisters.is)
 
 -- ---- one is masked
 
@@ -101,7 +101,7 @@ word_in-set-requires c =
 pub store_masked_word-requires : goal.store_masked_word-requires
 store_masked_word-requires c =
     let a = c.args in
-    omega (arith, masked_room a.function a.frame.now a.memory.now c.requires.1 c.requires.0 c.usize_of_u16-at.result (c.usize_of_u16-at.ensures.0 ∙ c.word_in.ensures.0) c.in-MaskRegister.is)
+    omega (arith, masked_room a.function a.frame.now a.memory.now c.requires.1 c.requires.0 c.from-at.result (c.from-at.ensures ∙ c.word_in.ensures.0) c.in-MaskRegister.is)
 
 -- ---- what is left
 
@@ -110,7 +110,7 @@ returns-in-WriteRegister c =
     let frame = c.args.frame.now in
     let memory = c.args.memory.now in
     carried_as c.in-WriteRegister.is frame memory _
-    (c.copy_swapped.ensures ∙ ap (λ (r : ℕ). stored memory (2 * r) (turned (bytes_at frame 4 2))) (c.usize_of_u16-at.ensures.0 ∙ c.word_in.ensures.0))
+    (c.copy_swapped.ensures ∙ ap (λ (r : ℕ). stored memory (2 * r) (turned (bytes_at frame 4 2))) (c.from-at.ensures ∙ c.word_in.ensures.0))
 
 pub returns-in-WriteRegisters : goal.returns-in-WriteRegisters
 returns-in-WriteRegisters c =
@@ -119,7 +119,7 @@ returns-in-WriteRegisters c =
     let values = values_between frame memory c.requires.1 (several c.args.function frame memory c.requires.1 c.requires.0 c.in-WriteRegisters.is) in
     carried_as c.in-WriteRegisters.is frame memory _
     (c.copy_swapped-in-WriteRegisters.ensures
-    ∙ ap₂ (λ (r : ℕ) (vs : List ℕ). stored memory (2 * r) (turned vs)) (c.usize_of_u16-at.ensures.0 ∙ c.word_in.ensures.0) values)
+    ∙ ap₂ (λ (r : ℕ) (vs : List ℕ). stored memory (2 * r) (turned vs)) (c.from-at.ensures ∙ c.word_in.ensures.0) values)
 
 pub returns-in-MaskRegister : goal.returns-in-MaskRegister
 returns-in-MaskRegister c =
@@ -130,5 +130,5 @@ returns-in-MaskRegister c =
     let set = c.word_in-set in
     carried_as c.in-MaskRegister.is frame memory _
     (c.store_masked_word.ensures
-    ∙ masked_so memory (c.usize_of_u16-at.ensures.0 ∙ c.word_in.ensures.0) kept.ensures.0 set.ensures.0
+    ∙ masked_so memory (c.from-at.ensures ∙ c.word_in.ensures.0) kept.ensures.0 set.ensures.0
     (all_of_bytes memory (search rules)) fit.room kept.ensures.1 set.ensures.1)

@@ -6,7 +6,6 @@ use lib.ListN.{length, length-set}
 use lib.Seq.{length-sets}
 use Rattle.document.specs.Frames.{first_in, quantity_in}
 use Rattle.modbus_functions.proofs.Told.{registers_told}
-use Rattle.modbus_functions.proofs.Told.{registers_told}
 use Rattle.modbus_functions.proofs.telling.tell_registers.Goals as goal
 
 -- ---- both fields are read
@@ -16,8 +15,8 @@ shape_of-out c = ap length c.copy_swapped.ensures ∙ simp (length-sets, length-
 
 pub returns : goal.returns
 returns c =
-    let first : (c.usize_of_u16-from.result) ≡ first_in c.args.frame.now = c.usize_of_u16-from.ensures.0 ∙ c.word_in.ensures.0 in
-    let quantity : (c.usize_of_u16-count.result) ≡ quantity_in c.args.frame.now = c.usize_of_u16-count.ensures.0 ∙ c.word_in-2.ensures.0 in
-    let inside : 2 * (c.usize_of_u16-from.result) + 2 * (c.usize_of_u16-count.result) ≤ length (c.args.memory.now) = omega (arith, c.requires.frame_in_bounds, first, quantity) in
+    let first : (c.from-from.result) ≡ first_in c.args.frame.now = c.from-from.ensures ∙ c.word_in.ensures.0 in
+    let quantity : (c.from-count.result) ≡ quantity_in c.args.frame.now = c.from-count.ensures ∙ c.word_in-2.ensures.0 in
+    let inside : 2 * (c.from-from.result) + 2 * (c.from-count.result) ≤ length (c.args.memory.now) = omega (arith, c.requires.frame_in_bounds, first, quantity) in
     let a = c.args in
-    registers_told a.frame.now (c.args.memory.now) a.out.now _ (c.usize_of_u16-from.result) (c.usize_of_u16-count.result) first quantity inside c.copy_swapped.ensures
+    registers_told a.frame.now (c.args.memory.now) a.out.now _ (c.from-from.result) (c.from-count.result) first quantity inside c.copy_swapped.ensures

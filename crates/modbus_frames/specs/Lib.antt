@@ -1,0 +1,2 @@
+-- The number of an exception.
+pub mod Exceptions
