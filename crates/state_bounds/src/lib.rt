@@ -17,6 +17,7 @@ use application_state::{ENDED, MOST_RESULT, WAITING};
 use bytes_fields::{DEFINITION_WIDTH, Field};
 use codes_table::MOST_DATA_BYTE;
 use memory_ranges::{BUFFER_SIZE, MEMORY_END, RECORDED_END};
+use recorder_triggers::Trigger;
 use state_block::{
     APPLICATION, COUNT, DIVIDER, MODE, POST_TRIGGER, READY, RECORDED, RECORDED_DEFINITIONS, RESULT,
     SAMPLES, SCOPE, SCOPE_DEFINITIONS, SIGN, TABLES, THRESHOLD, TRIGGER_ADDRESS, TRIGGER_SIZE,
@@ -71,13 +72,13 @@ fn is_plan_sound(block: &[u8]) -> bool
     ensures { result ≡ plans.plan_sound (decoded_plan block.now) }
 {
     u16::at(block, SAMPLES) != 0
-        && recorder_plans::is_trigger_sound(
-            block[MODE],
-            block[TRIGGER_SIZE],
-            block[SIGN],
-            u32::at(block, TRIGGER_ADDRESS),
-            u32::at(block, THRESHOLD),
-        )
+        && recorder_plans::is_trigger_sound(Trigger {
+            mode: block[MODE],
+            size: block[TRIGGER_SIZE],
+            sign: block[SIGN],
+            address: u32::at(block, TRIGGER_ADDRESS),
+            threshold: u32::at(block, THRESHOLD),
+        })
         && are_recorded_sound(block)
 }
 
