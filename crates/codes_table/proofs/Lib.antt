@@ -1,4 +1,5 @@
--- What follows from the definitions: the table is its rule, and its columns say what the rule put into them.
+-- What follows from the definitions: the table is its rule, its columns say what the rule put into them, and a refusal has a number of its own.
 pub mod Entries
 pub mod Commands
 pub mod Numbering
+pub mod Refusals
