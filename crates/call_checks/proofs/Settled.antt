@@ -10,7 +10,7 @@ use lib.ListN.{length}
 use lib.Seq.{sets}
 use Rattle.codes_table.specs.declared.calls.Refusal.{Refusal}
 use Rattle.codes_table.specs.Calls.{refusal_number}
-use Rattle.codes_table.proofs.Outcomes.{never_taken}
+use Rattle.codes_table.proofs.Refusals.{refusal_some}
 use Rattle.document.specs.Numbers.{taken, state_refused}
 use Rattle.document.proofs.Cases.{split, and_left, and_right}
 use Rattle.state_parts.specs.Bounds.{sound, fresh}
@@ -36,7 +36,7 @@ module _ (block : List ℕ) where
       (λ bad. let e : ◌≡◌ {A = ℕ} state_refused taken = rw bad at fine in let z : ⊥ = omega arith in absurd z)
 
   pub panel_outside : (refusal : Refusal) → refusal_number refusal ≡ panel_number block → block_sound block ≡ false
-  panel_outside refusal said = split (block_sound block) (λ ok. absurd (never_taken refusal (rw ok at said))) (λ bad. bad)
+  panel_outside refusal said = split (block_sound block) (λ ok. absurd (refusal_some refusal (rw ok at said))) (λ bad. bad)
 
   pub checked : (t : Bool) → t ≡ block_sound block → Checked block (cond t taken state_refused)
   checked t e = record { result = ap (λ (k : Bool). cond k taken state_refused) e }

@@ -7,10 +7,11 @@ ghost use Rattle.tables_state.specs.State.{list_length, registered_list};
 ghost use Rattle.state_parts.specs.Bounds.{fresh_with};
 ghost use Rattle.state_block.specs.Places.{state_length};
 ghost use Rattle.state_block.specs.Layout.{encoded};
+ghost use Rattle.codes_table.specs.Calls.{taken_number};
 ghost use Rattle.call_register.specs.Promises.{register_number, RegisterDone};
 
 use bytes_fields::clear;
-use codes_table::{LIST_REFUSED, MEMORY_REFUSED, STATE_REFUSED, TAKEN};
+use codes_table::{Refusal, TAKEN};
 use memory_ranges::{MEMORY_END, copy_in};
 use state_block::{LIST, STATE_LENGTH, TABLES, is_long_enough};
 use tables_lists::is_list_good;

@@ -3,7 +3,7 @@ use mathlib.Core.Path.{sym, ◌∙◌}
 use Rattle.state_block.specs.Layout.{decoded}
 use Rattle.state_parts.proofs.Parts.{parts_of_lem}
 use Rattle.call_checks.proofs.ApplicationNumbers.{collect_known}
-use Rattle.codes_table.proofs.Outcomes.{never_taken}
+use Rattle.codes_table.proofs.Refusals.{refusal_some}
 use Rattle.call_checks.proofs.Settled.{block_known}
 use Rattle.call_checks.specs.Promises.{block_sound}
 use Rattle.call_application.proofs.Calls.{collect_refused, collect_taken}
@@ -12,7 +12,7 @@ use Rattle.call_application.proofs.collect.Goals as goal
 pub returns-in-Err : goal.returns-in-Err
 returns-in-Err c =
     let args = c.args in
-    collect_refused args.state.now args.out.now c.from.result (c.from.ensures ∙ c.in-Err.ensures) (λ e. never_taken c.in-Err.refusal (sym c.from.ensures ∙ e))
+    collect_refused args.state.now args.out.now c.from.result (c.from.ensures ∙ c.in-Err.ensures) (λ e. refusal_some c.in-Err.refusal (sym c.from.ensures ∙ e))
 
 pub collect-requires : goal.collect-requires
 collect-requires c =

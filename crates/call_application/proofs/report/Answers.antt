@@ -3,7 +3,7 @@ use mathlib.Core.Path.{sym, ◌∙◌}
 use Rattle.application_state.specs.State.{application_of}
 use Rattle.state_block.specs.Layout.{decoded_application}
 use Rattle.call_checks.proofs.ApplicationNumbers.{report_known}
-use Rattle.codes_table.proofs.Outcomes.{never_taken}
+use Rattle.codes_table.proofs.Refusals.{refusal_some}
 use Rattle.call_checks.proofs.Settled.{block_known}
 use Rattle.call_checks.specs.Promises.{block_sound}
 use Rattle.call_application.proofs.Calls.{report_refused, report_taken}
@@ -12,7 +12,7 @@ use Rattle.call_application.proofs.report.Goals as goal
 pub returns-in-Err : goal.returns-in-Err
 returns-in-Err c =
     let args = c.args in
-    report_refused args.state.now args.res c.from.result (c.from.ensures ∙ c.in-Err.ensures) (λ e. never_taken c.in-Err.refusal (sym c.from.ensures ∙ e))
+    report_refused args.state.now args.res c.from.result (c.from.ensures ∙ c.in-Err.ensures) (λ e. refusal_some c.in-Err.refusal (sym c.from.ensures ∙ e))
 
 pub report-requires : goal.report-requires
 report-requires c =

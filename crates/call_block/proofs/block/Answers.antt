@@ -1,6 +1,6 @@
 -- Refused, nothing changes; else the block is gone through.
 use mathlib.Core.Path.{sym, ◌∙◌}
-use Rattle.codes_table.proofs.Outcomes.{never_taken}
+use Rattle.codes_table.proofs.Refusals.{refusal_some}
 use Rattle.call_checks.proofs.Lent.{lent_known}
 use Rattle.call_block.proofs.Promised.{block_refused, block_taken}
 use Rattle.call_block.proofs.block.Goals as goal
@@ -24,4 +24,4 @@ pub returns-in-Err : goal.returns-in-Err
 returns-in-Err c =
     let a = c.args in
     block_refused a.state.now a.bytes.now a.memory.now a.answers.now c.from.result (c.from.ensures ∙ c.in-Err.ensures)
-    (λ e. never_taken c.in-Err.refusal (sym c.from.ensures ∙ e))
+    (λ e. refusal_some c.in-Err.refusal (sym c.from.ensures ∙ e))

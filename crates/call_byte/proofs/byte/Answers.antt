@@ -1,6 +1,6 @@
 -- Refused, nothing changes; else the byte is taken.
 use mathlib.Core.Path.{sym, ◌∙◌}
-use Rattle.codes_table.proofs.Outcomes.{never_taken}
+use Rattle.codes_table.proofs.Refusals.{refusal_some}
 use Rattle.call_checks.proofs.Lent.{lent_known}
 use Rattle.call_byte.proofs.Turns.{byte_refused, byte_taken}
 use Rattle.call_byte.proofs.byte.Goals as goal
@@ -20,4 +20,4 @@ pub returns-in-Err : goal.returns-in-Err
 returns-in-Err c =
     let a = c.args in
     byte_refused a.state.now a.byte a.memory.now a.answer.now c.from.result (c.from.ensures ∙ c.in-Err.ensures)
-    (λ e. never_taken c.in-Err.refusal (sym c.from.ensures ∙ e))
+    (λ e. refusal_some c.in-Err.refusal (sym c.from.ensures ∙ e))

@@ -1,7 +1,7 @@
 -- Refused, nothing changes; else the recorder starts.
 use mathlib.Core.Path.{sym, ◌∙◌}
 use Rattle.codes_table.specs.Calls.{refusal_number}
-use Rattle.codes_table.proofs.Outcomes.{never_taken}
+use Rattle.codes_table.proofs.Refusals.{refusal_some}
 use Rattle.call_checks.proofs.Settled.{panel_known}
 use Rattle.call_panel.proofs.Calls.{start_refused, start_taken}
 use Rattle.call_panel.proofs.start.Goals as goal
@@ -17,4 +17,4 @@ returns-in-Ok c =
 
 pub returns-in-Err : goal.returns-in-Err
 returns-in-Err c =
-    rw c.from.ensures (start_refused c.args.state.now (refusal_number c.in-Err.refusal) c.in-Err.ensures (never_taken c.in-Err.refusal))
+    rw c.from.ensures (start_refused c.args.state.now (refusal_number c.in-Err.refusal) c.in-Err.ensures (refusal_some c.in-Err.refusal))

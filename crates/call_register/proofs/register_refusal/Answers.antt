@@ -22,7 +22,7 @@ returns-then-is_list_good c =
     let long : state_length ≤ length (c.args.state.now) = leb-true state_length (length (c.args.state.now)) (sym c.is_long_enough.ensures ∙ c.if-not-is_long_enough.false) in
     good_list (c.args.state.now) (c.args.memory.now) (c.args.list.now) long c.if-memory-ne-MEMORY_END.false (sym c.is_list_good.ensures ∙ c.if-is_list_good.true)
 
-pub returns : goal.returns
-returns c =
+pub returns-else-is_list_good : goal.returns-else-is_list_good
+returns-else-is_list_good c =
     let long : state_length ≤ length (c.args.state.now) = leb-true state_length (length (c.args.state.now)) (sym c.is_long_enough.ensures ∙ c.if-not-is_long_enough.false) in
     bad_list (c.args.state.now) (c.args.memory.now) (c.args.list.now) long c.if-memory-ne-MEMORY_END.false (sym c.is_list_good.ensures ∙ c.if-is_list_good.false)

@@ -16,5 +16,5 @@ returns c =
     c.clear-2.ensures
     ∙ ap (λ (l : List ℕ). sets l end (replicate {A = ℕ} (state_length - end) 0))
     (c.copy_in.ensures
-    ∙ ap (λ (l : List ℕ). sets l list_place list) (c.put_byte.ensures ∙ ap (λ (l : List ℕ). set l tables_place (length list / 4)) c.clear.ensures))
+    ∙ ap (λ (l : List ℕ). sets l list_place list) (ap (λ (l : List ℕ). set l tables_place (length list / 4)) c.clear.ensures))
     ∙ reset_stored block list c.requires.1 (length list / 4) end (state_length - end) refl refl refl

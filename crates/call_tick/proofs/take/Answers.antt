@@ -23,26 +23,26 @@ after_set-requires c =
 
 pub returns : goal.returns
 returns c =
-    let count = c.usize_of_u8-count in
+    let count = c.from-count in
     let memory = c.args.memory.now in
     record {
       run_after =
           c.after_set.ensures memory c.trigger_value-value.ensures.0
           ∙ ap (λ (q : Plan). run_kept (set_taken (plan_of q) (run_of c.args.run) memory)) c.plan_in-plan.ensures;
-      memory_left = rw (recorded c.args.state.now count.result count.ensures.0 c.requires.plan_sound_lem) at c.take_set.ensures;
+      memory_left = rw (recorded c.args.state.now count.result count.ensures c.requires.plan_sound_lem) at c.take_set.ensures;
     }
 
 pub take_set-requires-clause-recordable : goal.take_set-requires-clause-recordable
 take_set-requires-clause-recordable c =
-    let count = c.usize_of_u8-count in
+    let count = c.from-count in
     let block = c.args.state.now in
     record {
-      few = few block count.result count.ensures.0 c.requires.plan_sound_lem;
+      few = few block count.result count.ensures c.requires.plan_sound_lem;
       inside = omega arith;
-      may = may_be_recorded_lem block count.result count.ensures.0 c.requires.plan_sound_lem;
+      may = may_be_recorded_lem block count.result count.ensures c.requires.plan_sound_lem;
     }
 
 pub take_set-requires-clause-count_bound : goal.take_set-requires-clause-count_bound
 take_set-requires-clause-count_bound c =
-    let count = c.usize_of_u8-count in
-    (room c.args.state.now count.result count.ensures.0 c.requires.plan_sound_lem c.args.run c.requires.run_sound_lem, c.requires.memory_whole)
+    let count = c.from-count in
+    (room c.args.state.now count.result count.ensures c.requires.plan_sound_lem c.args.run c.requires.run_sound_lem, c.requires.memory_whole)

@@ -1,6 +1,6 @@
 -- Refused, nothing changes; else the recorder ticks.
 use mathlib.Core.Path.{sym, ◌∙◌}
-use Rattle.codes_table.proofs.Outcomes.{never_taken}
+use Rattle.codes_table.proofs.Refusals.{refusal_some}
 use Rattle.call_checks.proofs.Numbers.{tick_known}
 use Rattle.call_checks.proofs.Settled.{block_known}
 use Rattle.call_tick.proofs.Ticks.{tick_refused, tick_taken}
@@ -21,4 +21,4 @@ returns-in-Ok c =
 
 pub returns-in-Err : goal.returns-in-Err
 returns-in-Err c =
-    tick_refused c.args.state.now c.args.memory.now c.from.result (c.from.ensures ∙ c.in-Err.ensures) (λ e. never_taken c.in-Err.refusal (sym c.from.ensures ∙ e))
+    tick_refused c.args.state.now c.args.memory.now c.from.result (c.from.ensures ∙ c.in-Err.ensures) (λ e. refusal_some c.in-Err.refusal (sym c.from.ensures ∙ e))

@@ -21,7 +21,7 @@ pub returns-then-run-gt0 : goal.returns-then-run-gt0
 returns-then-run-gt0 c =
     let small : (i : ℕ) → get_or (c.args.state.now) i 0 < 256 = λ i. (c.slice_known-1.given i).fits in
     let planned : get_or (c.args.state.now) recorder_place 0 ≡ 0 → ⊥ = c.if-state-eq0.false in
-    let put = c.put_word in
+    let put = c.put in
     waiting_ticked (c.args.state.now) (c.args.memory.now) c.requires.0 small c.requires.1 planned (c.run_in-run.result) c.run_in-run.ensures c.if-run-eq0.false c.if-run-gt0.true put.new.block put.ensures
 
 pub take-next-requires : goal.take-next-requires
