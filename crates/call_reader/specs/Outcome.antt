@@ -1,5 +1,4 @@
 -- What a byte came to, as the C interface has it: the number of a refusal, and a flag with an answer's status and length.
-use Rattle.std.specs.Prelude.{ℕ}
 use Rattle.std.specs.declared.option.Option.{Option}
 use Rattle.std.specs.declared.option.Option.TheVariants.{None, Some}
 use Rattle.std.specs.declared.result.Result.{Result}
