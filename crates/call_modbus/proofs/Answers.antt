@@ -1,10 +1,10 @@
--- The call's promise in its three cases: refused, silent, answered.
+-- The call's promise where nothing is refused: silent, or answered.
 use mathlib.Core.Path.{◌≡◌, ap, ◌∙◌}
 use mathlib.Core.Bool.{true, false}
 use mathlib.Core.List.{List, ◌∷◌}
 use Prim.Native.Nat.{ℕ, ◌+◌, ◌<◌, ◌≤◌}
 use native.Mathlib.Omega.{arith}
-use borrow.Author.Tests.{eq-eqb, ne_eqb, eqb-true, ltb-false, leb-true}
+use borrow.Author.Tests.{eq-eqb, eqb-true, ltb-false, leb-true}
 use lib.Dec.{eqb, ltb, leb}
 use lib.ListN.{length, take}
 use lib.Seq.{sets}
@@ -47,15 +47,6 @@ lent-right station memory out none =
     (λ other. let z : ⊥ = omega (arith, rw other at none) in absurd z)
 
 module _ (station : ℕ) (frame memory out : List ℕ) where
-  pub refused : (refusal : ℕ) → refusal ≡ modbus_refusal station memory out → (refusal ≡ taken → ⊥)
-      → ModbusDone station frame memory out (record { refusal = refusal; length = 0 }) memory out
-  refused refusal e some =
-      record {
-        result = rw (← e, ne_eqb refusal taken some);
-        memory_left = rw (← e, ne_eqb refusal taken some);
-        buffer_told = rw (← e, ne_eqb refusal taken some);
-      }
-
   module _ (refusal : ℕ) (e : refusal ≡ modbus_refusal station memory out) (none : refusal ≡ taken) where
     pub silent : is_silenced station frame ≡ true → ModbusDone station frame memory out (record { refusal = taken; length = 0 }) memory out
     unfolding modbus_answer modbus_memory

@@ -1,47 +1,23 @@
--- What a frame that is not silenced comes to: an exception, or what its function tells and does; and that either is short.
-use mathlib.Core.Path.{◌≡◌, ap, subst, ◌∙◌}
-use mathlib.Core.List.{List, [], ◌∷◌}
+-- What a frame that is not silenced is answered with is short.
+use mathlib.Core.Path.{◌≡◌, ap}
+use mathlib.Core.List.{List, ◌∷◌}
 use Prim.Native.Nat.{ℕ, ◌+◌, ◌*◌, ◌≤◌}
 use native.Mathlib.Omega.{arith}
-use borrow.Author.Tests.{eq-eqb, ne_eqb, eqb-true}
+use borrow.Author.Tests.{eqb-true}
 use lib.Dec.{eqb}
 use lib.ListN.{length, drop, length-take}
 use lib.Seq.{length-sets}
 use Rattle.document.specs.Numbers.{done}
 use Rattle.document.specs.Areas.{bytes_at}
-use Rattle.document.specs.Frames.{station_in, function_byte, first_in, quantity_in}
-use Rattle.document.specs.Modbus.{function_in, exception_to, carried_out, function_data, answer_to, modbus_room}
+use Rattle.document.specs.Frames.{station_in, first_in, quantity_in}
+use Rattle.document.specs.Modbus.{function_in, exception_to, function_data, answer_to, modbus_room}
 use Rattle.document.specs.declared.Function.{Function}
 use Rattle.document.specs.declared.Function.TheVariants.{ReadRegisters, WriteRegister, WriteRegisters, MaskRegister, Other}
 use Rattle.document.proofs.Cases.{split}
 use Rattle.modbus_registers.proofs.Turns.{turned_short}
 use Rattle.modbus_frames.proofs.WrongValues.{reading_right_lem}
 use Rattle.modbus_frames.proofs.Order.{accepted}
-use Rattle.modbus_functions.specs.Put.{Put}
 use Rattle.call_modbus.specs.Responded.{Responded}
-
--- ---- by the function that was found
-
-module _ (frame memory out : List ℕ) {function : Function} (asked : function ≡ function_in frame) (exception r : ℕ) (e : exception ≡ exception_to function frame memory) where
-  expected : exception ≡ exception_to (function_in frame) frame memory
-  expected = e ∙ ap (λ (f : Function). exception_to f frame memory) asked
-
-  pub excepted : (after : List ℕ) → (exception ≡ done → ⊥) → Put (station_in frame ∷ (128 + function_byte frame) ∷ exception ∷ []) out r after → Responded frame memory out r memory after
-  excepted after some p =
-      record {
-        answer = rw (← expected, ne_eqb exception done some) p;
-        memory_left = rw (← expected, ne_eqb exception done some);
-      }
-
-  pub served : (after left : List ℕ) → exception ≡ done → Put (station_in frame ∷ function_byte frame ∷ function_data function frame memory) out r after → left ≡ carried_out function frame memory
-      → Responded frame memory out r left after
-  served after left none p l =
-      record {
-        answer = rw (← expected, eq-eqb exception done none) (subst (λ (f : Function). Put (station_in frame ∷ function_byte frame ∷ function_data f frame memory) out r after) asked p);
-        memory_left = rw (← expected, eq-eqb exception done none) (l ∙ ap (λ (f : Function). carried_out f frame memory) asked);
-      }
-
--- ---- short
 
 range_short : (l : List ℕ) (at n : ℕ) → length (bytes_at l at n) ≤ n
 range_short l at n = omega (arith, length-take n (drop at l))

@@ -1,11 +1,10 @@
 -- The check sum of what was told stands behind it, and so the answer is whole.
 use mathlib.Core.Path.{◌≡◌, sym, ap, ◌∙◌}
 use mathlib.Core.List.{List}
-use Prim.Native.Nat.{ℕ, ◌+◌, ◌/◌, ◌%◌, ◌<◌, ◌≤◌}
+use Prim.Native.Nat.{ℕ, ◌+◌, ◌≤◌}
 use native.Mathlib.Nat.{zero-add}
-use native.Mathlib.Numerals.{add-one}
 use native.Mathlib.Omega.{arith}
-use lib.ListN.{length, set, take, drop, length-append}
+use lib.ListN.{length, take, drop, length-append}
 use lib.Seq.{sets, sets-eq, take_at}
 use Rattle.document.specs.Values.{little_endian}
 use Rattle.document.specs.CheckSum.{check_sum, with_check_sum}
@@ -17,13 +16,6 @@ pub front_again : (bytes out : List ℕ) → length bytes ≤ length out → tak
 front_again bytes out h =
     ap (take (length bytes)) (sets-eq bytes out 0 (omega arith))
     ∙ take_at bytes (drop (0 + length bytes) out) (length bytes) (λ i. length bytes)
-
--- the two bytes of the sum
-pub sum_stored : (out : List ℕ) (n sum s : ℕ) → sum < 65536 → sum ≡ s
-    → set (set out n (sum % 256)) (n + 1) (sum / 256) ≡ sets out n (little_endian 2 s)
-sum_stored out n sum s h e =
-    let high : sum / 256 % 256 ≡ sum / 256 = omega arith in
-    rw (← e, add-one n, high)
 
 pub sealed : (bytes out told : List ℕ) (n : ℕ) → Put bytes out n told → n + 2 ≤ length out
     → sets told n (little_endian 2 (check_sum (take n told))) ≡ sets out 0 (with_check_sum bytes)

@@ -7,10 +7,12 @@ ghost use Rattle.std.specs.Prelude.{◌≡◌, ◌<◌, ◌≤◌, length};
 ghost use Rattle.document.specs.Areas.{memory_end};
 ghost use Rattle.document.specs.Frames.{function_byte};
 ghost use Rattle.document.specs.Modbus.{modbus_room, modbus_refusal};
+ghost use Rattle.codes_table.specs.Calls.{taken_number};
+ghost use Rattle.line_wire.specs.Outcome.{written_of};
 ghost use Rattle.call_modbus.specs.Responded.{Responded};
 ghost use Rattle.call_modbus.specs.Promises.{ModbusDone};
 
-use codes_table::{DONE, MEMORY_REFUSED, ROOM_REFUSED, STATION_REFUSED, TAKEN};
+use codes_table::Refusal;
 use line_wire::Written;
 use memory_ranges::MEMORY_END;
 use modbus_frames::{exception_to, function_of, is_silenced};
@@ -21,22 +23,19 @@ pub const ROOM: usize = 256;
 
 const LAST_STATION: u16 = 247;
 
-fn refusal_of(station: u16, memory: &[u8], out: &[u8]) -> u8
-    ensures { result ≡ modbus_refusal station memory.now out.now }
+fn refusal_of(station: u16, memory: &[u8], out: &[u8]) -> Result<(), Refusal>
+    ensures { taken_number result ≡ modbus_refusal station memory.now out.now }
 {
     if memory.len() != MEMORY_END {
-        return MEMORY_REFUSED;
+        return Err(Refusal::Memory);
     }
     if out.len() < ROOM {
-        return ROOM_REFUSED;
+        return Err(Refusal::Room);
     }
-    if station < 1 {
-        return STATION_REFUSED;
+    if station < 1 || station > LAST_STATION {
+        return Err(Refusal::Station);
     }
-    if station > LAST_STATION {
-        return STATION_REFUSED;
-    }
-    TAKEN
+    Ok(())
 }
 
 // The answer but for its check sum. It is told before the memory changes, as the memory was looked at.
@@ -45,33 +44,29 @@ fn respond(frame: &[u8], memory: &mut [u8], out: &mut [u8]) -> usize
     ensures { Responded frame.now memory.old out.old result memory.new out.new }
 {
     let function = function_of(frame[1]);
-    let exception = exception_to(function, frame);
-    if exception != DONE {
-        return tell_exception(exception, frame, out);
+    match exception_to(function, frame) {
+        Err(exception) => tell_exception(exception, frame, out),
+        Ok(()) => {
+            let length = tell(function, frame, memory, out);
+            carry_out(function, frame, memory);
+            length
+        }
     }
-    let length = tell(function, frame, memory, out);
-    carry_out(function, frame, memory);
-    length
+}
+
+fn answered(station: u16, frame: &[u8], memory: &mut [u8], out: &mut [u8]) -> Result<usize, Refusal>
+    ensures { ModbusDone station frame.now memory.old out.old (written_of result) memory.new out.new }
+{
+    refusal_of(station, memory, out)?;
+    if is_silenced(station as u8, frame) {
+        return Ok(0);
+    }
+    let told = respond(frame, memory, out);
+    Ok(seal(told, out))
 }
 
 pub fn answer(station: u16, frame: &[u8], memory: &mut [u8], out: &mut [u8]) -> Written
     ensures { ModbusDone station frame.now memory.old out.old result memory.new out.new }
 {
-    let refusal = refusal_of(station, memory, out);
-    if refusal != TAKEN {
-        return Written { refusal, length: 0 };
-    }
-    let own = station as u8;
-    if is_silenced(own, frame) {
-        return Written {
-            refusal: TAKEN,
-            length: 0,
-        };
-    }
-    let told = respond(frame, memory, out);
-    let length = seal(told, out);
-    Written {
-        refusal: TAKEN,
-        length,
-    }
+    Written::from(answered(station, frame, memory, out))
 }

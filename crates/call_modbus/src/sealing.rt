@@ -4,6 +4,7 @@ ghost use Rattle.std.proofs.lemmas.List.Edits.{sets};
 ghost use Rattle.document.specs.Values.{little_endian};
 ghost use Rattle.document.specs.CheckSum.{check_sum};
 
+use bytes_fields::Field;
 use modbus_check_sums::check_sum;
 
 fn sum_of_front(front: usize, out: &[u8]) -> u16
@@ -19,8 +20,6 @@ pub fn seal(told: usize, out: &mut [u8]) -> usize
     ensures { (result ≡ told + 2) × (out.new ≡ sets out.old told (little_endian 2 (check_sum (take told out.old)))) }
 {
     let sum = sum_of_front(told, out);
-    let next = told + 1;
-    out[told] = (sum % 256) as u8;
-    out[next] = (sum / 256) as u8;
+    sum.put(out, told);
     told + 2
 }

@@ -1,4 +1,4 @@
--- The answer reader's calls, refused and taken.
+-- A byte for the answer reader: with which number it is refused, and what it comes to.
 use mathlib.Core.Path.{◌≡◌, refl, sym, ap, ◌∙◌}
 use mathlib.Core.Bool.{true, false}
 use mathlib.Core.List.{List}
@@ -7,8 +7,8 @@ use native.Mathlib.Omega.{arith}
 use lib.Dec.{leb, ltb}
 use lib.ListN.{length, set, take, drop}
 use lib.Seq.{sets, length-sets, take-take, length-take-le}
-use borrow.Author.Tests.{eq-eqb, ne_eqb, le-leb, lt-leb, leb-true, lt-ltb, le-ltb, ltb-false}
-use Rattle.document.specs.Numbers.{most_data, taken, state_refused, room_refused, expected_refused, sum_refused}
+use borrow.Author.Tests.{le-leb, lt-leb, leb-true, lt-ltb, le-ltb, ltb-false}
+use Rattle.document.specs.Numbers.{most_data, taken, state_refused, room_refused, sum_refused}
 use Rattle.document.specs.Areas.{bytes_at}
 use Rattle.document.specs.AnswerReader.{read_buffer, read_room_refusal}
 use Rattle.document.proofs.Cases.{split}
@@ -23,28 +23,7 @@ use Rattle.bytes_fields.proofs.Ranges.{bytes_length, sets_same, sets_set}
 use Rattle.line_reader.specs.declared.head.Asked.TheVariants as asked
 use Rattle.line_reader.specs.Reader as host
 use Rattle.call_reader.specs.declared.calls.ReadByte.{ReadByte}
-use Rattle.call_reader.specs.Promises.{BeginDone, read_number, without, read_of, ByteRead, ReadDone}
-
--- ---- the beginning
-
-module _ (block : List ℕ) (expected : ℕ) where
-  pub begin_short : length block < reader_length → BeginDone block expected state_refused block
-  begin_short h = record { result = rw (lt-leb reader_length (length block) h) refl; reader = rw (lt-leb reader_length (length block) h) refl }
-
-  module _ (long : reader_length ≤ length block) where
-    pub begin_refused : most_data < expected → BeginDone block expected expected_refused block
-    begin_refused h =
-        record {
-          result = rw (le-leb reader_length (length block) long, lt-ltb most_data expected h) refl;
-          reader = rw (le-leb reader_length (length block) long, lt-ltb most_data expected h) refl;
-        }
-
-    pub begun : expected ≤ most_data → (after : List ℕ) → after ≡ sets block 0 (encoded_reader (host.fresh expected)) → BeginDone block expected taken after
-    begun h after e =
-        record {
-          result = rw (le-leb reader_length (length block) long, le-ltb most_data expected h) refl;
-          reader = rw (le-leb reader_length (length block) long, le-ltb most_data expected h) e;
-        }
+use Rattle.call_reader.specs.Promises.{read_number, without, read_of, ByteRead}
 
 -- ---- the numbers of a byte
 
@@ -147,22 +126,3 @@ module _ (block : List ℕ) (long : reader_length ≤ length block) (s : Step) (
   pub read_wrong : (after : List ℕ) → t.asks ≡ asked.Wrong → r ≡ without sum_refused
       → after ≡ sets block 0 (encoded_head t.next) → ByteRead s block buffer r after buffer
   read_wrong after n h a = read asked.Wrong after buffer n h (a ∙ head_stored block long t.next) refl
-
--- ---- the call
-
-module _ (block : List ℕ) (b : ℕ) (buffer : List ℕ) where
-  pub read_refused : (k : ℕ) → k ≡ read_number block buffer → (k ≡ taken → ⊥)
-      → ReadDone block b buffer (without k) block buffer
-  read_refused k e some =
-      let refused = ne_eqb (read_number block buffer) taken (λ z. some (e ∙ z)) in
-      record {
-        result = rw refused (λ i. without (e i));
-        reader = rw refused refl;
-        buffer_told = rw refused refl;
-      }
-
-  pub read_taken : (r : ReadByte) (after told : List ℕ) → read_number block buffer ≡ taken
-      → ByteRead (host.stepped (decoded_reader block) b) block buffer r after told → ReadDone block b buffer r after told
-  read_taken r after told fine done =
-      let none = eq-eqb (read_number block buffer) taken fine in
-      record { result = rw none done.result; reader = rw none done.reader; buffer_told = rw none done.buffer_told }

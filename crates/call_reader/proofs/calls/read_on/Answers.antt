@@ -23,7 +23,7 @@ pub returns-in-Nothing : goal.returns-in-Nothing
 returns-in-Nothing c =
     let in_head : host.stepped (decoded_reader (c.args.reader.now)) c.args.byte ≡ head_step c.step-stepped.result (bytes_at (c.args.reader.now) 6 64) = ap (λ (r : AnswerReader). host.stepped r c.args.byte) (sym c.head_in-head.ensures)
     ∙ c.step-stepped.ensures.0 (bytes_at (c.args.reader.now) 6 64) in
-    read_nothing (c.args.reader.now) c.requires.0 _ c.step-stepped.result in_head (c.args.out.now) _ _ c.in-Nothing.is c.without_answer.ensures
+    read_nothing (c.args.reader.now) c.requires.0 _ c.step-stepped.result in_head (c.args.out.now) _ _ c.in-Nothing.is refl
     c.put_reader_head.ensures
 
 pub returns-in-Keep : goal.returns-in-Keep
@@ -34,8 +34,8 @@ returns-in-Keep c =
     let at = c.in-Keep.at in
     let byte = c.in-Keep.byte in
     let inside : at + 1 ≤ 64 = within _ c.in-Keep.is in
-    read_keep (c.args.reader.now) c.requires.0 _ c.step-stepped.result in_head (c.args.out.now) _ at byte _ c.in-Keep.is (omega (arith, inside)) c.without_answer-in-Keep.ensures
-    (c.put_byte.ensures ∙ (λ i. set (c.put_reader_head.ensures i) (6 + c.usize_of_u8.ensures.0 i) byte))
+    read_keep (c.args.reader.now) c.requires.0 _ c.step-stepped.result in_head (c.args.out.now) _ at byte _ c.in-Keep.is (omega (arith, inside)) refl
+    (λ i. set (c.put_reader_head.ensures i) (6 + c.from.ensures i) byte)
 
 pub returns-in-Right : goal.returns-in-Right
 returns-in-Right c =
@@ -43,7 +43,7 @@ returns-in-Right c =
     ∙ c.step-stepped.ensures.0 (bytes_at (c.args.reader.now) 6 64) in
     let within : (a : Asked) → c.step-stepped.result.asks ≡ a → reach a ≤ 64 = λ a is. subst (λ (k : Asked). reach k ≤ 64) is c.step-stepped.ensures.1 in
     let n = c.in-Right.length in
-    let width : 6 + c.usize_of_u8-end.result - 6 ≡ n = omega (arith, c.usize_of_u8-end.ensures.0) in
+    let width : 6 + c.from-end.result - 6 ≡ n = omega (arith, c.from-end.ensures) in
     read_right (c.args.reader.now) c.requires.0 _ c.step-stepped.result in_head (c.args.out.now) _ c.in-Right.status n _ c.copy_in.new.memory c.in-Right.is
     (within _ c.in-Right.is) refl c.put_reader_head.ensures
     (c.copy_in.ensures ∙ (λ i. sets (c.args.out.now) 0 (take (width i) (drop 6 (c.put_reader_head.ensures i)))))
@@ -52,5 +52,5 @@ pub returns-in-Wrong : goal.returns-in-Wrong
 returns-in-Wrong c =
     let in_head : host.stepped (decoded_reader (c.args.reader.now)) c.args.byte ≡ head_step c.step-stepped.result (bytes_at (c.args.reader.now) 6 64) = ap (λ (r : AnswerReader). host.stepped r c.args.byte) (sym c.head_in-head.ensures)
     ∙ c.step-stepped.ensures.0 (bytes_at (c.args.reader.now) 6 64) in
-    read_wrong (c.args.reader.now) c.requires.0 _ c.step-stepped.result in_head (c.args.out.now) _ _ c.in-Wrong.is c.without_answer-in-Wrong.ensures
+    read_wrong (c.args.reader.now) c.requires.0 _ c.step-stepped.result in_head (c.args.out.now) _ _ c.in-Wrong.is refl
     c.put_reader_head.ensures
