@@ -47,7 +47,8 @@ pub fn prepare_and_start(state: &mut [u8], service: Service, to: usize) -> Resul
     start(state)
 }
 
-// A start and a stop leave the plan as it is.
+// A start and a stop leave the plan as it is, and what is refused stores nothing. They are not one function that takes what is
+// done: its clauses on a closure would be longer than the two.
 pub fn start(state: &mut [u8]) -> Result<(), Status>
     requires { state_length ≤ length state.old }
     ensures { (memory : List ℕ) (s : Service) (body : List ℕ) → Settles (served (gate_of (decoded_instruments state.old) memory) (known_as Start s) body) (instruments_after Start (decoded_instruments state.old) s body) state.old (outcome_number result) state.new memory }
