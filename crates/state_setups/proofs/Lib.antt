@@ -1,5 +1,4 @@
 -- What follows from the definitions, for the proofs of this crate and of `state_given`.
-pub mod Fronts
 pub mod Turns
 pub mod Padded
 pub mod Places

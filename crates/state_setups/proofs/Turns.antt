@@ -1,16 +1,15 @@
 -- A turn of storing definitions: one goes over, those behind it are left, and what is still to be read is as it was.
-use mathlib.Core.Path.{◌≡◌, ◌∙◌}
+use mathlib.Core.Path.{◌≡◌}
 use mathlib.Core.Bool.{Bool, true}
 use mathlib.Core.List.{List, ◌∷◌}
-use Prim.Native.Nat.{ℕ, suc, ◌+◌, ◌-◌, ◌*◌, ◌<◌, ◌≤◌}
+use Prim.Native.Nat.{ℕ, suc, ◌+◌, ◌-◌, ◌*◌, ◌<◌}
 use native.Mathlib.Nat.{add-zero, suc-mul}
 use native.Mathlib.Omega.{arith}
-use lib.ListN.{get_or, take, drop}
+use lib.ListN.{get_or, drop}
 use lib.Seq.{sets, drop-drop, get_or-drop}
 use Rattle.document.specs.Areas.{bytes_at}
 use Rattle.document.specs.Values.{number, little_endian}
 use Rattle.document.specs.Variables.{address_width, definition_width, definitions_in}
-use Rattle.memory_ranges.proofs.Stored.{take_sets}
 use Rattle.state_block.specs.Layout.{encoded_definitions}
 
 -- as many as are left at a turn are one and those that are left behind it
@@ -18,10 +17,6 @@ pub left_one : (n k w : ℕ) → k < n → (n - k) * w ≡ w + (n - (k + 1)) * w
 left_one n k w h =
     let m : n - k ≡ suc (n - (k + 1)) = omega arith in
     rw (m, suc-mul (n - (k + 1)) w) (omega arith)
-
-pub front_same : (source block : List ℕ) (at write : ℕ) (bytes : List ℕ) → take at block ≡ take at source → at ≤ write
-    → take at (sets block write bytes) ≡ take at source
-front_same source block at write bytes same h = take_sets bytes block write at h ∙ same
 
 pub definition_stored : (ex : Bool) (source block : List ℕ) (read write n k width size address : ℕ) → k < n → width ≡ address_width ex
     → size ≡ get_or source read 0 → address ≡ number (bytes_at source (read + 1) width)

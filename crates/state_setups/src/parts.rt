@@ -8,47 +8,39 @@ ghost use Rattle.state_block.specs.Layout.{encoded_definitions, encoded_variable
 ghost use Rattle.state_block.specs.Places.{variables_length};
 
 use bytes_fields::{DEFINITION_WIDTH, clear, put_definition};
-use bytes_widths::usize_of_u8;
 use memory_ranges::number_at;
 use variables_definitions::address_width;
 use variables_list::MOST_VARIABLES;
 
-// All that is read lies in front of all that is written.
-fn store_definitions(block: &mut [u8], at: usize, from: usize, n: usize, ex: bool)
-    requires { (from + n * definition_width ex ≤ at) × (at + n * definition_width true ≤ length block.old) }
-    ensures { block.new ≡ sets block.old at (encoded_definitions (definitions_in ex n (drop from block.old))) }
+fn store_definitions(block: &mut [u8], at: usize, part: &[u8], n: usize, ex: bool)
+    requires { (1 + n * definition_width ex ≤ length part.now) × (at + n * definition_width true ≤ length block.old) }
+    ensures { block.new ≡ sets block.old at (encoded_definitions (definitions_in ex n (drop 1 part.now))) }
 {
     let width = address_width(ex);
-    let mut read = from;
-    let mut write = at;
-    let mut k = 0;
-    while k < n {
-        let size = block[read];
-        let address = number_at(block, read + 1, width);
-        put_definition(block, write, size, address);
+    let mut read = 1;
+    for k in 0..n {
+        let address = number_at(part, read + 1, width);
+        put_definition(block, at + k * DEFINITION_WIDTH, part[read], address);
         read += 1 + width;
-        write += DEFINITION_WIDTH;
-        k += 1;
     }
 }
 
 // The count in front of the definitions, and zeros behind them.
-pub fn complete_definitions(block: &mut [u8], at: usize, count: u8)
+fn complete_definitions(block: &mut [u8], at: usize, count: u8)
     requires { (count ≤ 8) × (at + variables_length ≤ length block.old) }
     ensures { block.new ≡ sets (set block.old at count) (at + 1 + count * definition_width true) (replicate ((8 - count) * definition_width true) 0) }
 {
-    let n = usize_of_u8(count);
+    let n = usize::from(count);
     block[at] = count;
     let end = at + 1 + n * DEFINITION_WIDTH;
     clear(block, end, (MOST_VARIABLES - n) * DEFINITION_WIDTH);
 }
 
-pub(crate) fn store_variables(block: &mut [u8], at: usize, from: usize, ex: bool)
-    requires { (count_in (drop from block.old) ≤ 8) × (from + length_given ex (drop from block.old) ≤ at) × (at + variables_length ≤ length block.old) }
-    ensures { block.new ≡ sets block.old at (encoded_variables (kept (variables_in ex (drop from block.old)))) }
+pub fn store_variables(block: &mut [u8], at: usize, part: &[u8], ex: bool)
+    requires { (count_in part.now ≤ 8) × (length_given ex part.now ≤ length part.now) × (at + variables_length ≤ length block.old) }
+    ensures { block.new ≡ sets block.old at (encoded_variables (kept (variables_in ex part.now))) }
 {
-    let count = block[from];
-    let n = usize_of_u8(count);
-    store_definitions(block, at + 1, from + 1, n, ex);
+    let count = part[0];
+    store_definitions(block, at + 1, part, usize::from(count), ex);
     complete_definitions(block, at, count);
 }

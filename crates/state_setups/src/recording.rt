@@ -29,8 +29,7 @@ pub fn prepare_run(block: &mut [u8])
     ensures { block.new ≡ sets block.old run_place (encoded_run (run_kept prepared)) }
 {
     let former = run_in(block);
-    let run = former.prepared();
-    put_run(block, run);
+    put_run(block, former.prepared());
 }
 
 // The message's data stand in the block, up to a place.
@@ -39,8 +38,9 @@ pub fn store_prepared(block: &mut [u8], ex: bool, to: usize)
     ensures { block.new ≡ block_with_recorder block.old (prepared_state ex (data_to block.old to)) }
 {
     let plan = read_plan(ex, &block[BODY..to]);
-    let from = BODY + head_width(ex);
     store_numbers(block, plan);
-    store_variables(block, RECORDED, from, ex);
+    let from = BODY + head_width(ex);
+    let (front, behind) = block.split_at_mut(RECORDED);
+    store_variables(behind, 0, &front[from..to], ex);
     prepare_run(block);
 }

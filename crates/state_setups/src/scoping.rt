@@ -16,5 +16,6 @@ pub fn store_scope(block: &mut [u8], ex: bool, to: usize)
     requires { (state_length ≤ length block.old) × (body_place ≤ to) × (to ≤ scope_place) × (set_up_status ex (data_to block.old to) ≡ done) }
     ensures { block.new ≡ block_with_scope block.old (record { variables = kept (variables_in ex (data_to block.old to)) }) }
 {
-    store_variables(block, SCOPE, BODY, ex);
+    let (front, behind) = block.split_at_mut(SCOPE);
+    store_variables(behind, 0, &front[BODY..to], ex);
 }

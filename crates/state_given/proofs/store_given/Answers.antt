@@ -23,18 +23,18 @@ read_plan-plan-requires c =
     let facts : Accepted false c.args.setup.now = accepted false c.args.setup.now c.requires.1 in
     omega (arith, facts.right)
 
-pub slice_bounds-give_variables-count : goal.slice_bounds-give_variables-count
-slice_bounds-give_variables-count c =
+pub slice_bounds-store_variables-count : goal.slice_bounds-store_variables-count
+slice_bounds-store_variables-count c =
     let facts : Accepted false c.args.setup.now = accepted false c.args.setup.now c.requires.1 in
     omega (arith, facts.right, c.head_width-from.ensures.0)
 
-pub slice_bounds-give_variables-start : goal.slice_bounds-give_variables-start
-slice_bounds-give_variables-start c =
+pub slice_bounds-store_variables-start : goal.slice_bounds-store_variables-start
+slice_bounds-store_variables-start c =
     let facts : Accepted false c.args.setup.now = accepted false c.args.setup.now c.requires.1 in
     omega (arith, facts.right, c.head_width-from.ensures.0)
 
-pub give_variables-requires : goal.give_variables-requires
-give_variables-requires c =
+pub store_variables-requires : goal.store_variables-requires
+store_variables-requires c =
     let facts : Accepted false (c.args.setup.now) = accepted false (c.args.setup.now) c.requires.1 in
     let few : count_in (variables_part false (c.args.setup.now)) ≤ 8 = (count_right (count_in (variables_part false (c.args.setup.now))) facts.count).1 in
     let whole : length_given false (variables_part false (c.args.setup.now)) ≤ length (variables_part false (c.args.setup.now)) = rw length-drop (omega (arith, facts.right)) in
@@ -46,7 +46,7 @@ returns c =
     let block = c.args.block.now in
     c.prepare_run.ensures
     ∙ ap (λ (l : List ℕ). sets l run_place (encoded_run (prepared_state false (c.args.setup.now)).run))
-    (c.give_variables.ensures
+    (c.store_variables.ensures
     ∙ ap (λ (q : List ℕ). sets c.store_numbers.new.block recorded_place (encoded_variables (kept (variables_in false q)))) (tail_part false c.args.setup.now c.head_width-from.result c.head_width-from.ensures.0)
     ∙ ap (λ (l : List ℕ). sets l recorded_place (encoded_variables (kept (recorded_in false (c.args.setup.now)))))
     (c.store_numbers.ensures

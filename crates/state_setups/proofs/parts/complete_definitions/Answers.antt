@@ -8,10 +8,10 @@ use Rattle.state_setups.proofs.parts.complete_definitions.Goals as goal
 
 pub clear-requires : goal.clear-requires
 clear-requires c =
-    simp length-set (omega (arith, c.usize_of_u8-n.ensures.0, c.requires.0, c.requires.1))
+    simp length-set (omega (arith, c.from-n.ensures, c.requires.0, c.requires.1))
 
 pub returns : goal.returns
 returns c =
     let a = c.args in
     c.clear.ensures
-    ∙ ap (λ (n : ℕ). sets (set a.block.now a.at a.count) (a.at + 1 + n * 5) (replicate ((8 - n) * 5) 0)) c.usize_of_u8-n.ensures.0
+    ∙ ap (λ (n : ℕ). sets (set a.block.now a.at a.count) (a.at + 1 + n * 5) (replicate ((8 - n) * 5) 0)) c.from-n.ensures

@@ -1,42 +1,38 @@
 -- The part with the definitions is all of the data, and what stands behind the scope is there already.
-use mathlib.Core.Path.{◌≡◌, ap, ◌∙◌}
-use mathlib.Core.List.{List}
-use Prim.Native.Nat.{◌-◌, ◌≤◌}
+use mathlib.Core.Path.{◌∙◌}
+use mathlib.Core.List.{◌++◌}
 use native.Mathlib.Omega.{arith}
-use lib.ListN.{drop}
+use lib.ListN.{take}
 use lib.Seq.{sets, length-sets}
-use Rattle.document.specs.declared.Variable.{Variable}
-use Rattle.document.specs.Variables.{variables_in, length_given}
+use Rattle.document.specs.Variables.{variables_in}
 use Rattle.variables_list.specs.State.{no_variables, kept}
 use Rattle.scope_state.proofs.Accepted.{SetupTaken, taken_facts}
+use Rattle.bytes_fields.proofs.Ranges.{split_stored}
 use Rattle.state_block.specs.Layout.{data_to, encoded_variables, encoded_scope}
-use Rattle.state_block.specs.Places.{body_place, scope_place}
+use Rattle.state_block.specs.Places.{scope_place}
 use Rattle.state_block.proofs.Parts.{scope_length}
 use Rattle.state_block.proofs.Stored.{scope_stored}
-use Rattle.state_setups.proofs.Fronts.{count_same, length_same, variables_same}
-use Rattle.state_setups.proofs.Places.{data_short, data_front}
+use Rattle.state_setups.proofs.Places.{data_part}
 use Rattle.state_setups.proofs.scoping.store_scope.Goals as goal
 
 pub store_variables-requires : goal.store_variables-requires
 store_variables-requires c =
-    let facts : SetupTaken c.args.ex (data_to (c.args.block.now) c.args.to) = taken_facts c.args.ex (data_to (c.args.block.now) c.args.to) c.requires.3 in
-    let whole : length_given c.args.ex (data_to (c.args.block.now) c.args.to) ≤ c.args.to - body_place = omega (arith, facts.right, data_short (c.args.block.now) c.args.to) in
-    let ex = c.args.ex in
-    let front = c.args.to - body_place in
-    let same = data_front (c.args.block.now) c.args.to in (
-      omega (arith, count_same ex (drop body_place (c.args.block.now)) (data_to (c.args.block.now) c.args.to) front same whole, facts.few),
-      omega (arith, length_same ex (drop body_place (c.args.block.now)) (data_to (c.args.block.now) c.args.to) front same whole, c.requires.1, c.requires.2),
-      omega (arith, c.requires.0),
-    )
+    let a = c.args in
+    let halves = c.split_at_mut-front.ensures in
+    let facts : SetupTaken a.ex (data_to a.block.now a.to) = taken_facts a.ex (data_to a.block.now a.to) c.requires.3 in
+    let same = data_part a.block.now a.to c.split_at_mut-front.result.0.now halves.front c.requires.1 c.requires.2 in
+    rw same (facts.few, omega (arith, facts.right), omega (arith, halves.back_len, c.requires.0))
 
 pub returns : goal.returns
 unfolding encoded_scope
 returns c =
-    let facts : SetupTaken c.args.ex (data_to (c.args.block.now) c.args.to) = taken_facts c.args.ex (data_to (c.args.block.now) c.args.to) c.requires.3 in
-    let whole : length_given c.args.ex (data_to (c.args.block.now) c.args.to) ≤ c.args.to - body_place = omega (arith, facts.right, data_short (c.args.block.now) c.args.to) in
-    let found : variables_in c.args.ex (drop body_place (c.args.block.now)) ≡ variables_in c.args.ex (data_to (c.args.block.now) c.args.to) = variables_same c.args.ex (drop body_place (c.args.block.now)) (data_to (c.args.block.now) c.args.to) (c.args.to - body_place) (data_front (c.args.block.now) c.args.to) whole in
-    let vs = variables_in c.args.ex (data_to (c.args.block.now) c.args.to) in
-    c.store_variables.ensures
-    ∙ ap (λ (q : List Variable). sets (c.args.block.now) scope_place (encoded_variables (kept q))) found
-    ∙ scope_stored (c.args.block.now) c.requires.0 (λ i. (c.slice_known-1.given i).fits) (record { variables = kept vs })
+    let a = c.args in
+    let block = a.block.now in
+    let halves = c.split_at_mut-front.ensures in
+    let same = data_part block a.to c.split_at_mut-front.result.0.now halves.front c.requires.1 c.requires.2 in
+    let vs = variables_in a.ex (data_to block a.to) in
+    (λ i. halves.front i ++ c.store_variables.ensures i)
+    ∙ (λ i. take scope_place block ++ sets (halves.back i) 0 (encoded_variables (kept (variables_in a.ex (same i)))))
+    ∙ split_stored scope_place block (encoded_variables (kept vs)) (omega (arith, c.requires.0))
+    ∙ scope_stored block c.requires.0 (λ i. (c.slice_known-1.given i).fits) (record { variables = kept vs })
     (scope_length (record { variables = kept vs }) (length-sets no_variables 0 vs))
