@@ -1,4 +1,7 @@
 // The operands of a line, read off one by one. What is not as it has to be is complained of.
+ghost use Rattle.std.specs.Prelude.{◌≡◌, MatchResult};
+ghost use Rattle.script_words.specs.Operands.{byte_at, number_at};
+
 use crate::complaint::Complaint;
 use crate::lengths::{BYTES, NUMBERS};
 use crate::room::Room;
@@ -13,13 +16,17 @@ pub struct Operands<'a> {
 }
 
 impl<'a> Operands<'a> {
-    pub fn number(&mut self) -> Result<u64, Complaint> {
+    pub fn number(&mut self) -> Result<u64, Complaint>
+        ensures { MatchResult result (λ value. number_at self.old.line.now self.old.next ≡ Some (value, self.new.next)) (λ _. number_at self.old.line.now self.old.next ≡ None) }
+    {
         let (value, next) = read_number(self.line, self.next).ok_or(Complaint::Number)?;
         self.next = next;
         Ok(value)
     }
 
-    pub fn byte(&mut self) -> Result<u8, Complaint> {
+    pub fn byte(&mut self) -> Result<u8, Complaint>
+        ensures { MatchResult result (λ value. byte_at self.old.line.now self.old.next ≡ Some (value, self.new.next)) (λ _. byte_at self.old.line.now self.old.next ≡ None) }
+    {
         let (value, next) = read_byte(self.line, self.next).ok_or(Complaint::Byte)?;
         self.next = next;
         Ok(value)

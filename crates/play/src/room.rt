@@ -1,5 +1,5 @@
 // What an order may name: so much of a buffer to be lent, and a part of the memory.
-ghost use Rattle.std.specs.Prelude.{◌≤◌};
+ghost use Rattle.std.specs.Prelude.{◌≡◌, ◌+◌, ◌<◌, ◌≤◌, MatchResult};
 
 use crate::complaint::Complaint;
 use log_gate::LOG_GATE_MEMORY;
@@ -16,7 +16,9 @@ pub struct Room<const MOST: usize> {
 
 impl<const MOST: usize> Room<MOST> {
     // The complaint says what is wrong with more than there is.
-    pub fn new(size: u64, complaint: Complaint) -> Result<Self, Complaint> {
+    pub fn new(size: u64, complaint: Complaint) -> Result<Self, Complaint>
+        ensures { MatchResult result (λ room. room.size ≡ size) (λ e. (e ≡ complaint) × (MOST < size)) }
+    {
         if size > MOST as u64 {
             return Err(complaint);
         }
@@ -45,7 +47,9 @@ pub struct Part {
 
 impl Part {
     // So many bytes from a place on, if the memory has them all.
-    pub fn new(start: u64, count: u64) -> Result<Self, Complaint> {
+    pub fn new(start: u64, count: u64) -> Result<Self, Complaint>
+        ensures { MatchResult result (λ part. (part.start ≡ start) × (part.end ≡ start + count)) (λ _. 16384 < start + count) }
+    {
         let memory = LOG_GATE_MEMORY as u64;
         if start > memory || count > memory - start {
             return Err(Complaint::Range);
