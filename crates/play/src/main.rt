@@ -10,14 +10,15 @@ mod order;
 mod panel;
 mod play;
 mod program;
+mod reading;
 mod room;
 mod second;
 mod shown;
 
 use complaint::{Complaint, complain};
 use lengths::{BYTES, TEXT};
-use order::read_order;
 use play::Play;
+use reading::read_order;
 use script_lines::input::{Input, Line, next_line};
 use script_lines::output::Output;
 use std::io::{self, Read, Write};

@@ -15,7 +15,7 @@ pub struct Operands<'a> {
     pub next: usize,
 }
 
-impl<'a> Operands<'a> {
+impl Operands<'_> {
     pub fn number(&mut self) -> Result<u64, Complaint>
         ensures { MatchResult result (λ value. number_at self.old.line.now self.old.next ≡ Some (value, self.new.next)) (λ _. number_at self.old.line.now self.old.next ≡ None) }
     {
