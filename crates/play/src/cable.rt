@@ -1,12 +1,9 @@
 // The orders to the other end of the cable: the writers of commands and answers, and the reader of answers.
-ghost use Rattle.std.specs.Prelude.{◌≤◌};
-ghost use Rattle.play.specs.Bounds.{Bounded};
-
 use crate::lengths::LENT;
-use crate::order::Order;
-use crate::shown::{FILLING, put_refusal, put_written};
+use crate::order::CableOrder;
+use crate::room::Room;
+use crate::shown::{put_refusal, put_written};
 use call_reader::ReadByte;
-use line_wire::Written;
 use log_gate::{
     LOG_GATE_READER, log_gate_reader_begin, log_gate_reader_byte, log_gate_write_answer,
     log_gate_write_command,
@@ -14,51 +11,28 @@ use log_gate::{
 use script_lines::output::Output;
 use std::io::{self, Write};
 
-fn written(letter: u8, code: u8, body: &[u8], lent: &mut [u8]) -> Written {
-    if letter == b'W' {
-        return log_gate_write_command(code, body, lent);
-    }
-    log_gate_write_answer(code, body, lent)
-}
-
-fn put_writing<W: Write>(
-    letter: u8,
-    code: u8,
+fn write_command<W: Write>(
+    command: u8,
     body: &[u8],
-    lent: &mut [u8],
+    room: Room<LENT>,
     out: &mut Output<W>,
 ) -> io::Result<()> {
-    let written = written(letter, code, body, lent);
-    put_written(letter, written.refusal, written.length, lent, out)
+    room.lend(|lent| {
+        let written = log_gate_write_command(command, body, lent);
+        put_written(b'W', written.refusal, written.length, lent, out)
+    })
 }
 
-fn write<W: Write>(
-    letter: u8,
-    code: u8,
+fn write_answer<W: Write>(
+    status: u8,
     body: &[u8],
-    room: usize,
-    out: &mut Output<W>,
-) -> io::Result<()>
-    requires { room ≤ 600 }
-{
-    let mut lent = [FILLING; LENT];
-    put_writing(letter, code, body, &mut lent[0..room], out)
-}
-
-fn begin<W: Write>(
-    expected: u64,
-    reader: &mut [u8; LOG_GATE_READER],
+    room: Room<LENT>,
     out: &mut Output<W>,
 ) -> io::Result<()> {
-    let refusal = log_gate_reader_begin(reader, expected as usize);
-    put_refusal(b'E', refusal, out)
-}
-
-fn put_index<W: Write>(index: u64, refusal: u8, out: &mut Output<W>) -> io::Result<()> {
-    out.put_text(b"R ")?;
-    out.put_decimal(index)?;
-    out.put(b' ')?;
-    out.put_decimal(refusal as u64)
+    room.lend(|lent| {
+        let written = log_gate_write_answer(status, body, lent);
+        put_written(b'V', written.refusal, written.length, lent, out)
+    })
 }
 
 // A refused byte, or a whole right answer with the whole lent buffer.
@@ -71,74 +45,84 @@ fn put_read<W: Write>(
     if read.refusal == 0 && read.whole == 0 {
         return Ok(());
     }
-    put_index(index, read.refusal, out)?;
-    if read.whole == 0 {
-        return out.put(b'\n');
+    out.put_text(b"R ")?;
+    out.put_decimal(index)?;
+    out.put(b' ')?;
+    out.put_decimal(u64::from(read.refusal))?;
+    if read.whole != 0 {
+        out.put(b' ')?;
+        out.put_hex(read.status)?;
+        out.put(b' ')?;
+        out.put_decimal(read.length as u64)?;
+        out.put_bytes(lent)?;
     }
-    out.put(b' ')?;
-    out.put_hex(read.status)?;
-    out.put(b' ')?;
-    out.put_decimal(read.length as u64)?;
-    out.put_bytes(lent)?;
     out.put(b'\n')
 }
 
-fn put_reading<W: Write>(
-    index: u64,
-    byte: u8,
-    reader: &mut [u8; LOG_GATE_READER],
-    lent: &mut [u8],
-    out: &mut Output<W>,
-) -> io::Result<()> {
-    let read = log_gate_reader_byte(reader, byte, lent);
-    put_read(index, read, lent, out)
+#[derive(Drop)]
+pub struct Reader {
+    block: [u8; LOG_GATE_READER],
+    // how many bytes it was given
+    given: u64,
 }
 
-fn read_byte<W: Write>(
-    index: u64,
-    byte: u8,
-    room: usize,
-    reader: &mut [u8; LOG_GATE_READER],
-    out: &mut Output<W>,
-) -> io::Result<()>
-    requires { room ≤ 600 }
-{
-    let mut lent = [FILLING; LENT];
-    put_reading(index, byte, reader, &mut lent[0..room], out)
-}
-
-// The bytes one by one, with every refusal and answer printed as it comes.
-fn read<W: Write>(
-    first: u64,
-    bytes: &[u8],
-    room: usize,
-    reader: &mut [u8; LOG_GATE_READER],
-    out: &mut Output<W>,
-) -> io::Result<()>
-    requires { room ≤ 600 }
-{
-    let mut index = first;
-    for byte in bytes {
-        read_byte(index, *byte, room, reader, out)?;
-        index = index.wrapping_add(1);
+impl Reader {
+    // Until a script begins a reading, no data are expected.
+    pub fn new() -> Self {
+        let mut block = [0u8; LOG_GATE_READER];
+        log_gate_reader_begin(&mut block, 0);
+        Reader { block, given: 0 }
     }
-    Ok(())
-}
 
-// An order that begins with W, V, E or R; `first` is how many bytes the reader was given before.
-pub fn carry_out<W: Write>(
-    order: Order,
-    first: u64,
-    bytes: &[u8],
-    reader: &mut [u8; LOG_GATE_READER],
-    out: &mut Output<W>,
-) -> io::Result<()>
-    requires { Bounded order }
-{
-    let letter = order.letter;
-    match letter {
-        b'E' => begin(order.number, reader, out),
-        b'R' => read(first, bytes, order.room, reader, out),
-        _ => write(letter, order.code, bytes, order.room, out),
+    fn begin<W: Write>(&mut self, expected: u64, out: &mut Output<W>) -> io::Result<()> {
+        put_refusal(
+            b'E',
+            log_gate_reader_begin(&mut self.block, expected as usize),
+            out,
+        )
+    }
+
+    fn read_byte<W: Write>(
+        &mut self,
+        byte: u8,
+        room: Room<LENT>,
+        out: &mut Output<W>,
+    ) -> io::Result<()> {
+        room.lend(|lent| {
+            let read = log_gate_reader_byte(&mut self.block, byte, lent);
+            put_read(self.given, read, lent, out)
+        })?;
+        self.given = self.given.wrapping_add(1);
+        Ok(())
+    }
+
+    // The bytes one by one, with every refusal and answer printed as it comes.
+    fn read<W: Write>(
+        &mut self,
+        bytes: &[u8],
+        room: Room<LENT>,
+        out: &mut Output<W>,
+    ) -> io::Result<()> {
+        for byte in bytes {
+            self.read_byte(*byte, room, out)?;
+        }
+        Ok(())
+    }
+
+    pub fn carry_out<W: Write>(
+        &mut self,
+        order: CableOrder,
+        out: &mut Output<W>,
+    ) -> io::Result<()> {
+        match order {
+            CableOrder::WriteCommand {
+                command,
+                room,
+                body,
+            } => write_command(command, body, room, out),
+            CableOrder::WriteAnswer { status, room, body } => write_answer(status, body, room, out),
+            CableOrder::Expect { data } => self.begin(data, out),
+            CableOrder::Read { room, bytes } => self.read(bytes, room, out),
+        }
     }
 }

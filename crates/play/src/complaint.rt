@@ -1,47 +1,40 @@
 // What can be wrong with a line, and saying so.
 use script_lines::output::Output;
+use std::fmt;
 use std::io::{self, Write};
 
-pub const NONE: u8 = 0;
+#[derive(Clone, Copy)]
+pub enum Complaint {
+    Operation,
+    Number,
+    Byte,
+    Surplus,
+    Range,
+    Room,
+    BlockRoom,
+    Wide,
+    SetupLength,
+    FrameLength,
+    Many,
+    Length,
+}
 
-pub const OPERATION: u8 = 1;
-
-pub const NUMBER: u8 = 2;
-
-pub const BYTE: u8 = 3;
-
-pub const SURPLUS: u8 = 4;
-
-pub const RANGE: u8 = 5;
-
-pub const ROOM: u8 = 6;
-
-pub const WIDE: u8 = 7;
-
-pub const LENGTH: u8 = 8;
-
-pub const MANY: u8 = 9;
-
-pub const BLOCK_ROOM: u8 = 10;
-
-pub const SETUP_LENGTH: u8 = 11;
-
-pub const FRAME_LENGTH: u8 = 12;
-
-fn reason(wrong: u8) -> &'static str {
-    match wrong {
-        OPERATION => "no operation begins so",
-        NUMBER => "a decimal number is missing or wrong",
-        BYTE => "a byte in hex is missing or wrong",
-        SURPLUS => "there is a word too many",
-        RANGE => "the memory has no such bytes",
-        ROOM => "the room is above 600",
-        BLOCK_ROOM => "the room is above 2000",
-        WIDE => "a number is above 65535",
-        SETUP_LENGTH => "the panel gives more than 255 bytes",
-        FRAME_LENGTH => "the frame has more than 600 bytes",
-        MANY => "there are more than 40 tables",
-        _ => "the line is too long",
+impl fmt::Display for Complaint {
+    fn fmt<W: fmt::Write>(&self, f: &mut fmt::Formatter<W>) -> fmt::Result {
+        f.write_str(match self {
+            Complaint::Operation => "no operation begins so",
+            Complaint::Number => "a decimal number is missing or wrong",
+            Complaint::Byte => "a byte in hex is missing or wrong",
+            Complaint::Surplus => "there is a word too many",
+            Complaint::Range => "the memory has no such bytes",
+            Complaint::Room => "the room is above 600",
+            Complaint::BlockRoom => "the room is above 2000",
+            Complaint::Wide => "a number is above 65535",
+            Complaint::SetupLength => "the panel gives more than 255 bytes",
+            Complaint::FrameLength => "the frame has more than 600 bytes",
+            Complaint::Many => "there are more than 40 tables",
+            Complaint::Length => "the line is too long",
+        })
     }
 }
 
@@ -49,10 +42,9 @@ fn reason(wrong: u8) -> &'static str {
 pub fn complain<W: Write>(
     rt: &impl Eprint,
     line_number: u64,
-    wrong: u8,
+    complaint: Complaint,
     out: &mut Output<W>,
 ) -> io::Result<()> {
     out.flush()?;
-    let reason = reason(wrong);
-    eprintln!(rt; "line {line_number}: {reason}")
+    eprintln!(rt; "line {line_number}: {complaint}")
 }

@@ -4,13 +4,10 @@ use call_panel::Said;
 use script_lines::output::Output;
 use std::io::{self, Write};
 
-// Every lent buffer is filled so before a call, so that what a call leaves can be seen.
-pub const FILLING: u8 = 0xEE;
-
 fn put_number<W: Write>(letter: u8, refusal: u8, out: &mut Output<W>) -> io::Result<()> {
     out.put(letter)?;
     out.put(b' ')?;
-    out.put_decimal(refusal as u64)
+    out.put_decimal(u64::from(refusal))
 }
 
 // The number alone.

@@ -1,81 +1,35 @@
 // The input by lines, through a lent text buffer that holds a window of it.
-ghost use Rattle.std.specs.Prelude.{◌≡◌, ℕ, ◌+◌, ◌-◌, ◌≤◌, ◌<◌, length, get_or, IfOk, OnErr};
-ghost use Rattle.script_lines.specs.Input.{LineEnd, Inside, Cut};
+ghost use Rattle.std.specs.Prelude.{◌≡◌, ◌≤◌, length, position, ◌==◌, IsFalse, IfOk, OnErr};
+ghost use Rattle.script_lines.specs.Input.{Inside, Cut};
 
 use std::io::{self, Read};
 
-// Which part of the text buffer has not been taken, and 1 once the input has ended.
-#[derive(Clone, Copy)]
+// Which part of the text buffer has not been taken, and whether the input has ended.
+#[derive(Clone, Copy, Default)]
 pub struct Input {
     pub start: usize,
     pub end: usize,
-    pub ended: u8,
+    pub ended: bool,
 }
 
-// What a line is found to be: there, behind the last one, or longer than the text buffer.
-pub const FOUND: u8 = 0;
-
-pub const OVER: u8 = 1;
-
-pub const LONG: u8 = 2;
-
+// What comes next: a line with the input behind it, the end of the input, or a line that is longer than the text buffer.
 #[derive(Clone, Copy)]
-pub struct Line {
-    pub kind: u8,
-    pub start: usize,
-    pub end: usize,
-    pub rest: Input,
+pub enum Line {
+    Found {
+        start: usize,
+        end: usize,
+        rest: Input,
+    },
+    Over,
+    Long,
 }
 
 const LINE_FEED: u8 = 10;
 
-impl Input {
-    pub fn new() -> Self {
-        Input {
-            start: 0,
-            end: 0,
-            ended: 0,
-        }
-    }
-}
-
-fn nothing(rest: Input) -> Line
-    ensures { (result.start ≡ 0) × (result.end ≡ 0) }
+fn feed_in(window: &[u8]) -> Option<usize>
+    ensures { result ≡ position (λ c. c == 10) window.now }
 {
-    Line {
-        kind: OVER,
-        start: 0,
-        end: 0,
-        rest: rest,
-    }
-}
-
-// Where the line that begins at a place ends: at its line feed, or where the text that is there does.
-fn line_end(text: &[u8], from: usize, to: usize) -> usize
-    requires { (from ≤ to) × (to ≤ length text.now) }
-    ensures { LineEnd text.now from to result }
-{
-    let mut i = from;
-    while i < to {
-        if text[i] == LINE_FEED {
-            return i;
-        }
-        i += 1;
-    }
-    i
-}
-
-// Brings a part of the text to the front, and answers how long it is.
-fn to_front(text: &mut [u8], from: usize, to: usize) -> usize
-    requires { (from ≤ to) × (to ≤ length text.old) }
-    ensures { (result ≡ to - from) × (length text.new ≡ length text.old) }
-{
-    let mut i = from;
-    while i < to {
-        text[i - from] = text[i];
-        i += 1;
-    }
-    to - from
+    window.iter().position(|character| *character == LINE_FEED)
 }
 
 // Reads until a part is full or the input has ended: a short count is the end of the input.
@@ -93,31 +47,21 @@ fn read_full<R: Read>(from: &mut R, part: &mut [u8]) -> io::Result<usize>
     Ok(count)
 }
 
-// Fills the text behind what is left of it.
+// Fills the text behind what is left of it, which goes to the front.
 fn fill<R: Read>(input: Input, text: &mut [u8], from: &mut R) -> io::Result<Input>
     requires { Inside input (length text.old) }
     ensures filled { IfOk result (λ filled. Inside filled (length text.old)) }
     ensures unread { OnErr result (length text.new ≡ length text.old) }
 {
-    let start = input.start;
-    let end = input.end;
-    let kept = to_front(text, start, end);
+    text.copy_within(input.start..input.end, 0);
+    let kept = input.end - input.start;
     let room = text.len() - kept;
     let got = read_full(from, &mut text[kept..])?;
-    let ended = if got < room { 1 } else { 0 };
     Ok(Input {
         start: 0,
         end: kept + got,
-        ended: ended,
+        ended: got < room,
     })
-}
-
-fn has_line(input: Input, text: &[u8]) -> bool
-    requires { Inside input (length text.now) }
-{
-    let start = input.start;
-    let end = input.end;
-    line_end(text, start, end) < end
 }
 
 // The first line of the window. The last line may lack its line feed; no other does, unless it is too long.
@@ -125,55 +69,46 @@ fn cut(input: Input, text: &[u8]) -> Line
     requires { Inside input (length text.now) }
     ensures { Cut result (length text.now) }
 {
-    let start = input.start;
-    let end = input.end;
-    let feed = line_end(text, start, end);
-    if feed < end {
-        return Line {
-            kind: FOUND,
-            start: start,
+    let Input { start, end, ended } = input;
+    if let Some(length) = feed_in(&text[start..end]) {
+        let feed = start + length;
+        let rest = Input {
+            start: feed + 1,
+            end,
+            ended,
+        };
+        return Line::Found {
+            start,
             end: feed,
-            rest: Input {
-                start: feed + 1,
-                end: end,
-                ended: input.ended,
-            },
+            rest,
         };
     }
-    if input.ended == 0 {
-        return Line {
-            kind: LONG,
-            start: start,
-            end: end,
-            rest: input,
-        };
+    if !ended {
+        return Line::Long;
     }
-    Line {
-        kind: if start < end { FOUND } else { OVER },
-        start: start,
-        end: end,
-        rest: Input {
-            start: end,
-            end: end,
-            ended: 1,
-        },
+    if start == end {
+        return Line::Over;
     }
+    let rest = Input {
+        start: end,
+        end,
+        ended,
+    };
+    Line::Found { start, end, rest }
 }
 
 // The next line, read in as far as it has to be. A window that lies outside the text is an input that is over.
 pub fn next_line<R: Read>(input: Input, text: &mut [u8], from: &mut R) -> io::Result<Line>
     ensures found { IfOk result (λ line. Cut line (length text.old)) }
-    ensures unread { OnErr result ((input.ended ≡ 0) × (length text.new ≡ length text.old)) }
+    ensures unread { OnErr result ((IsFalse input.ended) × (length text.new ≡ length text.old)) }
 {
-    if input.start > input.end {
-        return Ok(nothing(input));
+    let Input { start, end, ended } = input;
+    if start > end || end > text.len() {
+        return Ok(Line::Over);
     }
-    if input.end > text.len() {
-        return Ok(nothing(input));
+    if ended || feed_in(&text[start..end]).is_some() {
+        return Ok(cut(input, text));
     }
-    if input.ended == 0 && !has_line(input, text) {
-        let filled = fill(input, text, from)?;
-        return Ok(cut(filled, text));
-    }
-    Ok(cut(input, text))
+    let filled = fill(input, text, from)?;
+    Ok(cut(filled, text))
 }

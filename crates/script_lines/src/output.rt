@@ -95,5 +95,9 @@ fn glyph(value: u8) -> u8
     requires { value < 16 }
     ensures { result ≡ glyph_of value }
 {
-    if value < 10 { 48 + value } else { 55 + value }
+    if value < 10 {
+        b'0' + value
+    } else {
+        b'A' - 10 + value
+    }
 }

@@ -1,16 +1,16 @@
 -- Words of a line: what stands between white space.
-use Rattle.std.specs.Prelude.{◌≡◌, Bool, true, false, cond, not, ◌||◌, ◌&&◌, List, [], ◌∷◌, ℕ, suc, ◌+◌, ◌-◌, ◌≤◌, min, eqb, leb, length, take, drop}
+use Rattle.std.specs.Prelude.{◌≡◌, Bool, true, false, List, ℕ, ◌+◌, ◌-◌, ◌≤◌, min, length, take, drop, take_while}
 use Rattle.std.specs.Bool.{beq}
+use Rattle.std.specs.Char.{is_ascii_whitespace}
 use Rattle.script_words.specs.declared.words.Word.{Word}
 
 -- ASCII white space: the space, and 9 to 13 (tab, line feed, form feed, carriage return) without the vertical tab
 abbrev pub blank : ℕ → Bool
-blank c = eqb c 32 || (leb 9 c && (leb c 13 && not (eqb c 11)))
+blank c = is_ascii_whitespace c
 
 -- how many characters at the front are white space, or are none
 abbrev pub spread : Bool → List ℕ → ℕ
-spread blanks [] = 0
-spread blanks (c ∷ cs) = cond (beq (blank c) blanks) (suc (spread blanks cs)) 0
+spread blanks t = length (take_while (λ c. beq (blank c) blanks) t)
 
 -- the first word at or behind a place: white space is passed over, then all that is none is the word
 abbrev pub word_start : List ℕ → ℕ → ℕ

@@ -1,98 +1,52 @@
 // The operands of a line, one word after the other.
-ghost use Rattle.std.specs.Prelude.{◌≡◌, true, ◌≤◌, ◌<◌, length};
-ghost use Rattle.script_words.specs.Operands.{byte_at, number_at};
+ghost use Rattle.std.specs.Prelude.{◌≡◌, ◌≤◌, length, IfSome, Option};
+ghost use Rattle.std.specs.Fn.{FnOnceReturnsAt};
+ghost use Rattle.script_words.specs.Words.{word_of, word_end};
+ghost use Rattle.script_words.specs.Operands.{then_at, byte_at, number_at};
 
-use crate::words::word_at;
-use script_numbers::{Byte, Number, decimal, hex};
+use crate::words::{is_over, word_at};
+use script_numbers::{decimal, hex};
 
-// What a word says, and where the next word may begin.
-#[derive(Clone, Copy)]
-pub enum ByteRead {
-    Is { value: u8, next: usize },
-    No,
+// What the word at a place says, and where the next word may begin.
+fn read_word<T: Drop, F: FnOnce(&[u8]) -> Option<T>>(
+    line: &[u8],
+    from: usize,
+    said: F,
+) -> Option<(T, usize)>
+    requires { F.IsAlwaysCallable said }
+    ensures { (o : Option T) × FnOnceReturnsAt F.FnOnce said (word_of line.now from) o × (result ≡ then_at o (word_end line.now from)) }
+{
+    let word = word_at(line, from);
+    let value = said(&line[word.start..word.end])?;
+    Some((value, word.end))
 }
 
-#[derive(Clone, Copy)]
-pub enum NumberRead {
-    Is { value: u64, next: usize },
-    No,
-}
-
-// Whether every word of the rest of a line is a byte, and how many bytes were kept.
-#[derive(Clone, Copy)]
-pub struct BytesRead {
-    pub all: bool,
-    pub count: usize,
-}
-
-pub fn read_byte(line: &[u8], from: usize) -> ByteRead
+pub fn read_byte(line: &[u8], from: usize) -> Option<(u8, usize)>
     ensures { result ≡ byte_at line.now from }
 {
-    let found = word_at(line, from);
-    let start = found.start;
-    let end = found.end;
-    match hex(&line[start..end]) {
-        Byte::Is(value) => ByteRead::Is {
-            value: value,
-            next: end,
-        },
-        Byte::No => ByteRead::No,
-    }
+    read_word(line, from, hex)
 }
 
-pub fn read_number(line: &[u8], from: usize) -> NumberRead
+pub fn read_number(line: &[u8], from: usize) -> Option<(u64, usize)>
     ensures { result ≡ number_at line.now from }
 {
-    let found = word_at(line, from);
-    let start = found.start;
-    let end = found.end;
-    match decimal(&line[start..end]) {
-        Number::Is(value) => NumberRead::Is {
-            value: value,
-            next: end,
-        },
-        Number::No => NumberRead::No,
-    }
+    read_word(line, from, decimal)
 }
 
-// Keeps the byte that a word is; false where it is none or there is no room.
-fn keep_byte(text: &[u8], out: &mut [u8], at: usize) -> bool
-    ensures { result ≡ true → at < length out.old }
+// Every word from a place on, as bytes: how many there are, if each is one and there is room for all.
+pub fn read_bytes(line: &[u8], from: usize, out: &mut [u8]) -> Option<usize>
+    ensures { IfSome result (λ count. count ≤ length out.new) }
 {
-    if at >= out.len() {
-        return false;
-    }
-    match hex(text) {
-        Byte::Is(value) => {
-            out[at] = value;
-            true
+    let mut next = from;
+    for (count, place) in out.iter_mut().enumerate() {
+        if is_over(line, next) {
+            return Some(count);
         }
-        Byte::No => false,
+        (*place, next) = read_byte(line, next)?;
     }
-}
-
-// Every word from a place on, as bytes.
-pub fn read_bytes(line: &[u8], from: usize, out: &mut [u8]) -> BytesRead
-    ensures { result.count ≤ length out.new }
-{
-    let first = word_at(line, from);
-    let mut start = first.start;
-    let mut end = first.end;
-    let mut count = 0;
-    while start < end {
-        if !keep_byte(&line[start..end], out, count) {
-            return BytesRead {
-                all: false,
-                count: 0,
-            };
-        }
-        count += 1;
-        let next = word_at(line, end);
-        start = next.start;
-        end = next.end;
-    }
-    BytesRead {
-        all: true,
-        count: count,
+    if is_over(line, next) {
+        Some(out.len())
+    } else {
+        None
     }
 }

@@ -2,8 +2,7 @@
 ghost use Rattle.std.specs.Prelude.{◌<◌};
 
 use crate::show::{Left, put_case, put_outcome};
-use crate::target::{CAME, give};
-use log_gate::{LOG_GATE_MEMORY, LOG_GATE_STATE, log_gate_reset};
+use crate::target::Target;
 use script_lines::output::Output;
 use std::io::{self, Write};
 
@@ -14,28 +13,25 @@ pub struct Case {
     pub address: usize,
     pub before: u8,
     pub after: u8,
+    ghost inside: { address < 16384 },
 }
 
-pub fn show<W: Write>(
-    case: Case,
-    wire: &[u8],
-    expected: &[u8],
-    out: &mut Output<W>,
-) -> io::Result<()>
-    requires { case.address < 16384 }
-{
-    let address = case.address;
-    let mut state = [0u8; LOG_GATE_STATE];
-    let mut memory = [0u8; LOG_GATE_MEMORY];
-    let mut came = [0u8; CAME];
-    log_gate_reset(&mut state);
-    memory[address] = case.before;
-    let end = give(wire, &mut state, &mut memory, &mut came, 0);
-    let left = Left {
-        address: address,
-        value: memory[address],
-        said: case.after,
-    };
-    put_case(case.number, wire, out)?;
-    put_outcome(&came, end, expected, left, out)
+impl Case {
+    pub fn show<W: Write>(
+        &self,
+        wire: &[u8],
+        expected: &[u8],
+        out: &mut Output<W>,
+    ) -> io::Result<()> {
+        let mut target = Target::new();
+        target.memory[self.address] = self.before;
+        target.give(wire);
+        let left = Left {
+            address: self.address,
+            value: target.memory[self.address],
+            said: self.after,
+        };
+        put_case(self.number, wire, out)?;
+        put_outcome(target.answers(), expected, left, out)
+    }
 }

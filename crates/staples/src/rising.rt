@@ -1,11 +1,8 @@
 // Case 13: rising over 0x7000, from 0x6000 to 0x8000 in the two bytes at 16, which are recorded too. With post-trigger 0 the
 // recorder stops when it fires, and the status that 0xC3 gives is the sign of it.
-ghost use Rattle.std.specs.Prelude.{◌≤◌};
-
-use crate::messages::read_messages;
+use crate::messages::{Messages, read_messages};
 use crate::show::{Left, put_case, put_outcome};
-use crate::target::{CAME, give};
-use log_gate::{LOG_GATE_MEMORY, LOG_GATE_STATE, log_gate_reset, log_gate_tick};
+use crate::target::Target;
 use script_lines::output::Output;
 use std::io::{self, Write};
 
@@ -16,51 +13,38 @@ const KEPT: usize = 12291;
 
 const STATUS: [u8; 3] = [0x2B, 0xC3, 0x3D];
 
-// The setup, the value from below to above with a tick at each, and the question for the status: where the answers end.
-fn run(
-    setup: &[u8],
-    state: &mut [u8; LOG_GATE_STATE],
-    memory: &mut [u8; LOG_GATE_MEMORY],
-    came: &mut [u8; CAME],
-) -> usize
-    ensures { result ≤ 600 }
-{
-    log_gate_reset(state);
-    memory[HIGH] = 0x60;
-    let accepted = give(setup, state, memory, came, 0);
-    log_gate_tick(state, memory);
-    memory[HIGH] = 0x80;
-    log_gate_tick(state, memory);
-    give(&STATUS, state, memory, came, accepted)
+// The setup, the value from below to above with a tick at each, and the question for the status.
+fn run(setup: &[u8]) -> Target {
+    let mut target = Target::new();
+    target.memory[HIGH] = 0x60;
+    target.give(setup);
+    target.tick();
+    target.memory[HIGH] = 0x80;
+    target.tick();
+    target.give(&STATUS);
+    target
 }
 
-fn put_messages<W: Write>(setup: &[u8], out: &mut Output<W>) -> io::Result<()> {
-    put_case(13, setup, out)?;
-    out.put_text(b", two ticks,")?;
-    out.put_bytes(&STATUS)
-}
-
-fn show_setup<W: Write>(setup: &[u8], expected: &[u8], out: &mut Output<W>) -> io::Result<()> {
-    let mut state = [0u8; LOG_GATE_STATE];
-    let mut memory = [0u8; LOG_GATE_MEMORY];
-    let mut came = [0u8; CAME];
-    let end = run(setup, &mut state, &mut memory, &mut came);
+fn show_setup<W: Write>(messages: Messages, out: &mut Output<W>) -> io::Result<()> {
+    let target = run(messages.given);
     let left = Left {
         address: KEPT,
-        value: memory[KEPT],
+        value: target.memory[KEPT],
         said: 0x80,
     };
-    put_messages(setup, out)?;
-    put_outcome(&came, end, expected, left, out)
+    put_case(13, messages.given, out)?;
+    out.put_text(b", two ticks,")?;
+    out.put_bytes(&STATUS)?;
+    put_outcome(target.answers(), messages.wanted, left, out)
 }
 
 fn show_line<W: Write>(line: &[u8], out: &mut Output<W>) -> io::Result<()> {
     let mut setup = [0u8; 32];
     let mut expected = [0u8; 16];
-    let read = read_messages(line, 0, &mut setup, &mut expected);
-    let given = read.given;
-    let wanted = read.wanted;
-    show_setup(&setup[0..given], &expected[0..wanted], out)
+    match read_messages(line, 0, &mut setup, &mut expected) {
+        Some(messages) => show_setup(messages, out),
+        None => Ok(()),
+    }
 }
 
 // Rising, four samples, post-trigger and divider 0, the trigger of two bytes at 16, and the same two bytes recorded. With sign 0 it

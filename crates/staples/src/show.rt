@@ -1,7 +1,4 @@
 // What a case prints: a line, with the verdict at its end.
-ghost use Rattle.std.specs.Prelude.{◌≤◌, length};
-
-use crate::target::CAME;
 use script_lines::output::Output;
 use std::io::{self, Write};
 
@@ -42,30 +39,13 @@ pub struct Left {
     pub said: u8,
 }
 
-fn put_judged<W: Write>(
-    came: &[u8],
-    end: usize,
-    expected: &[u8],
-    left: Left,
-    out: &mut Output<W>,
-) -> io::Result<()>
-    requires { end ≤ length came.now }
-{
-    let answers = &came[0..end];
-    put_came(answers, out)?;
-    put_left(left.address, left.value, out)?;
-    put_verdict(answers == expected && left.value == left.said, out)
-}
-
-// The answers stand at the front of the lent buffer, up to their end.
 pub fn put_outcome<W: Write>(
-    came: &[u8; CAME],
-    end: usize,
+    came: &[u8],
     expected: &[u8],
     left: Left,
     out: &mut Output<W>,
-) -> io::Result<()>
-    requires { end ≤ 600 }
-{
-    put_judged(came, end, expected, left, out)
+) -> io::Result<()> {
+    put_came(came, out)?;
+    put_left(left.address, left.value, out)?;
+    put_verdict(came == expected && left.value == left.said, out)
 }

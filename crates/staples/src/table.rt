@@ -1,107 +1,13 @@
 // Cases 1 to 12, each a line of the table: the case, the address of a byte of the memory and what it is before and after, what goes
 // over the wire, and what comes back.
-ghost use Rattle.std.specs.Prelude.{◌≤◌, ◌<◌, length};
-
-use crate::case::{Case, show};
-use crate::messages::{mark_from, read_messages};
+use crate::case::Case;
+use crate::messages::read_messages;
 use log_gate::LOG_GATE_MEMORY;
 use script_lines::output::Output;
-use script_words::operands::{ByteRead, NumberRead, read_byte, read_number};
+use script_words::operands::{read_byte, read_number};
 use std::io::{self, Write};
 
-// The messages of a line, whose first stands from a place on.
-fn show_messages<W: Write>(
-    case: Case,
-    line: &[u8],
-    from: usize,
-    out: &mut Output<W>,
-) -> io::Result<()>
-    requires { case.address < 16384 }
-{
-    let mut wire = [0u8; 16];
-    let mut expected = [0u8; 16];
-    let read = read_messages(line, from, &mut wire, &mut expected);
-    let given = read.given;
-    let wanted = read.wanted;
-    show(case, &wire[0..given], &expected[0..wanted], out)
-}
-
-// A line that names no case is skipped.
-fn show_line<W: Write>(line: &[u8], out: &mut Output<W>) -> io::Result<()> {
-    let NumberRead::Is {
-        value: number,
-        next: numbered,
-    } = read_number(line, 0)
-    else {
-        return Ok(());
-    };
-    let NumberRead::Is {
-        value: address,
-        next: addressed,
-    } = read_number(line, numbered)
-    else {
-        return Ok(());
-    };
-    let ByteRead::Is {
-        value: before,
-        next: begun,
-    } = read_byte(line, addressed)
-    else {
-        return Ok(());
-    };
-    let ByteRead::Is { value: after, next } = read_byte(line, begun) else {
-        return Ok(());
-    };
-    if address >= LOG_GATE_MEMORY as u64 {
-        return Ok(());
-    }
-    let case = Case {
-        number: number,
-        address: address as usize,
-        before: before,
-        after: after,
-    };
-    show_messages(case, line, next, out)
-}
-
-// Where a line ends, and where the next one begins.
-#[derive(Clone, Copy)]
-struct Line {
-    end: usize,
-    next: usize,
-}
-
-fn line_at(text: &[u8], from: usize) -> Line
-    requires { from < length text.now }
-    ensures { (from ≤ result.end) × (result.end ≤ length text.now) × (from < result.next) × (result.next ≤ length text.now) }
-{
-    let end = mark_from(text, from, b'\n');
-    if end < text.len() {
-        return Line {
-            end: end,
-            next: end + 1,
-        };
-    }
-    Line {
-        end: end,
-        next: end,
-    }
-}
-
-fn show_lines<W: Write>(text: &[u8], out: &mut Output<W>) -> io::Result<()> {
-    let mut start = 0;
-    while start < text.len() {
-        let line = line_at(text, start);
-        let end = line.end;
-        show_line(&text[start..end], out)?;
-        start = line.next;
-    }
-    Ok(())
-}
-
-pub fn show_table<W: Write>(out: &mut Output<W>) -> io::Result<()> {
-    show_lines(
-        b"
+const TABLE: &str = "
  1    16 00 00   2B C8 38               > 2B 00 03 00 01 01 00 40 BB
  2    16 7F 7F   2B D0 10 00 20         > 2B 00 7F 81
  3    16 2B 2B   2B D0 10 00 20         > 2B 00 2B 2B D5
@@ -118,7 +24,42 @@ pub fn show_table<W: Write>(out: &mut Output<W>) -> io::Result<()> {
 11    16 00 00   2B D0 10 2B C8 38      > 2B 00 03 00 01 01 00 40 BB
 12    16 00 00   2B 7F 00 81            > 2B 81 7F
 12    16 00 00   2B C1 3F               > 2B 88 78
-",
-        out,
-    )
+";
+
+// The case that a line names, and where its messages stand.
+fn read_case(line: &[u8]) -> Option<(Case, usize)> {
+    let (number, next) = read_number(line, 0)?;
+    let (address, next) = read_number(line, next)?;
+    let (before, next) = read_byte(line, next)?;
+    let (after, next) = read_byte(line, next)?;
+    if address >= LOG_GATE_MEMORY as u64 {
+        return None;
+    }
+    let case = Case {
+        number,
+        address: address as usize,
+        before,
+        after,
+    };
+    Some((case, next))
+}
+
+// A line that names no case, or no messages, is skipped.
+fn show_line<W: Write>(line: &[u8], out: &mut Output<W>) -> io::Result<()> {
+    let Some((case, next)) = read_case(line) else {
+        return Ok(());
+    };
+    let mut wire = [0u8; 16];
+    let mut expected = [0u8; 16];
+    match read_messages(line, next, &mut wire, &mut expected) {
+        Some(messages) => case.show(messages.given, messages.wanted, out),
+        None => Ok(()),
+    }
+}
+
+pub fn show_table<W: Write>(out: &mut Output<W>) -> io::Result<()> {
+    for line in TABLE.lines() {
+        show_line(line.as_bytes(), out)?;
+    }
+    Ok(())
 }

@@ -1,2 +1,0 @@
--- What an order keeps to.
-pub mod Bounds

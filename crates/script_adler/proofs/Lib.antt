@@ -1,2 +1,0 @@
--- The checksum, for one more byte.
-pub mod Sums

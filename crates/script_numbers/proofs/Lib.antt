@@ -1,2 +1,0 @@
--- A number, for one more digit.
-pub mod Digits

@@ -1,3 +1,0 @@
--- Laws of words, and of what is read off them.
-pub mod Spreads
-pub mod Reading
