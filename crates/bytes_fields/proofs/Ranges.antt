@@ -30,18 +30,6 @@ sets_same (suc n) l i h =
     ∙ ap (λ (k : List ℕ). sets k (suc i) (bytes_at l (suc i) n)) (set-get_or l i 0)
     ∙ sets_same n l (suc i) (omega arith)
 
--- stores of single bytes, one behind the other
-module _ (l : List ℕ) (at : ℕ) where
-  pub two_set : (a b : ℕ) → set (set l at a) (at + 1) b ≡ sets l at (a ∷ b ∷ [])
-  two_set a b = let e : at + 1 ≡ suc at = omega arith in rw e
-
-  pub four_set : (a b c d : ℕ) → set (set (set (set l at a) (at + 1) b) (at + 2) c) (at + 3) d ≡ sets l at (a ∷ b ∷ c ∷ d ∷ [])
-  four_set a b c d =
-      let e : at + 1 ≡ suc at = omega arith in
-      let f : at + 2 ≡ suc (suc at) = omega arith in
-      let g : at + 3 ≡ suc (suc (suc at)) = omega arith in
-      rw (e, f, g)
-
 -- one byte of a range stored
 pub sets_set : (n : ℕ) (l : List ℕ) (i k b : ℕ) → k < n → i + n ≤ length l → sets l i (set (bytes_at l i n) k b) ≡ set l (i + k) b
 sets_set zero l i k b h fits = let z : ⊥ = omega arith in absurd z

@@ -9,53 +9,10 @@ ghost use Rattle.document.specs.Areas.{bytes_at};
 ghost use Rattle.document.specs.Values.{number, little_endian};
 ghost use Rattle.document.specs.Variables.{definition_width};
 
-use bytes_widths::{u16_of_u8, u32_of_u8};
 pub use fields::Field;
 
 // A stored definition: its size, and its address in four bytes, as an EX setup's data part has them.
 pub const DEFINITION_WIDTH: usize = 5;
-
-pub fn word_at(block: &[u8], at: usize) -> u16
-    requires { at + 2 ≤ length block.now }
-    ensures { result ≡ number (bytes_at block.now at 2) }
-{
-    u16_of_u8(block[at]) + 256 * u16_of_u8(block[at + 1])
-}
-
-pub fn long_at(block: &[u8], at: usize) -> u32
-    requires { at + 4 ≤ length block.now }
-    ensures { result ≡ number (bytes_at block.now at 4) }
-{
-    u32_of_u8(block[at])
-        + 256 * u32_of_u8(block[at + 1])
-        + 65536 * u32_of_u8(block[at + 2])
-        + 16777216 * u32_of_u8(block[at + 3])
-}
-
-pub fn put_byte(block: &mut [u8], at: usize, x: u8)
-    requires { at < length block.old }
-    ensures { block.new ≡ set block.old at x }
-{
-    block[at] = x;
-}
-
-pub fn put_word(block: &mut [u8], at: usize, x: u16)
-    requires { at + 2 ≤ length block.old }
-    ensures { block.new ≡ sets block.old at (little_endian 2 x) }
-{
-    block[at] = (x % 256) as u8;
-    block[at + 1] = (x / 256 % 256) as u8;
-}
-
-pub fn put_long(block: &mut [u8], at: usize, x: u32)
-    requires { at + 4 ≤ length block.old }
-    ensures { block.new ≡ sets block.old at (little_endian 4 x) }
-{
-    block[at] = (x % 256) as u8;
-    block[at + 1] = (x / 256 % 256) as u8;
-    block[at + 2] = (x / 256 / 256 % 256) as u8;
-    block[at + 3] = (x / 256 / 256 / 256 % 256) as u8;
-}
 
 // A definition, where it is stored.
 pub fn put_definition(block: &mut [u8], at: usize, size: u8, address: u32)

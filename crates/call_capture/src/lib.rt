@@ -5,7 +5,7 @@ ghost use Rattle.std.specs.Prelude.{◌≡◌, leb, length};
 ghost use Rattle.document_captures.specs.Captures.{captured};
 ghost use Rattle.call_capture.specs.Promises.{CaptureDone};
 
-use codes_table::{ROOM_REFUSED, TAKEN};
+use codes_table::{Refusal, TAKEN};
 use line_captures::entries::ENTRY;
 use line_captures::walk;
 
@@ -41,7 +41,7 @@ pub fn capture(bytes: &[u8], list: &mut [u64]) -> Listed
 {
     if !is_room(bytes, list.len() / ENTRY) {
         return Listed {
-            refusal: ROOM_REFUSED,
+            refusal: u8::from(Refusal::Room),
             count: 0,
         };
     }

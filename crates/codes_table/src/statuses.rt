@@ -5,28 +5,6 @@ ghost use Rattle.codes_table.specs.Statuses.{status_number, outcome_number};
 // The status where nothing else is to be said: it stands for an `Ok`.
 pub const DONE: u8 = 0x00;
 
-pub const RECORDER_RUNS: u8 = 0x01;
-
-pub const RECORDER_STOPPED: u8 = 0x02;
-
-pub const NOT_SERVED: u8 = 0x81;
-
-pub const SUM_WRONG: u8 = 0x82;
-
-pub const MESSAGE_TOO_LONG: u8 = 0x83;
-
-pub const ANSWER_TOO_LONG: u8 = 0x84;
-
-pub const LAYOUT_WRONG: u8 = 0x85;
-
-pub const SIZE_WRONG: u8 = 0x86;
-
-pub const BUSY: u8 = 0x87;
-
-pub const NOT_SET_UP: u8 = 0x88;
-
-pub const RANGE_WRONG: u8 = 0x89;
-
 // Why a command changes nothing: each status but that for done.
 #[derive(Clone, Copy, PartialEq, Eq)]
 pub enum Status {
@@ -42,6 +20,13 @@ pub enum Status {
     NotSetUp = 0x88,
     RangeWrong = 0x89,
 }
+
+// The ends of the two rows of statuses: successes from done on, and errors.
+pub const RECORDER_STOPPED: u8 = Status::RecorderStopped as u8;
+
+pub const NOT_SERVED: u8 = Status::NotServed as u8;
+
+pub const RANGE_WRONG: u8 = Status::RangeWrong as u8;
 
 impl From<Status> for u8 {
     ghost from_gives = { λ status byte. byte ≡ status_number status };
