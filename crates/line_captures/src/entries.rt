@@ -1,4 +1,5 @@
-// The lent list: a message that was found is counted, and listed as three numbers where there is room.
+// The lent list: a message that was found is counted, and listed as three numbers where there is room. It is numbers, since a caller in C
+// lends it.
 ghost use Rattle.std.specs.Prelude.{◌≡◌, ◌+◌, ◌<◌, length};
 ghost use Rattle.line_captures.specs.Entries.{put_one, put_all};
 ghost use Rattle.line_captures.specs.Messages.{placed, entries_of};

@@ -44,7 +44,7 @@ pub struct Step {
     pub found: Option<Found>,
 }
 
-// So many literals from a place on, or as many as come before a start and the end.
+// So many literals from a place on, or as many as come before a start and the end: a literal says where the next one begins.
 fn taken_literals(bytes: &[u8], from: usize, n: usize, sum: u8) -> Span
     requires { from ≤ length bytes.now }
     ensures { Spanned bytes.now from n sum result }

@@ -25,7 +25,7 @@ fn step(bytes: &[u8], at: usize) -> Step
     }
 }
 
-// How many messages there are; those for which there is room are listed.
+// How many messages there are; those for which there is room are listed. A `while`, since each step says where the next one begins.
 pub fn walk(bytes: &[u8], list: &mut [u64]) -> usize
     ensures { Walked bytes.now list.old result list.new }
 {
