@@ -29,7 +29,8 @@ pub fn prepare_run(block: &mut [u8])
     ensures { block.new ≡ sets block.old run_place (encoded_run (run_kept prepared)) }
 {
     let former = run_in(block);
-    put_run(block, former.prepared());
+    let run = former.prepared();
+    put_run(block, run);
 }
 
 // The message's data stand in the block, up to a place.

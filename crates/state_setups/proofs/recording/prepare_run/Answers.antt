@@ -9,4 +9,4 @@ use Rattle.state_setups.proofs.recording.prepare_run.Goals as goal
 pub returns : goal.returns
 returns c =
     c.put_run.ensures
-    ∙ ap (λ (r : Run). sets c.args.block.now run_place (encoded_run r)) c.prepared.ensures
+    ∙ ap (λ (r : Run). sets c.args.block.now run_place (encoded_run r)) c.prepared-run.ensures
