@@ -10,5 +10,7 @@ mod table;
 
 pub use calls::{Refusal, TAKEN, taken_number};
 pub use limits::{ANSWER_ROOM, FIRST_FAST, MOST_DATA, MOST_DATA_BYTE, fast_length};
-pub use statuses::{DONE, NOT_SERVED, RANGE_WRONG, RECORDER_STOPPED, Status, outcome_number};
+pub use statuses::{
+    DONE, LAYOUT_WRONG, NOT_SERVED, RANGE_WRONG, RECORDER_STOPPED, Status, outcome_number,
+};
 pub use table::{data_length, service_of};

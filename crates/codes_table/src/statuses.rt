@@ -21,12 +21,14 @@ pub enum Status {
     RangeWrong = 0x89,
 }
 
-// The ends of the two rows of statuses: successes from done on, and errors.
+// The ends of the two rows of statuses, successes from done on and errors, and one that is told where nothing else can go wrong.
 pub const RECORDER_STOPPED: u8 = Status::RecorderStopped as u8;
 
 pub const NOT_SERVED: u8 = Status::NotServed as u8;
 
 pub const RANGE_WRONG: u8 = Status::RangeWrong as u8;
+
+pub const LAYOUT_WRONG: u8 = Status::LayoutWrong as u8;
 
 impl From<Status> for u8 {
     ghost from_gives = { λ status byte. byte ≡ status_number status };

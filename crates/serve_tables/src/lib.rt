@@ -15,7 +15,7 @@ ghost use Rattle.state_block.specs.Places.{body_place, scope_place, state_length
 ghost use Rattle.state_block.specs.Layout.{data_to, decoded_tables, decoded_instruments};
 
 use bytes_fields::Field;
-use codes_table::Status;
+use codes_table::LAYOUT_WRONG;
 use serve_answers::{done_words, status_alone};
 use state_block::{BODY, LIST, TABLES};
 use tables_state::{MOST_TABLES, PAIR};
@@ -46,7 +46,7 @@ pub fn tell_table(state: &[u8], to: usize, out: &mut [u8]) -> usize
     ensures { (memory : List ℕ) (s : Service) → Told (served (gate_of (decoded_instruments state.now) memory) (known_as TellTable s) (data_to state.now to)).answer out.old result out.new }
 {
     if to != BODY + 2 {
-        return status_alone(u8::from(Status::LayoutWrong), out);
+        return status_alone(LAYOUT_WRONG, out);
     }
     tell_listed(state, usize::from(u16::at(state, BODY)), out)
 }
