@@ -16,7 +16,7 @@ use line_wire::sum::added;
 use memory_ranges::copy_in;
 use state_block::{BODY, put_receiver, receiver_in};
 
-// Behind the bytes, up to a place, that come before a 0x2B.
+// Behind the bytes, up to a place, that come before a 0x2B. A loop over places and no closure, since every byte of a block comes by here.
 fn plain_end(bytes: &[u8], from: usize, end: usize) -> usize
     requires { (from ≤ end) × (end ≤ length bytes.now) }
     ensures { (result ≡ from + plain_ahead (end - from) (drop from bytes.now)) × (result ≤ end) }

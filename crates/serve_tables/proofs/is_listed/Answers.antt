@@ -2,7 +2,6 @@
 use mathlib.Core.Path.{refl}
 use borrow.Author.Tests.{lt-ltb, le-ltb}
 use native.Mathlib.Omega.{arith}
-use Rattle.document.specs.Tables.{most_tables}
 use Rattle.state_block.specs.Layout.{decoded_tables}
 use Rattle.serve_tables.proofs.is_listed.Goals as goal
 

@@ -1,7 +1,7 @@
 -- What is left to put gives the whole: one variable a turn.
 use mathlib.Core.Path.{◌≡◌}
 use mathlib.Core.Bool.{true}
-use Prim.Native.Nat.{◌+◌, ◌*◌, ◌<◌, ◌≤◌}
+use Prim.Native.Nat.{◌<◌}
 use lib.ListN.{length}
 use lib.Seq.{sets}
 use Rattle.document.specs.Areas.{may_be_read}
