@@ -3,39 +3,17 @@ use mathlib.Core.Path.{◌≡◌, sym, ap, ◌∙◌}
 use mathlib.Core.Bool.{Bool, true}
 use mathlib.Core.List.{List, ◌∷◌}
 use Prim.Native.Nat.{ℕ, ◌+◌, ◌-◌, ◌<◌, ◌≤◌}
-use native.Mathlib.Numerals.{add-one}
 use native.Mathlib.Omega.{arith}
-use lib.ListN.{length, get_or, set, take, drop, length-set}
-use lib.Seq.{drop-cons, get_or-drop, get_or-take, take-set-le}
+use lib.ListN.{length, get_or, take, drop}
 use Rattle.document.specs.Areas.{bytes_at}
 use Rattle.document.specs.Values.{number}
 use Rattle.document.specs.Stores.{stored}
 use Rattle.document.specs.Variables.{definitions_in, all_may, set_size, values_of}
 use Rattle.document.proofs.Cases.{both}
 use Rattle.memory_ranges.proofs.Copies.{stored_append}
-use Rattle.memory_ranges.proofs.Stored.{take_sets, bytes_agree, byte_agree}
+use Rattle.memory_ranges.proofs.Stored.{take_sets, bytes_agree}
 use Rattle.bytes_fields.proofs.Ranges.{bytes_length}
 use Rattle.bytes_fields.proofs.Definitions.{definitions_first}
-
--- ---- one byte
-
-byte_next : (m₀ m : List ℕ) (from size i o b : ℕ) → i < size → from + size ≤ length m₀ → b ≡ get_or m₀ (from + i) 0
-    → stored (set m o b) (o + 1) (drop (i + 1) (bytes_at m₀ from size)) ≡ stored m o (drop i (bytes_at m₀ from size))
-byte_next m₀ m from size i o b h r e =
-    let l : i < length (bytes_at m₀ from size) = rw (bytes_length m₀ from size r) h in
-    rw (add-one i, add-one o, e, drop-cons (bytes_at m₀ from size) i 0 l, get_or-take size (drop from m₀) i 0 h, get_or-drop from m₀ i 0)
-
-module _ (m₀ m m' : List ℕ) (at from size i b : ℕ) (h : i < size) (below : from + size ≤ at) (fits : at ≤ length m₀) where
-  pub byte_kept : m' ≡ set m (at + i) b → b ≡ get_or m (from + i) 0 → take at m ≡ take at m₀
-      → (length m' ≡ length m)
-      × (take at m' ≡ take at m₀)
-      × (stored m' (at + (i + 1)) (drop (i + 1) (bytes_at m₀ from size)) ≡ stored m (at + i) (drop i (bytes_at m₀ from size)))
-  byte_kept e eb t =
-      let p : at + (i + 1) ≡ at + i + 1 = omega arith in (
-        ap length e ∙ length-set m (at + i) b,
-        ap (take at) e ∙ take-set-le at m (at + i) b (omega arith) ∙ t,
-        rw (e, p) (byte_next m₀ m from size i (at + i) b h (omega arith) (eb ∙ byte_agree m m₀ at (from + i) t (omega arith))),
-      )
 
 -- ---- one variable
 

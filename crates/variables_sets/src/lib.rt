@@ -9,6 +9,7 @@ ghost use Rattle.document.specs.Variables.{definition_width, set_size, values_of
 ghost use Rattle.variables_sets.specs.Recorded.{variables_at, Recordable};
 
 use bytes_fields::{DEFINITION_WIDTH, Field};
+use memory_ranges::copy_in;
 
 // How many bytes a set of `count` variables takes, the first of which is defined at `from`.
 pub fn set_size(block: &[u8], from: usize, count: usize) -> usize
@@ -22,14 +23,13 @@ pub fn set_size(block: &[u8], from: usize, count: usize) -> usize
     size
 }
 
-// The bytes of one variable, one by one: a library's copy would need memcpy, which the target has not.
+// The bytes of one variable, read below the ring's place while a part of the place is lent for writing.
 fn copy_variable(memory: &mut [u8], from: usize, size: usize, at: usize)
     requires { (from + size ≤ at) × (at + size ≤ length memory.old) }
     ensures { memory.new ≡ stored memory.old at (bytes_at memory.old from size) }
 {
-    for i in 0..size {
-        memory[at + i] = memory[from + i];
-    }
+    let (recorded, ring) = memory.split_at_mut(at);
+    copy_in(&mut ring[..size], 0, &recorded[from..from + size]);
 }
 
 // A set of `size` bytes into the place that begins at `at`, behind everything that may be recorded.
