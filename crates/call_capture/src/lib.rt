@@ -41,7 +41,7 @@ pub fn capture(bytes: &[u8], list: &mut [u64]) -> Listed
 {
     if !is_room(bytes, list.len() / ENTRY) {
         return Listed {
-            refusal: u8::from(Refusal::Room),
+            refusal: Refusal::Room as u8,
             count: 0,
         };
     }

@@ -28,9 +28,7 @@ pub fn put_reader_head(block: &mut [u8], h: Head)
     requires { reader_length ≤ length block.old }
     ensures { block.new ≡ sets block.old 0 (encoded_head h) }
 {
-    let head = [
-        h.waiting, h.phase, h.status, h.expected, h.have, h.sum,
-    ];
+    let head = [h.waiting, h.phase, h.status, h.expected, h.have, h.sum];
     bytes_fields::put_head(block, head);
 }
 
