@@ -5,14 +5,17 @@ ghost use Rattle.std.specs.Prelude.{◌≡◌, ◌+◌, ◌<◌, ◌≤◌, leng
 ghost use Rattle.document.specs.Numbers.{answer_room};
 ghost use Rattle.state_parts.specs.Within.{Within};
 ghost use Rattle.state_block.specs.Places.{state_length};
+ghost use Rattle.state_byte.specs.Turn.{turn};
 ghost use Rattle.state_block.specs.Layout.{decoded};
+ghost use Rattle.call_byte.specs.Promises.{Turned};
 ghost use Rattle.call_block.specs.Going.{TookNext, Gone};
 ghost use Rattle.call_block.specs.Promises.{BlockDone};
 
-use call_byte::take;
+use call_byte::hear;
 use call_checks::byte_refusal;
 use call_quiet::pass_over;
 use codes_table::{ANSWER_ROOM, TAKEN};
+use serve_message::respond;
 
 // The number with which a block is refused, or 0; how many of its bytes were taken, and how many bytes of answers were written.
 #[repr(C)]
@@ -28,6 +31,17 @@ pub struct BlockTaken {
 struct Going {
     taken: usize,
     written: usize,
+}
+
+// A byte that nothing refuses, as crates/call_byte takes it, and with its proof: how many bytes of answers it brings.
+fn take(state: &mut [u8], byte: u8, memory: &mut [u8], answer: &mut [u8]) -> usize
+    requires { (state_length ≤ length state.old) × Within (decoded state.old) memory.old × (answer_room ≤ length answer.old) }
+    ensures { Turned (turn (decoded state.old) byte memory.old answer.old) state.old result state.new memory.new answer.new }
+{
+    match hear(state, byte) {
+        None => 0,
+        Some(whole) => respond(whole, state, memory, answer),
+    }
 }
 
 // The bytes behind those taken so far that only count, or do nothing, and behind them one more, whose answer stands behind those before it.

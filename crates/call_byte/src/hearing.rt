@@ -8,7 +8,7 @@ use serve_message::Whole;
 use state_block::{BODY, put_receiver, receiver_in};
 
 // The message that the byte ends, if it ends one. The receiver is stored, and at most one byte of the body.
-pub(crate) fn hear(state: &mut [u8], byte: u8) -> Option<Whole>
+pub fn hear(state: &mut [u8], byte: u8) -> Option<Whole>
     requires { state_length ≤ length state.old }
     ensures { Hears state.old byte result state.new }
 {

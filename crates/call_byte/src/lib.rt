@@ -13,7 +13,7 @@ ghost use Rattle.call_byte.specs.Promises.{Turned, ByteTaken};
 
 use call_checks::byte_refusal;
 use codes_table::TAKEN;
-use hearing::hear;
+pub use hearing::hear;
 use serve_message::respond;
 
 // The number with which a byte is refused, or 0, and how many bytes of the lent buffer are its answer.
@@ -24,8 +24,9 @@ pub struct Taken {
     pub length: usize,
 }
 
-// A byte that nothing refuses: how many bytes of the lent buffer are its answer.
-pub fn take(state: &mut [u8], byte: u8, memory: &mut [u8], answer: &mut [u8]) -> usize
+// A byte that nothing refuses: how many bytes of the lent buffer are its answer. A block has a function of its own for the same: one for
+// both would be called, and take a byte some twenty instructions more.
+fn take(state: &mut [u8], byte: u8, memory: &mut [u8], answer: &mut [u8]) -> usize
     requires { (state_length ≤ length state.old) × Within (decoded state.old) memory.old × (answer_room ≤ length answer.old) }
     ensures { Turned (turn (decoded state.old) byte memory.old answer.old) state.old result state.new memory.new answer.new }
 {
