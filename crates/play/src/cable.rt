@@ -1,4 +1,10 @@
 // The orders to the other end of the cable: the writers of commands and answers, and the reader of answers.
+ghost use Rattle.std.specs.Prelude.{◌≡◌, ◌+◌, ◌%◌, ◌^◌, ℕ, length, OnOk, replicate};
+ghost use Rattle.std.proofs.lemmas.List.Edits.{sets};
+ghost use Rattle.line_reader.specs.Reader as host;
+ghost use Rattle.call_reader.specs.Layout.{reader_length, encoded_reader};
+ghost use Rattle.call_reader.specs.Promises.{BeginDone};
+
 use crate::lengths::LENT;
 use crate::order::CableOrder;
 use crate::room::Room;
@@ -68,13 +74,18 @@ pub struct Reader {
 
 impl Reader {
     // Until a script begins a reading, no data are expected.
-    pub fn new() -> Self {
+    pub fn new() -> Self
+        ensures { result.block ≡ sets (replicate reader_length 0) 0 (encoded_reader (host.fresh 0)) }
+    {
         let mut block = [0u8; LOG_GATE_READER];
         log_gate_reader_begin(&mut block, 0);
         Reader { block, given: 0 }
     }
 
-    fn begin<W: Write>(&mut self, expected: u64, out: &mut Output<W>) -> io::Result<()> {
+    fn begin<W: Write>(&mut self, expected: u64, out: &mut Output<W>) -> io::Result<()>
+        ensures begun { (number : ℕ) × BeginDone self.old.block expected number self.new.block }
+        ensures kept { self.new.given ≡ self.old.given }
+    {
         put_refusal(
             b'E',
             log_gate_reader_begin(&mut self.block, expected as usize),
@@ -87,7 +98,9 @@ impl Reader {
         byte: u8,
         room: Room<LENT>,
         out: &mut Output<W>,
-    ) -> io::Result<()> {
+    ) -> io::Result<()>
+        ensures { OnOk result (self.new.given ≡ (self.old.given + 1) % 2 ^ 64) }
+    {
         room.lend(|lent| {
             let read = log_gate_reader_byte(&mut self.block, byte, lent);
             put_read(self.given, read, lent, out)
@@ -102,7 +115,9 @@ impl Reader {
         bytes: &[u8],
         room: Room<LENT>,
         out: &mut Output<W>,
-    ) -> io::Result<()> {
+    ) -> io::Result<()>
+        ensures { OnOk result (self.new.given ≡ (self.old.given + length bytes.now) % 2 ^ 64) }
+    {
         for byte in bytes {
             self.read_byte(*byte, room, out)?;
         }

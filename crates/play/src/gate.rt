@@ -1,4 +1,14 @@
 // The orders to the gate: bytes over the wire, ticks, frames at the second port, what its own program and its panel do, and a look at its memory.
+ghost use Rattle.std.specs.Prelude.{◌≡◌, ◌+◌, ◌%◌, ◌^◌, List, ℕ, replicate, length, OnOk, true, false};
+ghost use Rattle.std.proofs.lemmas.List.Edits.{sets};
+ghost use Rattle.document.specs.Areas.{memory_end};
+ghost use Rattle.document.specs.Numbers.{answer_room};
+ghost use Rattle.state_parts.specs.Bounds.{fresh};
+ghost use Rattle.state_block.specs.Places.{state_length};
+ghost use Rattle.state_block.specs.Layout.{encoded};
+ghost use Rattle.call_byte.specs.declared.Taken.{Taken};
+ghost use Rattle.call_byte.specs.Promises.{ByteTaken};
+
 use crate::lengths::BLOCK_LENT;
 use crate::order::GateOrder;
 use crate::room::{Part, Room};
@@ -37,7 +47,11 @@ fn put_answer<W: Write>(
 }
 
 impl Gate {
-    pub fn new() -> Self {
+    pub fn new() -> Self
+        ensures state { result.state ≡ sets (replicate state_length 0) 0 (encoded fresh) }
+        ensures memory { result.memory ≡ replicate memory_end 0 }
+        ensures unconcerned { result.concerned ≡ false }
+    {
         let mut state = [0u8; LOG_GATE_STATE];
         log_gate_reset(&mut state);
         Gate {
@@ -49,7 +63,11 @@ impl Gate {
     }
 
     // No byte and no tick is refused: the state has been through the calls alone since reset, and every block has its length.
-    fn give_byte<W: Write>(&mut self, byte: u8, out: &mut Output<W>) -> io::Result<()> {
+    fn give_byte<W: Write>(&mut self, byte: u8, out: &mut Output<W>) -> io::Result<()>
+        ensures taken { (taken : Taken) × (told : List ℕ) × ByteTaken self.old.state byte self.old.memory (replicate answer_room 0) taken self.new.state self.new.memory told }
+        ensures counted { OnOk result (self.new.given ≡ (self.old.given + 1) % 2 ^ 64) }
+        ensures concerned { self.new.concerned ≡ self.old.concerned }
+    {
         let mut answer = [0u8; LOG_GATE_ANSWER_ROOM];
         let taken = log_gate_byte(&mut self.state, byte, &mut self.memory, &mut answer);
         put_answer(self.given, &answer, taken.length, out)?;
@@ -58,7 +76,10 @@ impl Gate {
     }
 
     // The bytes one by one, with every answer printed as it comes.
-    fn give<W: Write>(&mut self, bytes: &[u8], out: &mut Output<W>) -> io::Result<()> {
+    fn give<W: Write>(&mut self, bytes: &[u8], out: &mut Output<W>) -> io::Result<()>
+        ensures counted { OnOk result (self.new.given ≡ (self.old.given + length bytes.now) % 2 ^ 64) }
+        ensures concerned { self.new.concerned ≡ self.old.concerned }
+    {
         for byte in bytes {
             self.give_byte(*byte, out)?;
         }
@@ -71,7 +92,9 @@ impl Gate {
         block: &[u8],
         room: Room<BLOCK_LENT>,
         out: &mut Output<W>,
-    ) -> io::Result<()> {
+    ) -> io::Result<()>
+        ensures { self.new.concerned ≡ self.old.concerned }
+    {
         self.given = self.given.wrapping_add(block.len() as u64);
         room.lend(|lent| {
             let taken = log_gate_block(&mut self.state, block, &mut self.memory, lent);
@@ -79,14 +102,18 @@ impl Gate {
         })
     }
 
-    fn tick(&mut self, times: u64) {
+    fn tick(&mut self, times: u64)
+        ensures { (self.new.given ≡ self.old.given) × (self.new.concerned ≡ self.old.concerned) }
+    {
         for _ in 0..times {
             log_gate_tick(&mut self.state, &mut self.memory);
         }
     }
 
     // What the gate's own program writes.
-    fn poke(&mut self, part: Part, bytes: &[u8]) {
+    fn poke(&mut self, part: Part, bytes: &[u8])
+        ensures { (self.new.state ≡ self.old.state) × (self.new.given ≡ self.old.given) × (self.new.concerned ≡ self.old.concerned) }
+    {
         for (place, byte) in self.memory[part.start..part.end].iter_mut().zip(bytes) {
             *place = *byte;
         }
@@ -99,7 +126,9 @@ impl Gate {
         out.put(b'\n')
     }
 
-    pub fn carry_out<W: Write>(&mut self, order: GateOrder, out: &mut Output<W>) -> io::Result<()> {
+    pub fn carry_out<W: Write>(&mut self, order: GateOrder, out: &mut Output<W>) -> io::Result<()>
+        ensures { self.new.concerned ≡ true }
+    {
         self.concerned = true;
         match order {
             GateOrder::Give { bytes } => self.give(bytes, out)?,

@@ -1,5 +1,6 @@
 // What an order may name: so much of a buffer to be lent, and a part of the memory.
-ghost use Rattle.std.specs.Prelude.{◌≡◌, ◌+◌, ◌<◌, ◌≤◌, MatchResult};
+ghost use Rattle.std.specs.Prelude.{◌≡◌, ◌+◌, ◌<◌, ◌≤◌, List, ℕ, replicate, MatchResult};
+ghost use Rattle.std.specs.Fn.{FnOnceReturnsAtMut};
 
 use crate::complaint::Complaint;
 use log_gate::LOG_GATE_MEMORY;
@@ -30,6 +31,7 @@ impl<const MOST: usize> Room<MOST> {
     pub fn lend<T, F: FnOnce(&mut [u8]) -> T>(self, call: F) -> T
         requires small { MOST ≤ 65535 }
         requires callable { F.IsAlwaysCallable call }
+        ensures { (left : List ℕ) × FnOnceReturnsAtMut F.FnOnce call (replicate self.entry.size 238) result left }
     {
         let mut lent = [FILLING; MOST];
         call(&mut lent[..self.size])

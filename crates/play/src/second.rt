@@ -1,4 +1,6 @@
 // The orders of the mill's controller: a frame at the second port.
+ghost use Rattle.std.specs.Prelude.{◌≡◌};
+
 use crate::gate::Gate;
 use crate::lengths::LENT;
 use crate::room::Room;
@@ -14,7 +16,9 @@ impl Gate {
         room: Room<LENT>,
         frame: &[u8],
         out: &mut Output<W>,
-    ) -> io::Result<()> {
+    ) -> io::Result<()>
+        ensures { (self.new.state ≡ self.old.state) × (self.new.concerned ≡ self.old.concerned) }
+    {
         room.lend(|lent| {
             let written = log_gate_modbus(station, frame, &mut self.memory, lent);
             put_written(b'U', written.refusal, written.length, lent, out)

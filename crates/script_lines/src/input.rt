@@ -32,7 +32,8 @@ fn feed_in(window: &[u8]) -> Option<usize>
     window.iter().position(|character| *character == LINE_FEED)
 }
 
-// Reads until a part is full or the input has ended: a short count is the end of the input.
+// Reads until a part is full or the input has ended: a short count is the end of the input. It calls `read` in turn, since
+// `read_exact` makes an error of an input that ends before the part is full.
 fn read_full<R: Read>(from: &mut R, part: &mut [u8]) -> io::Result<usize>
     ensures { IfOk result (λ count. count ≤ length part.old) }
 {
@@ -97,7 +98,8 @@ fn cut(input: Input, text: &[u8]) -> Line
     Line::Found { start, end, rest }
 }
 
-// The next line, read in as far as it has to be. A window that lies outside the text is an input that is over.
+// The next line, read in as far as it has to be. A window that lies outside the text is an input that is over. The input comes by
+// value and its rest goes back in the line, since only behind a line that is found is there more to read.
 pub fn next_line<R: Read>(input: Input, text: &mut [u8], from: &mut R) -> io::Result<Line>
     ensures found { IfOk result (λ line. Cut line (length text.old)) }
     ensures unread { OnErr result ((IsFalse input.ended) × (length text.new ≡ length text.old)) }

@@ -56,6 +56,7 @@ impl<W: Write> Output<W> {
         Ok(())
     }
 
+    // Byte by byte, by the one contract that says where in the room a byte goes: the room may be full wherever in the text.
     pub fn put_text(&mut self, text: &[u8]) -> io::Result<()> {
         for byte in text {
             self.put(*byte)?;
@@ -90,7 +91,7 @@ impl<W: Write> Output<W> {
     }
 }
 
-// The character of a value below 16, in upper case.
+// The character of a value below 16, in upper case. (`char::from_digit` gives lower case.)
 fn glyph(value: u8) -> u8
     requires { value < 16 }
     ensures { result ≡ glyph_of value }

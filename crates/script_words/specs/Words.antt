@@ -1,5 +1,5 @@
 -- Words of a line: what stands between white space.
-use Rattle.std.specs.Prelude.{◌≡◌, Bool, true, false, List, ℕ, ◌+◌, ◌-◌, ◌≤◌, min, length, take, drop, take_while}
+use Rattle.std.specs.Prelude.{◌≡◌, Bool, true, false, List, ℕ, ◌+◌, ◌-◌, ◌≤◌, min, length, eqb, take, drop, take_while}
 use Rattle.std.specs.Bool.{beq}
 use Rattle.std.specs.Char.{is_ascii_whitespace}
 use Rattle.script_words.specs.declared.words.Word.{Word}
@@ -21,6 +21,10 @@ word_end line from = word_start line from + spread false (drop (word_start line 
 
 abbrev pub word_of : List ℕ → ℕ → List ℕ
 word_of line from = take (word_end line from - word_start line from) (drop (word_start line from) line)
+
+-- whether no word is left
+abbrev pub is_over : List ℕ → ℕ → Bool
+is_over line from = eqb (word_start line from) (word_end line from)
 
 pub record Found (line : List ℕ) (from : ℕ) (r : Word) : Type 0 where
   pub start : r.start ≡ word_start line from

@@ -1,8 +1,9 @@
 // The words of a line, parted by white space.
 ghost use Rattle.std.specs.Prelude.{◌≡◌, ◌≤◌, length};
-ghost use Rattle.script_words.specs.Words.{spread, Found};
+ghost use Rattle.script_words.specs.Words.{spread, is_over, Found};
 
-// A part of a line from a place to another; a word that is not there is empty.
+// A part of a line from a place to another. It is two places and no slice, since a word that is not there, which is empty, still
+// has its place, from which the next is looked for.
 #[derive(Clone, Copy)]
 pub struct Word {
     pub start: usize,
@@ -30,7 +31,9 @@ pub fn word_at(line: &[u8], from: usize) -> Word
 }
 
 // Whether nothing but white space is left.
-pub fn is_over(line: &[u8], from: usize) -> bool {
+pub fn is_over(line: &[u8], from: usize) -> bool
+    ensures { result ≡ is_over line.now from }
+{
     let rest = word_at(line, from);
     rest.start == rest.end
 }
