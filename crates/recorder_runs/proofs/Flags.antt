@@ -1,8 +1,6 @@
 -- Flags, watches and runs: kept in the struct and read back, they are what they were.
 use mathlib.Core.Path.{◌≡◌, refl}
-use mathlib.Core.Bool.{Bool, true, false, ◌||◌}
-use Prim.Native.Nat.{ℕ, zero, suc, ◌≤◌}
-use native.Mathlib.Omega.{arith}
+use mathlib.Core.Bool.{Bool, true, false}
 use Rattle.document.specs.Run.{Watch, Run}
 use Rattle.document.specs.Run.Watch.{unprimed, previous, triggered}
 use Rattle.recorder_runs.specs.State.{is_set, flag_of, watch_of, watch_number, watch_value, run_of, run_kept}
@@ -10,15 +8,6 @@ use Rattle.recorder_runs.specs.State.{is_set, flag_of, watch_of, watch_number, w
 pub flag_read : (b : Bool) → is_set (flag_of b) ≡ b
 flag_read true = refl
 flag_read false = refl
-
-pub flag_kept : (flag : ℕ) → flag ≤ 1 → flag_of (is_set flag || false) ≡ flag
-flag_kept zero h = refl
-flag_kept (suc zero) h = refl
-flag_kept (suc (suc n)) h = let x : ⊥ = omega arith in absurd x
-
-pub flag_filled : (b : Bool) → flag_of (b || true) ≡ 1
-flag_filled true = refl
-flag_filled false = refl
 
 pub watch_read : (w : Watch) → watch_of (watch_number w) (watch_value w) ≡ w
 watch_read unprimed = refl

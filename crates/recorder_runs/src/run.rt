@@ -26,8 +26,8 @@ pub struct Run {
 }
 
 impl Run {
-    // Every field is set, so that nothing of the run before is left.
-    pub fn prepared(self) -> Run
+    // It reads nothing of a run before, so that nothing of one is left.
+    pub fn prepared() -> Run
         ensures { result ≡ run_kept prepared }
     {
         Run {
@@ -40,12 +40,12 @@ impl Run {
         }
     }
 
-    pub fn restarted(self) -> Run
+    pub fn started() -> Run
         ensures { result ≡ run_kept started }
     {
         Run {
             running: 1,
-            ..self.prepared()
+            ..Run::prepared()
         }
     }
 }

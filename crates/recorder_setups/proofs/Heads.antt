@@ -2,12 +2,14 @@
 use mathlib.Core.Path.{◌≡◌, sym, ap, ◌∙◌}
 use mathlib.Core.Bool.{Bool, cond, not}
 use mathlib.Core.List.{List}
-use Prim.Native.Nat.{ℕ, ◌<◌}
+use Prim.Native.Nat.{ℕ, ◌<◌, ◌≤◌, min}
 use native.Mathlib.Omega.{arith}
-use lib.ListN.{take, drop}
-use lib.Seq.{take-take}
-use borrow.Author.Tests.{eq-eqb, ne_eqb}
+use lib.Dec.{leb}
+use lib.ListN.{take, drop, length-take}
+use lib.Seq.{take-take, take_all}
+use borrow.Author.Tests.{eq-eqb, ne_eqb, leb-true, leb-false}
 use Rattle.document.specs.Areas.{bytes_at}
+use Rattle.document.proofs.Cases.{split}
 use Rattle.document.specs.Values.{number}
 use Rattle.document.specs.Plan.{Trigger, Plan, mode_field, trigger_address_field, trigger_size_field, sign_field, threshold_field, no_trigger, trigger_in}
 use Rattle.variables_list.specs.declared.Variables.{Variables}
@@ -17,8 +19,15 @@ use Rattle.recorder_plans.specs.State.{plan_kept}
 -- ---- "only the first 'trigger size' bytes count"
 
 module _ (body : List ℕ) (at size : ℕ) where
-  pub threshold_short : size < 4 → number (bytes_at body at size) ≡ number (take size (bytes_at body at 4))
-  threshold_short h = ap number (sym (take-take size 4 (drop at body) (omega arith)))
+  pub threshold_short : number (bytes_at body at (min size 4)) ≡ number (take size (bytes_at body at 4))
+  threshold_short =
+      split (leb size 4)
+      (λ t. let few : size ≤ 4 = leb-true size 4 t in
+      let all : min size 4 ≡ size = omega (arith, few) in
+      rw all (ap number (sym (take-take size 4 (drop at body) few))))
+      (λ f. let many : 4 < size = leb-false size 4 f in
+      let all : min size 4 ≡ 4 = omega (arith, many) in
+      rw all (ap number (sym (take_all size (take 4 (drop at body)) (rw length-take (omega (arith, many)))))))
 
 -- ---- the trigger by the mode
 

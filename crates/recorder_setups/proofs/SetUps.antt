@@ -8,7 +8,7 @@ use native.Mathlib.Omega.{arith}
 use lib.Dec.{eqb, ltb}
 use lib.ListN.{length, get_or, take, drop, length-drop}
 use lib.Seq.{get_or-drop, take_all}
-use borrow.Author.Tests.{eqb-true, eqb-false, ltb-false, eq-eqb, ne_eqb, lt-ltb, le-leb, not-false}
+use borrow.Author.Tests.{eqb-true, eqb-false, ltb-false, lt-ltb, le-leb, not-false}
 use Rattle.document.specs.Numbers.{is_in, done}
 use Rattle.document.specs.Areas.{recorded_end, may_be_recorded}
 use Rattle.document.specs.declared.Variable.{Variable}
@@ -16,13 +16,12 @@ use Rattle.document.specs.Variables.{count_in, length_given, count_wrong, any_si
 use Rattle.document.specs.Plan.{Trigger, mode_field, samples_field, trigger_address_field, trigger_size_field, sign_field, head_width, variables_part, recorded_in, looks_at_trigger, trigger_in, plan_in, recorder_layout_wrong, recorder_size_wrong, recorder_range_wrong}
 use Rattle.variables_list.specs.State.{variables_of, kept}
 use Rattle.variables_list.proofs.Wrong.{count_right}
-use Rattle.variables_definitions.specs.Parts.{is_whole}
 use Rattle.variables_surveys.specs.Survey.{surveyed}
 use Rattle.variables_definitions.proofs.Read.{definitions_length_lem, kept_all}
 use Rattle.variables_definitions.proofs.First.{none_applies}
 use Rattle.recorder_plans.specs.State.{plan_of}
 use Rattle.recorder_plans.specs.Bounds.{size_sound, trigger_sound, plan_sound}
-use Rattle.recorder_setups.specs.Setup.{seen_size_wrong, body_status, plan_read}
+use Rattle.recorder_setups.specs.Setup.{seen_range_wrong, body_status, plan_read}
 use Rattle.document.proofs.Cases.{split, none_of}
 use Rattle.recorder_plans.proofs.Granted.{one_of_sizes}
 use Rattle.recorder_setups.proofs.Heads.{trigger_none, trigger_some}
@@ -39,15 +38,6 @@ pub count_at : (ex : Bool) (body : List ℕ) (head : ℕ) → head ≡ head_widt
 count_at ex body head e =
     ap (λ (n : ℕ). get_or body n 0) (e ∙ sym (add-zero (head_width ex))) ∙ sym (get_or-drop (head_width ex) body 0 0)
 
--- one of five that does not apply may be left out
-left_out : (a b c d e : Bool) → b ≡ false → a || c || d || e ≡ a || b || c || d || e
-left_out true b c d e h = refl
-left_out false b c d e h = rw h
-
-one_applies : (a b c d e : Bool) → b ≡ true → a || b || c || d || e ≡ true
-one_applies true b c d e h = refl
-one_applies false b c d e h = rw h
-
 module _ (ex : Bool) (body : List ℕ) where
   abbrev part : List ℕ
   part = variables_part ex body
@@ -59,15 +49,6 @@ module _ (ex : Bool) (body : List ℕ) where
   abbrev odd : Bool
   odd = looks_at_trigger body && not (is_in (trigger_size_field ex body) (1 ∷ 2 ∷ 4 ∷ []))
 
-  pub whole_same : head_width ex ≤ length body → is_whole ex part ≡ eqb (length body) (head_width ex + length_given ex part)
-  whole_same h =
-      let l : length part ≡ length body - head_width ex = length-drop (head_width ex) body in
-      split (eqb (length body) (head_width ex + length_given ex part))
-      (λ t. let e = eqb-true (length body) (head_width ex + length_given ex part) t in
-      eq-eqb (length part) (length_given ex part) (omega arith) ∙ sym t)
-      (λ f. let n = eqb-false (length body) (head_width ex + length_given ex part) f in
-      ne_eqb (length part) (length_given ex part) (λ e. n (omega arith)) ∙ sym f)
-
   -- a layout that is right has the length that its count gives
   pub layout_right : recorder_layout_wrong ex body ≡ false → length body ≡ head_width ex + length_given ex part
   layout_right e =
@@ -76,11 +57,9 @@ module _ (ex : Bool) (body : List ℕ) where
       eqb-true _ _
       (not-false given (none_of (not given) (ltb 2 (mode_field body)) (none_of (not given || ltb 2 (mode_field body)) sign e).0).0)
 
-  pub count_decides : count_wrong (count_in part) ≡ true → recorder_size_wrong ex body ≡ true
-  count_decides e = one_applies (any_size_zero (recorded_in ex body)) (count_wrong (count_in part)) (eqb (samples_field body) 0) overflows odd e
-
-  pub size_seen : count_wrong (count_in part) ≡ false → seen_size_wrong ex body (surveyed recorded_end (recorded_in ex body)) ≡ recorder_size_wrong ex body
-  size_seen e = left_out (any_size_zero (recorded_in ex body)) (count_wrong (count_in part)) (eqb (samples_field body) 0) overflows odd e
+  -- what a survey sees decides the ranges
+  pub range_seen : seen_range_wrong ex body (surveyed recorded_end (recorded_in ex body)) ≡ recorder_range_wrong ex body
+  range_seen = refl
 
 -- ---- a setup that nothing refuses
 

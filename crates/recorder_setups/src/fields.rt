@@ -19,10 +19,7 @@ fn threshold_at(body: &[u8], at: usize, size: usize) -> u32
     requires { at + 4 ≤ length body.now }
     ensures { (result ≡ number (take size (bytes_at body.now at 4))) × (size ≤ 4 → result < 2 ^ (8 * size)) }
 {
-    if size < 4 {
-        return number_at(body, at, size);
-    }
-    number_at(body, at, 4)
+    number_at(body, at, size.min(4))
 }
 
 // How many bytes stand before the count.

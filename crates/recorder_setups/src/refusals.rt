@@ -77,6 +77,7 @@ fn is_range_wrong(ex: bool, body: &[u8], seen: Surveyed) -> bool
 }
 
 // Any data part will do.
+#[tactic(auto, using(crate::proofs::SetUps::tail_part, crate::proofs::SetUps::count_at, crate::proofs::SetUps::range_seen))]
 pub fn setup_status(ex: bool, body: &[u8]) -> Result<(), Status>
     ensures { outcome_number result ≡ body_status ex body.now }
 {

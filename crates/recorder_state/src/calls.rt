@@ -7,6 +7,7 @@ ghost use Rattle.recorder_state.specs.Calls.{StartSettled, StopSettled, status_s
 
 use crate::state::Recorder;
 use codes_table::Status;
+use recorder_runs::Run;
 
 impl Recorder {
     // What every call but a setup asks first.
@@ -27,7 +28,7 @@ impl Recorder {
         if self.run.running == 1 {
             return Err(Status::RecorderRuns);
         }
-        self.run = self.run.restarted();
+        self.run = Run::started();
         Ok(())
     }
 

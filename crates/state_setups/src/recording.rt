@@ -12,8 +12,9 @@ ghost use Rattle.state_block.specs.Places.{body_place, scope_place, recorder_pla
 
 use crate::parts::store_variables;
 use recorder_plans::Plan;
+use recorder_runs::Run;
 use recorder_setups::{head_width, read_plan};
-use state_block::{BODY, READY, RECORDED, put_numbers, put_run, run_in};
+use state_block::{BODY, READY, RECORDED, put_numbers, put_run};
 
 // The plan without its variables, from now on the one that is set up.
 pub fn store_numbers(block: &mut [u8], plan: Plan)
@@ -28,9 +29,7 @@ pub fn prepare_run(block: &mut [u8])
     requires { state_length ≤ length block.old }
     ensures { block.new ≡ sets block.old run_place (encoded_run (run_kept prepared)) }
 {
-    let former = run_in(block);
-    let run = former.prepared();
-    put_run(block, run);
+    put_run(block, Run::prepared());
 }
 
 // The message's data stand in the block, up to a place.

@@ -2,9 +2,8 @@
 use mathlib.Core.Path.{◌≡◌, refl, ap}
 use mathlib.Core.Bool.{Bool, true}
 use mathlib.Core.List.{List, ◌∷◌}
-use Prim.Native.Nat.{ℕ, zero, suc, ◌+◌, ◌-◌, ◌*◌, ◌<◌, ◌≤◌}
-use native.Mathlib.Nat.{suc-mul, mul-le-mul_right, add-zero}
-use native.Mathlib.Numerals.{add-one}
+use Prim.Native.Nat.{ℕ, zero, suc, ◌+◌, ◌*◌, ◌≤◌}
+use native.Mathlib.Nat.{add-zero}
 use native.Mathlib.Omega.{arith}
 use lib.ListN.{length, get_or, drop}
 use lib.Seq.{drop-drop, get_or-drop, sets-eq, take-append_seam}
@@ -17,27 +16,22 @@ use Rattle.std.proofs.Common.{Some}
 use Rattle.variables_list.specs.State.{variables_of, no_variables, kept}
 use Rattle.variables_definitions.specs.Parts.{is_there, definition_at, place_behind}
 
-module _ (part : List ℕ) (ex : Bool) (at k count : ℕ) (h : k < count) (place : at ≡ 1 + k * definition_width ex) (whole : 1 + count * definition_width ex ≤ length part) where
-  next_place : at + definition_width ex ≡ 1 + (k + 1) * definition_width ex
-  next_place = rw (add-one k, suc-mul k (definition_width ex)) (omega arith)
-
+module _ (part : List ℕ) (ex : Bool) (at more : ℕ) (room : at + suc more * definition_width ex ≤ length part) where
   there : is_there ex part at ≡ true
-  there = le-leb (at + definition_width ex) (length part) (omega (arith, next_place, mul-le-mul_right (definition_width ex) h))
-
-  -- a definition is found, and behind it is the place of the next one
-  pub place_next : place_behind ex part at ≡ 1 + (k + 1) * definition_width ex
-  place_next = rw there next_place
+  there = le-leb (at + definition_width ex) (length part) (omega (arith, room))
 
   -- a definition is there
   pub found_there : definition_at ex part at ≡ Some (definition_in ex (drop at part))
   found_there = rw there
 
+  -- the place of the next one is behind it
+  pub place_next : place_behind ex part at ≡ at + definition_width ex
+  place_next = rw there
+
   -- it is the first of those that are left
-  pub found_next : definitions_in ex (count - k) (drop at part)
-      ≡ definition_in ex (drop at part) ∷ definitions_in ex (count - (k + 1)) (drop (place_behind ex part at) part)
-  found_next =
-      let m : count - k ≡ suc (count - (k + 1)) = omega arith in
-      rw (there, m, drop-drop (definition_width ex) at part)
+  pub found_next : definitions_in ex (suc more) (drop at part)
+      ≡ definition_in ex (drop at part) ∷ definitions_in ex more (drop (place_behind ex part at) part)
+  found_next = rw (there, drop-drop (definition_width ex) at part)
 
 -- what the code makes of the bytes at a place is the definition there
 pub found_at : (part : List ℕ) (ex : Bool) (at width address : ℕ) → width ≡ address_width ex → is_there ex part at ≡ true

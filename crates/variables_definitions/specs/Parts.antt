@@ -15,8 +15,9 @@ definition_at ex part at = cond (is_there ex part at) (Some (definition_in ex (d
 abbrev pub place_behind : Bool → List ℕ → ℕ → ℕ
 place_behind ex part at = cond (is_there ex part at) (at + definition_width ex) at
 
-abbrev pub moved_behind : Bool → Reader → Reader
-moved_behind ex reader = record { part = reader.part; at = place_behind ex reader.part.now reader.at }
+abbrev pub moved_behind : Reader → Reader
+moved_behind reader =
+    record { part = reader.part; at = place_behind reader.ex reader.part.now reader.at; ex = reader.ex }
 
 -- "a data length that is not the one its fields give" is this one's negation
 abbrev pub is_whole : Bool → List ℕ → Bool

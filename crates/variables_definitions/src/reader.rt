@@ -1,5 +1,6 @@
 // The small reader: a data part, and the place where the next definition begins.
-ghost use Rattle.std.specs.Prelude.{◌≡◌, ◌≤◌};
+ghost use Rattle.std.specs.Prelude.{◌≡◌, ◌-◌, ◌≤◌, length};
+ghost use Rattle.std.specs.Iterator.{at_most};
 ghost use Rattle.document.specs.Variables.{address_width};
 ghost use Rattle.variables_definitions.specs.Parts.{is_there, definition_at, place_behind, moved_behind};
 
@@ -41,19 +42,25 @@ fn place_behind(part: &[u8], at: usize, ex: bool) -> usize
     at + 1 + address_width(ex)
 }
 
-#[derive(Clone, Copy)]
+// The definitions of a data part from a place on, each as a variable. It counts none of them: who wants so many of them takes so many.
+#[derive(Clone, Drop)]
 pub struct Reader<'a> {
     pub part: &'a [u8],
     pub at: usize,
+    pub ex: bool,
 }
 
-impl<'a> Reader<'a> {
+impl<'a> Iterator for Reader<'a> {
+    type Item = Variable;
+
     // Each definition begins where the one before it ended: the reader moves behind the one that it gives.
-    pub fn next(&mut self, ex: bool) -> Option<Variable>
-        ensures { (result ≡ definition_at ex self.old.part.now self.old.at) × (self.new ≡ moved_behind ex self.old) }
-    {
-        let found = definition_at(self.part, self.at, ex);
-        self.at = place_behind(self.part, self.at, ex);
+    ghost next_gives = { λ before found after. (found ≡ definition_at before.ex before.part.now before.at) × (after ≡ moved_behind before) };
+
+    ghost remaining = { λ reader. at_most (length reader.part.now - reader.at) };
+
+    fn next(&mut self) -> Option<Variable> {
+        let found = definition_at(self.part, self.at, self.ex);
+        self.at = place_behind(self.part, self.at, self.ex);
         found
     }
 }

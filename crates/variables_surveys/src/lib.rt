@@ -22,10 +22,7 @@ pub struct Surveyed {
 pub fn is_whole(part: &[u8], ex: bool) -> bool
     ensures { result ≡ is_whole ex part.now }
 {
-    if part.len() == 0 {
-        return false;
-    }
-    part.len() == 1 + usize::from(part[0]) * (1 + address_width(ex))
+    !part.is_empty() && part.len() == 1 + usize::from(part[0]) * (1 + address_width(ex))
 }
 
 // With one definition more. Seven before it add up to no more than 1,785 bytes.
@@ -46,14 +43,13 @@ fn survey_all(part: &[u8], count: usize, ex: bool, limit: usize) -> Surveyed
     requires { (count ≤ 8) × (1 + count * definition_width ex ≤ length part.now) }
     ensures { (result ≡ surveyed limit (definitions_in ex count (drop 1 part.now))) × (result.size ≤ 2040) }
 {
-    let mut reader = Reader { part, at: 1 };
+    let reader = Reader { part, at: 1, ex };
     let mut seen = Surveyed {
         zero: false,
         within: true,
         size: 0,
     };
-    for _ in 0..count {
-        let found = reader.next(ex).unwrap();
+    for found in reader.take(count) {
         seen = looked_at(seen, found, limit);
     }
     seen
