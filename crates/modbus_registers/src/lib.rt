@@ -10,12 +10,10 @@ pub fn copy_swapped(to: &mut [u8], at: usize, from: &[u8])
     requires { at + length from.now ≤ length to.old }
     ensures { to.new ≡ stored to.old at (turned from.now) }
 {
-    // By places, since a `for` over the registers takes a frame of 123 some 360 instructions more.
-    let mut i = 0;
-    while i + 1 < from.len() {
+    for register in 0..from.len() / 2 {
+        let i = 2 * register;
         let k = at + i;
         to[k] = from[i + 1];
         to[k + 1] = from[i];
-        i += 2;
     }
 }

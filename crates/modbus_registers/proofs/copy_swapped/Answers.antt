@@ -1,23 +1,24 @@
 -- What is left to store gives the whole: one register a turn.
-use mathlib.Core.Path.{refl, ◌∙◌}
+use mathlib.Core.Path.{◌≡◌, refl, ◌∙◌}
+use Prim.Native.Nat.{◌+◌, ◌*◌}
 use native.Mathlib.Nat.{add-zero}
 use native.Mathlib.Omega.{arith}
 use lib.ListN.{length-set}
-use borrow.Author.Rules.{rules}
 use Rattle.modbus_registers.proofs.Turns.{stored_turn, turned_ended}
 use Rattle.modbus_registers.proofs.copy_swapped.Goals as goal
 
-pub loop-i-init : goal.loop-i-init
-loop-i-init c = (search rules, refl, rw add-zero)
+pub loop-register-init : goal.loop-register-init
+loop-register-init c = (refl, rw add-zero)
 
-pub bounds-to-k-in-loop-i : goal.bounds-to-k-in-loop-i
-bounds-to-k-in-loop-i c = simp length-set (omega arith)
+pub bounds-to-k-in-loop-register : goal.bounds-to-k-in-loop-register
+bounds-to-k-in-loop-register c = simp length-set (omega arith)
 
-pub loop-i-preserved : goal.loop-i-preserved
-loop-i-preserved c =
-    let l = c.loop-i in
+pub loop-register-preserved : goal.loop-register-preserved
+loop-register-preserved c =
+    let l = c.loop-register in
     let a = c.args in
-    (omega arith, simp length-set l.invariant.1, stored_turn l.to a.from.now a.at l.i (omega arith) ∙ l.invariant.2)
+    let next : 2 * (l.register + 1) ≡ 2 * l.register + 2 = omega arith in
+    (simp length-set l.invariant.0, rw next (stored_turn l.to a.from.now a.at (2 * l.register) (omega arith) ∙ l.invariant.1))
 
 pub returns : goal.returns
-returns c = rw (turned_ended _ _ c.loop-i-test.false) at c.loop-i.invariant.2
+returns c = rw (turned_ended c.args.from.now (2 * c.loop-register.register) (omega arith)) at c.loop-register.invariant.1
