@@ -12,7 +12,7 @@ echo "rt: chose --jobs 2 for document"
 echo "statements std: modules loaded=21 checked=0"
 echo "crate document: modules loaded=0 checked=48"
 echo "logic=proved functions=0"
-echo "crate bytes_widths: modules loaded=61 checked=0"
+echo "crate bytes_fields: modules loaded=61 checked=0"
 [ ! -e ../../wrong ] || { echo "logic=not-proved"; exit 1; }
 echo "logic=proved functions=3"
 mkdir -p out
@@ -22,7 +22,7 @@ chmod +x $house/bin/rt
 
 (cd $house && PATH=$PWD/bin:$PATH ./run library) >$built/said 2>$built/complained || fail "./run with a prover that proves"
 crates=$(grep -c '^run: crate ' $built/complained || true)
-[ "$crates" -eq 2 ] && grep -q '^run: crate 2 of at most [0-9]* is proved: bytes_widths$' $built/complained || fail "./run says how far the proofs are"
+[ "$crates" -eq 2 ] && grep -q '^run: crate 2 of at most [0-9]* is proved: bytes_fields$' $built/complained || fail "./run says how far the proofs are"
 grep -q 'crates: some [0-9]* minutes' $built/complained || fail "./run says how long the proofs take"
 if grep -qv '^run: ' $built/complained; then fail "./run lets the prover speak"; fi
 [ -r $house/target/staticlib/liblog_gate.a ] || fail "./run puts the archive where its users look for it"
