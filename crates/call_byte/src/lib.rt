@@ -25,7 +25,7 @@ pub struct Taken {
 }
 
 // A byte that nothing refuses: how many bytes of the lent buffer are its answer. A block has a function of its own for the same: one for
-// both would be called, and take a byte some twenty instructions more.
+// both would be called, and take a byte some twenty to thirty instructions more.
 fn take(state: &mut [u8], byte: u8, memory: &mut [u8], answer: &mut [u8]) -> usize
     requires { (state_length ≤ length state.old) × Within (decoded state.old) memory.old × (answer_room ≤ length answer.old) }
     ensures { Turned (turn (decoded state.old) byte memory.old answer.old) state.old result state.new memory.new answer.new }
