@@ -1,5 +1,5 @@
 // The columns of the table of commands. A row takes one number from each, and each has its own bits, so that | puts them together: a
-// row is 2 bytes of read-only memory, where a struct of five fields would take 5 and be built at each look.
+// row is 2 bytes of read-only memory, where a struct of five fields would take 5.
 
 // ---- the operation, lowest, so that its number stands as it is; there is room for 64
 pub const DESCRIBE: u16 = 0;

@@ -1,4 +1,4 @@
-// The numbers with which a call refuses, named as the definitions name them.
+// Why a call refuses, with the numbers that the document gives.
 ghost use Rattle.std.specs.Prelude.{◌≡◌};
 ghost use Rattle.codes_table.specs.Calls.{refusal_number, taken_number};
 

@@ -5,7 +5,7 @@ ghost use Rattle.codes_table.specs.Statuses.{status_number, outcome_number};
 // The status where nothing else is to be said: it stands for an `Ok`.
 pub const DONE: u8 = 0x00;
 
-// Why a command changes nothing: each status but that for done.
+// What is told in place of done: why a command changes nothing, and, where it is asked, whether the recorder runs.
 #[derive(Clone, Copy, PartialEq, Eq)]
 pub enum Status {
     RecorderRuns = 0x01,

@@ -22,7 +22,7 @@ static BASE_TYPES: [(u8, u8); 14] = [
     (0xFB, 8),
 ];
 
-// The size of the base type with this code, or 0 for any other code.
+// The size of the base type with this code, or 0 for any other code, as the definition has it.
 pub fn size_of(code: u8) -> u8
     ensures { result ≡ size_of_code code }
 {

@@ -1,4 +1,4 @@
-// The small reader: a data part, and the place where the next definition begins.
+// The small reader: a data part, the place where the next definition begins, and how wide its addresses are.
 ghost use Rattle.std.specs.Prelude.{◌≡◌, ◌-◌, ◌≤◌, length};
 ghost use Rattle.std.specs.Iterator.{at_most};
 ghost use Rattle.document.specs.Variables.{address_width};
