@@ -1,2 +1,3 @@
 -- What an order leaves as it is.
 pub mod Untouched
+pub mod Given

@@ -65,7 +65,7 @@ fn put_read<W: Write>(
     out.put(b'\n')
 }
 
-#[derive(Drop)]
+#[derive(Clone, Copy)]
 pub struct Reader {
     block: [u8; LOG_GATE_READER],
     // how many bytes it was given

@@ -21,7 +21,7 @@ use script_adler::adler32;
 use script_lines::output::Output;
 use std::io::{self, Write};
 
-#[derive(Drop)]
+#[derive(Clone, Copy)]
 pub struct Gate {
     pub state: [u8; LOG_GATE_STATE],
     pub memory: [u8; LOG_GATE_MEMORY],

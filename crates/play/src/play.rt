@@ -8,7 +8,7 @@ use crate::order::Order;
 use script_lines::output::Output;
 use std::io::{self, Write};
 
-#[derive(Drop)]
+#[derive(Clone, Copy)]
 pub struct Play {
     pub gate: Gate,
     pub reader: Reader,

@@ -1,4 +1,7 @@
 // A line read as an order: all of it is found right before anything of it is carried out.
+ghost use Rattle.std.specs.Prelude.{◌≤◌, length, IfOk, IfSome};
+ghost use Rattle.play.specs.Given.{given, given_to_gate};
+
 use crate::complaint::Complaint;
 use crate::lengths::{BYTES, FRAME, SETUP, WIDEST};
 use crate::operands::Operands;
@@ -7,10 +10,9 @@ use crate::room::{Part, Room};
 use script_words::words::word_at;
 
 // `P addr hh ..`
-fn poke<'a>(
-    mut operands: Operands,
-    bytes: &'a mut [u8; BYTES],
-) -> Result<GateOrder<'a>, Complaint> {
+fn poke<'a>(mut operands: Operands, bytes: &'a mut [u8; BYTES]) -> Result<GateOrder<'a>, Complaint>
+    ensures { IfOk result (λ order. given_to_gate order ≤ 524288) }
+{
     let start = operands.number()?;
     let bytes = operands.bytes(bytes)?;
     let part = Part::new(start, bytes.len() as u64)?;
@@ -47,7 +49,9 @@ fn only_byte(mut operands: Operands) -> Result<u8, Complaint> {
 }
 
 // `F hh ..`
-fn setup<'a>(operands: Operands, bytes: &'a mut [u8; BYTES]) -> Result<&'a [u8], Complaint> {
+fn setup<'a>(operands: Operands, bytes: &'a mut [u8; BYTES]) -> Result<&'a [u8], Complaint>
+    ensures { IfOk result (λ setup. length setup.now ≤ 255) }
+{
     let setup = operands.bytes(bytes)?;
     if setup.len() > SETUP {
         return Err(Complaint::SetupLength);
@@ -56,10 +60,9 @@ fn setup<'a>(operands: Operands, bytes: &'a mut [u8; BYTES]) -> Result<&'a [u8],
 }
 
 // A station, a room, and a frame: `U station room hh ..`
-fn frame<'a>(
-    mut operands: Operands,
-    bytes: &'a mut [u8; BYTES],
-) -> Result<GateOrder<'a>, Complaint> {
+fn frame<'a>(mut operands: Operands, bytes: &'a mut [u8; BYTES]) -> Result<GateOrder<'a>, Complaint>
+    ensures { IfOk result (λ order. given_to_gate order ≤ 524288) }
+{
     let station = operands.wide()?;
     let room = operands.room(Complaint::Room)?;
     let frame = operands.bytes(bytes)?;
@@ -77,7 +80,9 @@ fn gate_order<'a>(
     letter: u8,
     mut operands: Operands,
     bytes: &'a mut [u8; BYTES],
-) -> Result<GateOrder<'a>, Complaint> {
+) -> Result<GateOrder<'a>, Complaint>
+    ensures { IfOk result (λ order. given_to_gate order ≤ 524288) }
+{
     match letter {
         b'B' => Ok(GateOrder::Give {
             bytes: operands.bytes(bytes)?,
@@ -118,7 +123,9 @@ fn order_of<'a>(
     letter: u8,
     mut operands: Operands,
     bytes: &'a mut [u8; BYTES],
-) -> Result<Order<'a>, Complaint> {
+) -> Result<Order<'a>, Complaint>
+    ensures { IfOk result (λ order. given order ≤ 524288) }
+{
     match letter {
         b'W' => Ok(Order::Cable(CableOrder::WriteCommand {
             command: operands.byte()?,
@@ -146,7 +153,9 @@ fn order_of<'a>(
 pub fn read_order<'a>(
     line: &[u8],
     bytes: &'a mut [u8; BYTES],
-) -> Result<Option<Order<'a>>, Complaint> {
+) -> Result<Option<Order<'a>>, Complaint>
+    ensures { IfOk result (λ read. IfSome read (λ order. given order ≤ 524288)) }
+{
     let first = word_at(line, 0);
     match &line[first.start..first.end] {
         [] => Ok(None),

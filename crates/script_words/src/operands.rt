@@ -39,10 +39,12 @@ pub fn read_bytes(line: &[u8], from: usize, out: &mut [u8]) -> Option<usize>
 {
     let mut next = from;
     for (count, place) in out.iter_mut().enumerate() {
-        if is_over(line, next) {
+        let word = word_at(line, next);
+        if word.start == word.end {
             return Some(count);
         }
-        (*place, next) = read_byte(line, next)?;
+        *place = hex(&line[word.start..word.end])?;
+        next = word.end;
     }
     if is_over(line, next) {
         Some(out.len())

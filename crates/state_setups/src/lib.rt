@@ -5,6 +5,6 @@ mod parts;
 mod recording;
 mod scoping;
 
-pub use parts::store_variables;
+pub use parts::{complete_definitions, store_variables};
 pub use recording::{prepare_run, store_numbers, store_prepared};
 pub use scoping::store_scope;

@@ -26,7 +26,7 @@ fn store_definitions(block: &mut [u8], at: usize, part: &[u8], n: usize, ex: boo
 }
 
 // The count in front of the definitions, and zeros behind them.
-fn complete_definitions(block: &mut [u8], at: usize, count: u8)
+pub fn complete_definitions(block: &mut [u8], at: usize, count: u8)
     requires { (count ≤ 8) × (at + variables_length ≤ length block.old) }
     ensures { block.new ≡ sets (set block.old at count) (at + 1 + count * definition_width true) (replicate ((8 - count) * definition_width true) 0) }
 {

@@ -43,7 +43,7 @@ fn place_behind(part: &[u8], at: usize, ex: bool) -> usize
 }
 
 // The definitions of a data part from a place on, each as a variable. It counts none of them: who wants so many of them takes so many.
-#[derive(Clone, Drop)]
+#[derive(Clone, Copy)]
 pub struct Reader<'a> {
     pub part: &'a [u8],
     pub at: usize,
