@@ -70,9 +70,9 @@ impl Gate {
     {
         let mut answer = [0u8; LOG_GATE_ANSWER_ROOM];
         let taken = log_gate_byte(&mut self.state, byte, &mut self.memory, &mut answer);
-        put_answer(self.given, &answer, taken.length, out)?;
+        let index = self.given;
         self.given = self.given.wrapping_add(1);
-        Ok(())
+        put_answer(index, &answer, taken.length, out)
     }
 
     // The bytes one by one, with every answer printed as it comes.
