@@ -1,3 +1,2 @@
 -- What an order leaves as it is.
 pub mod Untouched
-pub mod Given

@@ -134,10 +134,12 @@ impl Reader {
                 command,
                 room,
                 body,
-            } => write_command(command, body, room, out),
-            CableOrder::WriteAnswer { status, room, body } => write_answer(status, body, room, out),
+            } => write_command(command, body.slice, room, out),
+            CableOrder::WriteAnswer { status, room, body } => write_answer(
+                status, body.slice, room, out,
+            ),
             CableOrder::Expect { data } => self.begin(data, out),
-            CableOrder::Read { room, bytes } => self.read(bytes, room, out),
+            CableOrder::Read { room, bytes } => self.read(bytes.slice, room, out),
         }
     }
 }

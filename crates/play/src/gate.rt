@@ -70,6 +70,7 @@ impl Gate {
     {
         let mut answer = [0u8; LOG_GATE_ANSWER_ROOM];
         let taken = log_gate_byte(&mut self.state, byte, &mut self.memory, &mut answer);
+        // counted first, so that what printing answers goes on as it is: a result made anew for each byte takes a long line a quarter longer
         let index = self.given;
         self.given = self.given.wrapping_add(1);
         put_answer(index, &answer, taken.length, out)
@@ -131,21 +132,21 @@ impl Gate {
     {
         self.concerned = true;
         match order {
-            GateOrder::Give { bytes } => self.give(bytes, out)?,
-            GateOrder::GiveBlock { room, block } => self.give_block(block, room, out)?,
+            GateOrder::Give { bytes } => self.give(bytes.slice, out)?,
+            GateOrder::GiveBlock { room, block } => self.give_block(block.slice, room, out)?,
             GateOrder::Tick { times } => self.tick(times),
-            GateOrder::Poke { part, bytes } => self.poke(part, bytes),
+            GateOrder::Poke { part, bytes } => self.poke(part, bytes.slice),
             GateOrder::Look { part } => self.put_part(part, out)?,
             GateOrder::Collect { room } => self.collect(room, out)?,
             GateOrder::Report { res } => self.report(res, out)?,
-            GateOrder::Register { list } => self.register(list, out)?,
-            GateOrder::Prepare { setup } => self.prepare(setup, out)?,
+            GateOrder::Register { list } => self.register(list.slice, out)?,
+            GateOrder::Prepare { setup } => self.prepare(setup.slice, out)?,
             GateOrder::Start => self.start(out)?,
             GateOrder::Frame {
                 station,
                 room,
                 frame,
-            } => self.frame(station, room, frame, out)?,
+            } => self.frame(station, room, frame.slice, out)?,
         }
         Ok(())
     }

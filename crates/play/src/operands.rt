@@ -5,7 +5,7 @@ ghost use Rattle.script_words.specs.Operands.{byte_at, number_at};
 
 use crate::complaint::Complaint;
 use crate::lengths::{BYTES, NUMBERS};
-use crate::room::Room;
+use crate::room::{LineBytes, Room};
 use script_words::operands::{read_byte, read_bytes, read_number};
 use script_words::words::is_over;
 
@@ -61,18 +61,20 @@ impl Operands<'_> {
     }
 
     // All that follows, as bytes.
-    pub fn bytes<'b>(&self, room: &'b mut [u8; BYTES]) -> Result<&'b [u8], Complaint>
-        ensures { IfOk result (λ bytes. length bytes.now ≤ 524288) }
+    pub fn bytes<'b>(&self, room: &'b mut [u8; BYTES]) -> Result<LineBytes<'b>, Complaint>
+        ensures { IfOk result (λ bytes. length bytes.slice.now ≤ 524288) }
     {
         let count = read_bytes(self.line, self.next, room).ok_or(Complaint::Byte)?;
-        Ok(&room[..count])
+        Ok(LineBytes {
+            slice: &room[..count],
+        })
     }
 
     // All that follows, as the list of tables that the gate takes: address and size of each, in 2 bytes, the lowest first. The
     // numbers are counted and not the pairs, so that each turn reads one.
-    pub fn tables<'b>(&mut self, room: &'b mut [u8; BYTES]) -> Result<&'b [u8], Complaint>
-        ensures few { IfOk result (λ list. length list.now ≤ 160) }
-        ensures pairs { IfOk result (λ list. length list.now % 4 ≡ 0) }
+    pub fn tables<'b>(&mut self, room: &'b mut [u8; BYTES]) -> Result<LineBytes<'b>, Complaint>
+        ensures few { IfOk result (λ list. length list.slice.now ≤ 160) }
+        ensures pairs { IfOk result (λ list. length list.slice.now % 4 ≡ 0) }
     {
         let mut count = 0;
         for place in 0..NUMBERS {
@@ -90,6 +92,8 @@ impl Operands<'_> {
         if count % 2 != 0 {
             return Err(Complaint::Number);
         }
-        Ok(&room[..2 * count])
+        Ok(LineBytes {
+            slice: &room[..2 * count],
+        })
     }
 }

@@ -1,6 +1,6 @@
 // What a line orders, with all that it says of it.
 use crate::lengths::{BLOCK_LENT, LENT, WIDEST};
-use crate::room::{Part, Room};
+use crate::room::{LineBytes, Part, Room};
 
 #[derive(Clone, Copy)]
 pub enum Order<'a> {
@@ -12,18 +12,18 @@ pub enum Order<'a> {
 #[derive(Clone, Copy)]
 pub enum GateOrder<'a> {
     Give {
-        bytes: &'a [u8],
+        bytes: LineBytes<'a>,
     },
     GiveBlock {
         room: Room<BLOCK_LENT>,
-        block: &'a [u8],
+        block: LineBytes<'a>,
     },
     Tick {
         times: u64,
     },
     Poke {
         part: Part,
-        bytes: &'a [u8],
+        bytes: LineBytes<'a>,
     },
     Look {
         part: Part,
@@ -35,16 +35,16 @@ pub enum GateOrder<'a> {
         res: u8,
     },
     Register {
-        list: &'a [u8],
+        list: LineBytes<'a>,
     },
     Prepare {
-        setup: &'a [u8],
+        setup: LineBytes<'a>,
     },
     Start,
     Frame {
         station: u16,
         room: Room<LENT>,
-        frame: &'a [u8],
+        frame: LineBytes<'a>,
     },
 }
 
@@ -54,18 +54,18 @@ pub enum CableOrder<'a> {
     WriteCommand {
         command: u8,
         room: Room<LENT>,
-        body: &'a [u8],
+        body: LineBytes<'a>,
     },
     WriteAnswer {
         status: u8,
         room: Room<LENT>,
-        body: &'a [u8],
+        body: LineBytes<'a>,
     },
     Expect {
         data: u64,
     },
     Read {
         room: Room<LENT>,
-        bytes: &'a [u8],
+        bytes: LineBytes<'a>,
     },
 }

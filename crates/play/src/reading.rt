@@ -1,21 +1,21 @@
 // A line read as an order: all of it is found right before anything of it is carried out.
-ghost use Rattle.std.specs.Prelude.{◌≤◌, length, IfOk, IfSome};
-ghost use Rattle.play.specs.Given.{given, given_to_gate};
+ghost use Rattle.std.specs.Prelude.{◌≤◌, length, IfOk};
 
 use crate::complaint::Complaint;
 use crate::lengths::{BYTES, FRAME, SETUP, WIDEST};
 use crate::operands::Operands;
 use crate::order::{CableOrder, GateOrder, Order};
-use crate::room::{Part, Room};
+use crate::room::{LineBytes, Part, Room};
 use script_words::words::word_at;
 
 // `P addr hh ..`
-fn poke<'a>(mut operands: Operands, bytes: &'a mut [u8; BYTES]) -> Result<GateOrder<'a>, Complaint>
-    ensures { IfOk result (λ order. given_to_gate order ≤ 524288) }
-{
+fn poke<'a>(
+    mut operands: Operands,
+    bytes: &'a mut [u8; BYTES],
+) -> Result<GateOrder<'a>, Complaint> {
     let start = operands.number()?;
     let bytes = operands.bytes(bytes)?;
-    let part = Part::new(start, bytes.len() as u64)?;
+    let part = Part::new(start, bytes.slice.len() as u64)?;
     Ok(GateOrder::Poke { part, bytes })
 }
 
@@ -49,24 +49,25 @@ fn only_byte(mut operands: Operands) -> Result<u8, Complaint> {
 }
 
 // `F hh ..`
-fn setup<'a>(operands: Operands, bytes: &'a mut [u8; BYTES]) -> Result<&'a [u8], Complaint>
-    ensures { IfOk result (λ setup. length setup.now ≤ 255) }
+fn setup<'a>(operands: Operands, bytes: &'a mut [u8; BYTES]) -> Result<LineBytes<'a>, Complaint>
+    ensures { IfOk result (λ setup. length setup.slice.now ≤ 255) }
 {
     let setup = operands.bytes(bytes)?;
-    if setup.len() > SETUP {
+    if setup.slice.len() > SETUP {
         return Err(Complaint::SetupLength);
     }
     Ok(setup)
 }
 
 // A station, a room, and a frame: `U station room hh ..`
-fn frame<'a>(mut operands: Operands, bytes: &'a mut [u8; BYTES]) -> Result<GateOrder<'a>, Complaint>
-    ensures { IfOk result (λ order. given_to_gate order ≤ 524288) }
-{
+fn frame<'a>(
+    mut operands: Operands,
+    bytes: &'a mut [u8; BYTES],
+) -> Result<GateOrder<'a>, Complaint> {
     let station = operands.wide()?;
     let room = operands.room(Complaint::Room)?;
     let frame = operands.bytes(bytes)?;
-    if frame.len() > FRAME {
+    if frame.slice.len() > FRAME {
         return Err(Complaint::FrameLength);
     }
     Ok(GateOrder::Frame {
@@ -80,9 +81,7 @@ fn gate_order<'a>(
     letter: u8,
     mut operands: Operands,
     bytes: &'a mut [u8; BYTES],
-) -> Result<GateOrder<'a>, Complaint>
-    ensures { IfOk result (λ order. given_to_gate order ≤ 524288) }
-{
+) -> Result<GateOrder<'a>, Complaint> {
     match letter {
         b'B' => Ok(GateOrder::Give {
             bytes: operands.bytes(bytes)?,
@@ -123,9 +122,7 @@ fn order_of<'a>(
     letter: u8,
     mut operands: Operands,
     bytes: &'a mut [u8; BYTES],
-) -> Result<Order<'a>, Complaint>
-    ensures { IfOk result (λ order. given order ≤ 524288) }
-{
+) -> Result<Order<'a>, Complaint> {
     match letter {
         b'W' => Ok(Order::Cable(CableOrder::WriteCommand {
             command: operands.byte()?,
@@ -153,9 +150,7 @@ fn order_of<'a>(
 pub fn read_order<'a>(
     line: &[u8],
     bytes: &'a mut [u8; BYTES],
-) -> Result<Option<Order<'a>>, Complaint>
-    ensures { IfOk result (λ read. IfSome read (λ order. given order ≤ 524288)) }
-{
+) -> Result<Option<Order<'a>>, Complaint> {
     let first = word_at(line, 0);
     match &line[first.start..first.end] {
         [] => Ok(None),

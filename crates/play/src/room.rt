@@ -1,5 +1,5 @@
-// What an order may name: so much of a buffer to be lent, and a part of the memory.
-ghost use Rattle.std.specs.Prelude.{◌≡◌, ◌+◌, ◌<◌, ◌≤◌, List, ℕ, replicate, MatchResult};
+// What an order may name: bytes of its line, so much of a buffer to be lent, and a part of the memory.
+ghost use Rattle.std.specs.Prelude.{length, ◌≡◌, ◌+◌, ◌<◌, ◌≤◌, List, ℕ, replicate, MatchResult};
 ghost use Rattle.std.specs.Fn.{FnOnceReturnsAtMut};
 
 use crate::complaint::Complaint;
@@ -7,6 +7,13 @@ use log_gate::LOG_GATE_MEMORY;
 
 // Every lent buffer is filled so before a call, so that what a call leaves can be seen.
 const FILLING: u8 = 0xEE;
+
+// Bytes that a line gives: at most as many as the room has that they are read into.
+#[derive(Clone, Copy)]
+pub struct LineBytes<'a> {
+    pub slice: &'a [u8],
+    ghost within: { length slice.now ≤ 524288 },
+}
 
 // So much of a buffer of `MOST` bytes.
 #[derive(Clone, Copy)]

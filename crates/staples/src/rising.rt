@@ -14,19 +14,18 @@ const KEPT: usize = 12291;
 const STATUS: [u8; 3] = [0x2B, 0xC3, 0x3D];
 
 // The setup, the value from below to above with a tick at each, and the question for the status.
-fn run(setup: &[u8]) -> Target {
-    let mut target = Target::new();
+fn run(setup: &[u8], target: &mut Target) {
     target.memory[HIGH] = 0x60;
     target.give(setup);
     target.tick();
     target.memory[HIGH] = 0x80;
     target.tick();
     target.give(&STATUS);
-    target
 }
 
 fn show_setup<W: Write>(messages: Messages, out: &mut Output<W>) -> io::Result<()> {
-    let target = run(messages.given);
+    let mut target = Target::new();
+    run(messages.given, &mut target);
     let left = Left {
         address: KEPT,
         value: target.memory[KEPT],
