@@ -70,7 +70,7 @@ impl Gate {
     {
         let mut answer = [0u8; LOG_GATE_ANSWER_ROOM];
         let taken = log_gate_byte(&mut self.state, byte, &mut self.memory, &mut answer);
-        // counted first, so that what printing answers goes on as it is: a result made anew for each byte takes a long line a quarter longer
+        // Counted first, so that what printing answers goes on as it is: where each byte made a result of its own, a long line took a fifth more.
         let index = self.given;
         self.given = self.given.wrapping_add(1);
         put_answer(index, &answer, taken.length, out)
